@@ -1,0 +1,10 @@
+// egui's input data as plain values. Each Option is an enum of its own.
+pub mod event;
+pub mod layers;
+pub mod modifiers;
+pub mod mouse_wheel;
+pub mod options;
+pub mod pointer;
+pub mod refusal;
+pub mod touch;
+pub mod widget;

@@ -1,0 +1,45 @@
+// egui's data/input/pointer_button.rs, and the pointer's events of input_state/mod.rs.
+use crate::modifiers::Modifiers;
+use emath::pos2::Pos2;
+
+pub enum PointerButton {
+    Primary,
+    Secondary,
+    Middle,
+    Extra1,
+    Extra2,
+}
+
+// Which buttons are down.
+pub struct ButtonsDown {
+    pub primary: bool,
+    pub secondary: bool,
+    pub middle: bool,
+    pub extra1: bool,
+    pub extra2: bool,
+}
+
+// `count` is 1, 2 (double click) or 3 (triple click).
+pub struct Click {
+    pub pos: Pos2,
+    pub count: u32,
+    pub modifiers: Modifiers,
+}
+
+// Option<Click>
+pub enum MaybeClick {
+    None,
+    Some(Click),
+}
+
+pub enum PointerEvent {
+    Moved(Pos2),
+    Pressed(Pos2, PointerButton),
+    Released(MaybeClick, PointerButton),
+}
+
+// Option<f64>: a time
+pub enum MaybeF64 {
+    None,
+    Some(f64),
+}

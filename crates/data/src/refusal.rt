@@ -1,0 +1,42 @@
+// What a refused call answers. Each carries the word or entry index where 01 returns one.
+
+pub enum PassRefusal {
+    // 1: unknown kind, field or stray bit, event cut short
+    Malformed(usize),
+    // 2: a float outside the domain (index 0 if not in the feed)
+    OutsideDomain(usize),
+    // 3: given time below the state's
+    TimeBelow,
+    // 4: event 65
+    TooManyEvents(usize),
+    // 5: a fifth device, or Start of an eleventh touch
+    NoPlace(usize),
+}
+
+pub enum InsertRefusal {
+    // 1: layer order over 4, or a sense bit that sense.rs doesn't name
+    Malformed,
+    // 2: a rectangle edge outside the domain
+    OutsideDomain,
+    // 6: new widget at 1,024, or new layer at 32
+    Full,
+    // 7: known id on another layer
+    OtherLayer,
+    // 8: a lent slice too short for the layer's widgets after the insertion
+    ShortSlice,
+    // 9: an id of 0
+    ZeroId,
+}
+
+pub enum InteractRefusal {
+    // 1: a sense bit that sense.rs doesn't name
+    Malformed(usize),
+    // 4: hit entry 65
+    TooManyHits(usize),
+    // 8: an id buffer under 66 places
+    ShortBuffer,
+    // 9: an id of 0
+    ZeroId,
+    // 10: this call would start a drag with the tally at its maximum
+    TallyFull,
+}
