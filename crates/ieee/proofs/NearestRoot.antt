@@ -3,21 +3,22 @@
 use mathlib.Core.Path.{_≡_, refl, sym, ap, _∙_, subst}
 use mathlib.Core.Logic.{_⊎_, inl, inr}
 use Prim.Native.Nat.{ℕ, zero, suc, _+_, _-_, _*_, _/_, _%_, _^_, _≤_, _<_}
-use native.Mathlib.Nat.{le-trans, le-of-eq, le-of-lt, le-refl, lt-of-lt-of-le, lt-of-le-of-lt, lt-of-not-le, not-le-of-lt, le-of-suc-le-suc, eq-zero-or-pos, mul-one, one-mul, zero-mul, mul-assoc, mul-comm, mul-right-comm, mul-mul-mul-comm, add-mul, mul-le-mul, mul-le-mul-right, mul-lt-mul-of-pos-right, lt-of-mul-lt-mul-right, mul-pos, pow-succ'}
+use native.Mathlib.Nat.{le-trans, le-of-eq, le-of-lt, le-refl, lt-of-lt-of-le, lt-of-le-of-lt, lt-of-not-le, not-le-of-lt, eq-zero-or-pos, mul-assoc, mul-comm, mul-right-comm, mul-mul-mul-comm, add-mul, mul-le-mul, mul-le-mul-right, mul-lt-mul-of-pos-right, lt-of-mul-lt-mul-right, mul-pos, pow-succ'}
 use native.Mathlib.Omega.{arith}
-use mathlib.Core.Bool.{Bool, true, false, not, _&&_}
-use lib.IntN.{ℤ, pos, negsuc}
-use lib.Dec.{T, leb, ltb, eqb, leb→le, nleb→lt, ltb→lt, lit≤}
+use mathlib.Core.Bool.{Bool, true, false, not}
+use lib.Dec.{T, ltb→lt, lit≤}
 use lib.Arith.{lt-of-le-ne}
-use lib.Pow.{pow-add, pow-pos, pow-mono, shl-lt}
+use lib.Pow.{pow-add, pow-pos, shl-lt}
 use lib.Ieee.{Float, nan, inf, fin, Format, binary32, binary64, prec, emax, low, up, down, size, units, fits, lt, hid, ones}
 use lib.Ieee.Digits.{size-lt, size-reaches, size-le}
-use lib.Ieee.Fits.{two, and-l, and-r}
+use lib.Ieee.Fits.{two}
 use lib.Ieee.Exact.{HasValue, units-val}
-use lib.Ieee.Positive.{num, den, den-pos, positive, value→cross, value-pos, first-pos}
+use lib.Ieee.Scale.{finite}
+use lib.Ieee.Positive.{positive-finite, num, den, den-pos, positive, value→cross, value-pos, first-pos}
 use Rattle.ieee.specs.Sqrt.{isqrt, rooted, sqrt}
 use Rattle.ieee.specs.Nearest.{plain, sq, NearestRoot}
-use Rattle.ieee.proofs.Packed.{pow-le-back, pow-lt-back, twice-hid, reaches}
+use Rattle.ieee.proofs.Packed.{pow-lt-back, twice-hid, reaches}
+use Rattle.ieee.proofs.Units.{in-units, grid}
 use Rattle.ieee.proofs.Isqrt.{IsRoot, isqrt-is}
 use Rattle.ieee.proofs.Rooting.{rooted-units, as-even, as-scaled, root-low, root-high, odd-inexact, far, four-hid, half-le, half-ge, big}
 use Rattle.ieee.proofs.Radicands.{sqrt-of-value}
@@ -64,22 +65,6 @@ above-root n t G D P h l =
 
     times4 : (a b : ℕ) → a < b → 4 * a < 4 * b
     times4 a b h = omega arith
-
--- ---- Y = c * 2 ^ j is a multiple of 2 * G = 2 ^ (g + 1), or it is below 2 ^ p * G
-grid : (p g c j : ℕ) → c < 2 ^ p → ((y : ℕ) × (c * 2 ^ j ≡ y * (2 * 2 ^ g))) ⊎ (c * 2 ^ j < 2 ^ p * 2 ^ g)
-grid p g c j C = go (leb (suc g) j) (leb→le (suc g) j) (λ n. le-of-suc-le-suc (nleb→lt (suc g) j n))
-  where
-    go : (b : Bool) → (T b → suc g ≤ j) → (T (not b) → j ≤ g) → ((y : ℕ) × (c * 2 ^ j ≡ y * (2 * 2 ^ g))) ⊎ (c * 2 ^ j < 2 ^ p * 2 ^ g)
-    go true a b =
-        inl (
-          c * 2 ^ (j - suc g),
-          ap (λ (x : ℕ). c * x) (ap (λ (x : ℕ). 2 ^ x) (sym (back j (suc g) (a tt))) ∙ pow-add 2 (j - suc g) (suc g) ∙ ap (λ (x : ℕ). 2 ^ (j - suc g) * x) (pow-succ' 2 g))
-              ∙ sym (mul-assoc c (2 ^ (j - suc g)) (2 * 2 ^ g)),
-        )
-      where
-        back : (j s : ℕ) → s ≤ j → j - s + s ≡ j
-        back j s h = omega arith
-    go false a b = inr (lt-of-lt-of-le (mul-lt-mul-of-pos-right C (pow-pos j)) (mul-le-mul (le-refl (2 ^ p)) (pow-mono (b tt))))
 
 -- ---- the result is P = (t + 1) / 2 * (2 * G) units
 parity : (t : ℕ) → ((a : ℕ) × (t ≡ 2 * a)) ⊎ ((a : ℕ) × (t ≡ 2 * a + 1))
@@ -207,52 +192,6 @@ module _ (A a B b X c P Y N L : ℕ) (L-pos : 0 < L) (a-pos : 0 < a) (b-pos : 0 
   squares-above : 4 * N < (P + Y) * (P + Y) → 4 * X * sq (a * b) < sq (A * b + B * a) * c
   squares-above h = lt-of-mul-lt-mul-right (L * L) (lt-of-le-of-lt (le-of-eq x-scaled) (lt-of-lt-of-le (mul-lt-mul-of-pos-right h W-pos) (le-of-eq (sym sum-scaled))))
 
--- ---- a value of the format is a whole number of units
-place : (l : ℕ) (e : ℤ) → down e ≤ 2 ^ l → (j : ℕ) × (up e * 2 ^ l ≡ 2 ^ j * down e)
-place l (pos a) h = (a + l, sym (pow-add 2 a l) ∙ sym (mul-one (2 ^ (a + l))))
-place l (negsuc a) h = (l - suc a, one-mul (2 ^ l) ∙ ap (λ (x : ℕ). 2 ^ x) (sym (back l (suc a) (pow-le-back (suc a) l h))) ∙ pow-add 2 (l - suc a) (suc a))
-  where
-    back : (j s : ℕ) → s ≤ j → j - s + s ≡ j
-    back j s h = omega arith
-
-pub record Units (f : Format) (y : Float) : Type 0 where
-  pub count : ℕ
-  pub scale : ℕ
-  pub few : count < 2 ^ prec f
-  pub under : count * 2 ^ scale < 2 ^ (low f + suc (emax f))
-  pub is : num y * 2 ^ low f ≡ count * 2 ^ scale * den y
-
-pub in-units : (f : Format) (y : Float) → T (fits f y) → T (plain y) → Units f y
-unfolding fits
-in-units f nan h p = absurd p
-in-units f (inf s) h p = absurd p
-in-units f (fin true m e) h p = absurd p
-in-units f (fin false zero e) h p = record {
-  count = 0;
-  scale = 0;
-  few = pow-pos (prec f);
-  under = pow-pos (low f + suc (emax f));
-  is = ap (λ (x : ℕ). x * 2 ^ low f) (zero-mul (up e)) ∙ zero-mul (2 ^ low f) ∙ sym (zero-mul (down e));
-}
-in-units f (fin false (suc m) e) h p =
-    let A = eqb (suc m % 2) 1 in
-    let B = ltb (suc m) (2 ^ prec f) in
-    let C = leb (down e) (2 ^ low f) in
-    let D = ltb (suc m * up e) (2 ^ suc (emax f) * down e) in
-    let k = place (low f) e (leb→le (down e) (2 ^ low f) (and-r (A && B) C (and-l (A && B && C) D h))) in
-    let v : suc m * up e * 2 ^ low f ≡ suc m * 2 ^ k .0 * down e = mul-assoc (suc m) (up e) (2 ^ low f) ∙ ap (λ (x : ℕ). suc m * x) (k .1) ∙ sym (mul-assoc (suc m) (2 ^ k .0) (down e)) in
-    record {
-      count = suc m;
-      scale = k .0;
-      few = ltb→lt (suc m) (2 ^ prec f) (and-r A B (and-l (A && B) C (and-l (A && B && C) D h)));
-      under =
-          lt-of-mul-lt-mul-right (down e)
-          (lt-of-le-of-lt (le-of-eq (sym v))
-          (lt-of-lt-of-le (mul-lt-mul-of-pos-right (ltb→lt (suc m * up e) (2 ^ suc (emax f) * down e) (and-r (A && B && C) D h)) (pow-pos (low f)))
-          (le-of-eq (mul-right-comm (2 ^ suc (emax f)) (down e) (2 ^ low f) ∙ ap (λ (x : ℕ). x * down e) (mul-comm (2 ^ suc (emax f)) (2 ^ low f) ∙ sym (pow-add 2 (low f) (suc (emax f))))))));
-      is = v;
-    }
-
 -- ---- the digits of x moved up to `prec`, and the parity of the scale
 room : (f : Format) → (prec f + 4 ≤ emax f) × (2 ≤ prec f)
 room binary32 = (lit≤ tt, lit≤ tt)
@@ -307,6 +246,11 @@ pub record Shape (f : Format) (x : Float) : Type 0 where
   pub value : HasValue (sqrt f x) false ((t + 1) / 2 * 2 ^ suc g) (2 ^ low f)
   pub under : num x * 2 ^ low f * 2 ^ low f ≡ 2 * m * (2 ^ g * 2 ^ g) * den x
 
+plain-finite : (x : Float) → T (plain x) → T (finite x)
+plain-finite nan p = absurd p
+plain-finite (inf s) p = absurd p
+plain-finite (fin s m e) p = tt
+
 positive-plain : (x : Float) → T (positive x) → T (plain x)
 positive-plain nan p = absurd p
 positive-plain (inf s) p = absurd p
@@ -341,7 +285,7 @@ shaped f x h p =
     let r = room f in
     let P = prec f in
     let l = low f in
-    let u = in-units f x h (positive-plain x p) in
+    let u = in-units f x h (positive-finite x p) in
     let c = u .count in
     let s = u .scale in
     let N = c * 2 ^ s in
@@ -398,12 +342,12 @@ pub nearest-root : (f : Format) (x : Float) → T (fits f x) → T (positive x) 
 nearest-root f x h p = record {
   finite = pl;
   below = λ y fy py l.
-      let u = in-units f y fy py in
+      let u = in-units f y fy (plain-finite y py) in
       let k = near-units (prec f) (s .g) (s .m) (u .count) (u .scale) (omega (arith, two f)) (u .few) (s .t) (s .is) (s .top) in
       squares-below (num r) (den r) (num y) (den y) (num x) (den x) Q (u .count * 2 ^ u .scale) N (2 ^ low f) (pow-pos (low f)) (den-pos r) (den-pos y) (den-pos x) r-is (u .is) (s .under)
       (k .0 (order-below (num r) (den r) (num y) (den y) (num x) (den x) Q (u .count * 2 ^ u .scale) N (2 ^ low f) (pow-pos (low f)) (den-pos r) (den-pos y) (den-pos x) r-is (u .is) (s .under) (lt-cross y r py pl l)));
   above = λ y fy py l.
-      let u = in-units f y fy py in
+      let u = in-units f y fy (plain-finite y py) in
       let k = near-units (prec f) (s .g) (s .m) (u .count) (u .scale) (omega (arith, two f)) (u .few) (s .t) (s .is) (s .top) in
       squares-above (num r) (den r) (num y) (den y) (num x) (den x) Q (u .count * 2 ^ u .scale) N (2 ^ low f) (pow-pos (low f)) (den-pos r) (den-pos y) (den-pos x) r-is (u .is) (s .under)
       (k .1 (order-above (num r) (den r) (num y) (den y) (num x) (den x) Q (u .count * 2 ^ u .scale) N (2 ^ low f) (pow-pos (low f)) (den-pos r) (den-pos y) (den-pos x) r-is (u .is) (s .under) (lt-cross r y pl py l)));
