@@ -10,6 +10,7 @@ mod Special
 mod Units
 mod RoundOrder
 mod RootOrder
+pub mod NearestNarrow
 pub mod NearestRoot
 pub mod Order
 pub mod Exact

@@ -27,7 +27,7 @@ units-neg f q k = go (ltb (q * 2 ^ k) (2 ^ (low f + suc (emax f))))
     go true = odd-neg (suc (prec f)) q k (low f)
     go false = unfold neg in refl
 
-round-neg : (f : Format) (a b : ℕ) → round f true a b ≡ neg (round f false a b)
+pub round-neg : (f : Format) (a b : ℕ) → round f true a b ≡ neg (round f false a b)
 round-neg f a b =
     let n = a * 2 ^ low f in
     let k = size (n / b) - prec f in
