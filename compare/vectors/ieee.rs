@@ -39,8 +39,13 @@ fn patterns(fields: u64, frac: u32, random: &mut Random) -> Vec<u64> {
 fn ties(random: &mut Random) -> Vec<u64> {
     let mut all = Vec::new();
     for field in 0..255u64 {
-        for k in 0..5 {
-            let b = field * 0x80_0000 + if k == 0 { 0x7f_fffe } else { random.next() % 0x7f_ffff };
+        for k in 0..if field == 0 { 200 } else { 5 } {
+            // among the subnormals significands of every length, else the last two of the exponent and random ones
+            let b = match (field, k) {
+                (0, _) => random.next() % (2 << (k % 22)),
+                (_, 0) => field * 0x80_0000 + 0x7f_fffe,
+                _ => field * 0x80_0000 + random.next() % 0x7f_ffff,
+            };
             let low = f32::from_bits(b as u32) as f64;
             let high = f32::from_bits(b as u32 + 1) as f64;
             for x in [low, (low + high) / 2.0] {
@@ -64,15 +69,15 @@ fn squares(bits: u32, pattern: fn(u64) -> u64, random: &mut Random) -> Vec<u64> 
     all
 }
 
-// every 16th with the sign set, and random patterns up to PAIRS
-fn filled(mut all: Vec<u64>, bits: u32, every: usize, random: &mut Random) -> Vec<u64> {
-    assert!(all.len() <= PAIRS);
-    for k in (0..all.len()).step_by(every) {
-        all[k] |= 1 << (bits - 1);
-    }
-    all.push(1 << (bits - 1));
+// random patterns up to PAIRS, a zero among them, and the sign set in one of `signed`
+fn filled(mut all: Vec<u64>, bits: u32, signed: usize, random: &mut Random) -> Vec<u64> {
+    assert!(all.len() < PAIRS);
     while all.len() < PAIRS {
-        all.push(random.next() >> (64 - bits));
+        all.push(random.next() >> (65 - bits));
+    }
+    all[PAIRS - 1] = 0;
+    for k in (0..PAIRS).step_by(signed) {
+        all[PAIRS - 1 - k] |= 1 << (bits - 1);
     }
     all
 }

@@ -3,13 +3,15 @@ mod Packed
 mod Closest
 mod Decode
 mod Narrowing
-mod Isqrt
+pub mod Isqrt
 mod Rooting
 mod Radicands
 mod Special
 mod Units
 mod RoundOrder
 mod RootOrder
+mod Kept
+mod Overflow
 pub mod NearestNarrow
 pub mod NearestRoot
 pub mod Order

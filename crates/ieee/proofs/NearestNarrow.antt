@@ -1,193 +1,27 @@
 -- `narrow f x` is the value of the format f nearest to x, a tie to the even one, for every format f and every finite x. Assumes nothing.
--- In units of the format's smallest value x is n / c, the result is q * 2 ^ k units, and any value y of the format is Y units, a multiple of 2 ^ j with fewer than 2 ^ prec of them.
+-- In units of the format's smallest value x is n / c, the result is q * 2 ^ k units (`proofs/Kept.antt`), and any value y of the format is Y units.
 use mathlib.Core.Path.{_≡_, refl, sym, ap, _∙_, subst}
 use mathlib.Core.Logic.{_⊎_, inl, inr}
-use Prim.Native.Nat.{ℕ, zero, suc, _+_, _-_, _*_, _/_, _%_, _^_, _≤_, _<_, compare, Ordering, Ordering·lt, Ordering·eq, Ordering·gt}
-use native.Mathlib.Nat.{le-trans, le-of-eq, le-add-right, add-comm, lt-of-lt-of-le, lt-of-not-le, eq-zero-or-pos, suc-mul, zero-mul, mul-one, mul-assoc, mul-comm, mul-right-comm, mul-left-comm, mul-le-mul-right, le-of-mul-le-mul-right, eq-of-mul-eq-mul-right, mul-lt-mul-of-pos-right, mul-pos, mul-sub, add-mul, pow-succ', le-div-iff-mul-le, div-lt-iff-lt-mul, div-div-eq-div-mul}
-use native.Mathlib.Numerals.{add-one}
+use Prim.Native.Nat.{ℕ, suc, _+_, _-_, _*_, _%_, _^_, _≤_, _<_}
+use native.Mathlib.Nat.{le-trans, le-of-eq, le-add-right, lt-of-not-le, zero-mul, mul-assoc, mul-comm, mul-right-comm, mul-le-mul-right, le-of-mul-le-mul-right, eq-of-mul-eq-mul-right, mul-pos, mul-sub, add-mul}
 use native.Mathlib.Omega.{arith}
 use mathlib.Core.Bool.{Bool, true, false, not, _||_, Bool·beq, cond, true≢false}
 use lib.IntN.{ℤ}
-use lib.Dec.{T, eqb, T-not, lit≤}
-use lib.Pow.{pow-add, pow-pos}
-use lib.Ieee.{Float, nan, inf, fin, Format, binary32, binary64, prec, emax, low, up, down, size, round, neg, hid, top, fits, eq, ne, le, toBits}
-use lib.Ieee.Digits.{size-le, size-reaches}
+use lib.Dec.{T, eqb, T-not}
+use lib.Pow.{pow-pos}
+use lib.Ieee.{Float, nan, inf, fin, Format, binary32, binary64, prec, emax, low, up, down, round, hid, top, fits, eq, ne, toBits}
 use lib.Ieee.Exact.{HasValue, units-val}
-use lib.Ieee.Fits.{two, kept-lt, nearest-le, round-is, down-pos, and-i, eq→eqb}
-use lib.Ieee.Order.{drop, kept, round-mono}
+use lib.Ieee.Fits.{two, round-is, down-pos, and-i, eq→eqb}
+use lib.Ieee.Order.{drop, kept}
 use lib.Ieee.Positive.{num, den, den-pos}
 use lib.Ieee.Scale.{finite}
 use Rattle.ieee.specs.Narrow.{narrow}
 use Rattle.ieee.specs.Nearest.{negative, dist, gap, Overflows, NearestNarrow}
-use Rattle.ieee.proofs.Packed.{twice-hid, pow-le-back, Led, units-pattern}
-use Rattle.ieee.proofs.Closest.{Cmp, cmp, Within, closest-within, closest-ge}
-use Rattle.ieee.proofs.Units.{in-units, grid}
-use Rattle.ieee.proofs.RoundOrder.{round-neg}
-
--- ---- whole numbers: of all multiples of u, q * u is the nearest to n, or q is even
-abbrev Near : ℕ → ℕ → ℕ → Type 0 → Type 0
-Near n a b E = (dist n a ≤ dist n b) × (dist n a ≡ dist n b → E)
-
-near-multiple : (n u q a : ℕ) → 0 < u → Within n u q → Near n (q * u) (a * u) ((q ≡ a) ⊎ (q % 2 ≡ 0))
-near-multiple n u q a U w = go (compare q a) (cmp q a)
-  where
-    go : (o : Ordering) → Cmp o q a → Near n (q * u) (a * u) ((q ≡ a) ⊎ (q % 2 ≡ 0))
-    go Ordering·eq e = (le-of-eq (ap (λ (x : ℕ). dist n (x * u)) e), λ t. inl e)
-    go Ordering·lt l =
-        let k : q * u + u ≤ a * u = le-trans (le-of-eq (sym (suc-mul q u))) (mul-le-mul-right u l) in
-        let lo : 2 * (q * u) ≤ 2 * n + u = w .low in
-        let hi : 2 * n ≤ 2 * (q * u) + u = w .high in
-        (omega arith, λ t. inr (w .even (inr (omega arith))))
-    go Ordering·gt l =
-        let k : a * u + u ≤ q * u = le-trans (le-of-eq (sym (suc-mul a u))) (mul-le-mul-right u l) in
-        let lo : 2 * (q * u) ≤ 2 * n + u = w .low in
-        let hi : 2 * n ≤ 2 * (q * u) + u = w .high in
-        (omega arith, λ t. inr (w .even (inl (omega arith))))
-
--- ---- of all values of the format, q * 2 ^ k units is the nearest to n / c, or q is even
-units-of : (q k c : ℕ) → q * 2 ^ k * c ≡ q * (c * 2 ^ k)
-units-of q k c = mul-assoc q (2 ^ k) c ∙ ap (λ (x : ℕ). q * x) (mul-comm (2 ^ k) c)
-
-abbrev Same : ℕ → ℕ → ℕ → Type 0
-Same q R Y = (R ≡ Y) ⊎ (q % 2 ≡ 0)
-
-module _ (n c q : ℕ) (C : 0 < c) where
-  at-multiple : (k Y a : ℕ) → Within n (c * 2 ^ k) q → Y ≡ a * 2 ^ k → Near n (q * 2 ^ k * c) (Y * c) (Same q (q * 2 ^ k) Y)
-  at-multiple k Y a w e =
-      let h = near-multiple n (c * 2 ^ k) q a (mul-pos C (pow-pos k)) w in
-      subst (λ (x : ℕ). Near n x (Y * c) (Same q (q * 2 ^ k) Y)) (sym (units-of q k c))
-      (subst (λ (x : ℕ). Near n (q * (c * 2 ^ k)) x (Same q (q * 2 ^ k) Y)) (sym (ap (λ (x : ℕ). x * c) e ∙ units-of a k c))
-      (h .0, λ t. elim (h .1 t) [ inl g ↦ inl (ap (λ (x : ℕ). x * 2 ^ k) g ∙ sym e) | inr g ↦ inr g ]))
-
-  -- a value below a multiple that is itself below n / c
-  at-lower : (k Y H : ℕ) → Within n (c * 2 ^ k) q → Y < H * 2 ^ k → H * (c * 2 ^ k) ≤ n → Near n (q * 2 ^ k * c) (Y * c) (Same q (q * 2 ^ k) Y)
-  at-lower k Y H w l g =
-      let h : dist n (q * (c * 2 ^ k)) ≤ dist n (H * (c * 2 ^ k)) = near-multiple n (c * 2 ^ k) q H (mul-pos C (pow-pos k)) w .0 in
-      let y : Y * c < H * (c * 2 ^ k) = lt-of-lt-of-le (mul-lt-mul-of-pos-right l C) (le-of-eq (units-of H k c)) in
-      subst (λ (x : ℕ). Near n x (Y * c) (Same q (q * 2 ^ k) Y)) (sym (units-of q k c)) (omega arith, λ t. absurd (omega arith))
-
-  near-value : (p k b j : ℕ) → 2 ≤ p → Within n (c * 2 ^ k) q → (k ≡ 0) ⊎ (2 ^ (p - 1) * (c * 2 ^ k) ≤ n) → b < 2 ^ p → Near n (q * 2 ^ k * c) (b * 2 ^ j * c) (Same q (q * 2 ^ k) (b * 2 ^ j))
-  near-value p zero b j P w L B = at-multiple 0 (b * 2 ^ j) (b * 2 ^ j) w (sym (mul-one (b * 2 ^ j)))
-  near-value p (suc g) b j P w (inl z) B = absurd (omega arith)
-  near-value p (suc g) b j P w (inr L) B = go (grid p g b j B)
-    where
-      go : ((y : ℕ) × (b * 2 ^ j ≡ y * (2 * 2 ^ g))) ⊎ (b * 2 ^ j < 2 ^ p * 2 ^ g) → Near n (q * 2 ^ suc g * c) (b * 2 ^ j * c) (Same q (q * 2 ^ suc g) (b * 2 ^ j))
-      go (inl y) = at-multiple (suc g) (b * 2 ^ j) (y .0) w (y .1 ∙ ap (λ (x : ℕ). y .0 * x) (sym (pow-succ' 2 g)))
-      go (inr l) =
-          at-lower (suc g) (b * 2 ^ j) (2 ^ (p - 1)) w
-          (lt-of-lt-of-le l (le-of-eq (ap (λ (x : ℕ). x * 2 ^ g) (twice-hid p P ∙ mul-comm 2 (2 ^ (p - 1))) ∙ mul-assoc (2 ^ (p - 1)) 2 (2 ^ g) ∙ ap (λ (x : ℕ). 2 ^ (p - 1) * x) (sym (pow-succ' 2 g))))) L
-
--- ---- what `round` keeps: q = `kept` and k = `drop`
-kept-le : (p n c : ℕ) → kept p n c ≤ 2 ^ p
-kept-le p n c =
-    let u = c * 2 ^ drop p n c in
-    le-trans (nearest-le (n / u) (compare (n % u * 2) u)) (subst (λ (x : ℕ). x < 2 ^ p) (div-div-eq-div-mul n c (2 ^ drop p n c)) (kept-lt p (n / c)))
-
--- where digits are dropped, all of the format's are in use
-reached : (p n c : ℕ) → 2 ≤ p → 0 < c → (drop p n c ≡ 0) ⊎ (2 ^ (p - 1) * (c * 2 ^ drop p n c) ≤ n)
-reached p n c P C = elim (eq-zero-or-pos (drop p n c)) [ inl z ↦ inl z | inr l ↦ inr (at l) ]
-  where
-    in-use : (z p : ℕ) → 2 ≤ p → 0 < z - p → p - 1 + (z - p) < z
-    in-use z p P h = omega arith
-
-    at : 0 < drop p n c → 2 ^ (p - 1) * (c * 2 ^ drop p n c) ≤ n
-    at l =
-        let k = drop p n c in
-        le-trans (le-of-eq (sym (units-of (2 ^ (p - 1)) k c) ∙ ap (λ (x : ℕ). x * c) (sym (pow-add 2 (p - 1) k)))) (le-div-iff-mul-le C .0 (size-reaches (n / c) (p - 1 + k) (in-use (size (n / c)) p P l)))
-
-led : (p n c : ℕ) → 2 ≤ p → 0 < c → Led p (kept p n c) (drop p n c)
-led p n c P C =
-    elim (reached p n c P C) [
-      | inl z ↦ inl z
-      | inr l ↦ inr (le-trans (le-div-iff-mul-le (mul-pos C (pow-pos (drop p n c))) .1 l) (closest-ge n (c * 2 ^ drop p n c)))
-    ]
-
--- ---- the overflow
-abbrev edge : Format → ℕ
-edge f = (2 ^ (prec f + 1) - 1) * 2 ^ (emax f - prec f)
-
-at-edge : (f : Format) → round f false (edge f) 1 ≡ inf false
-unfolding round
-at-edge binary32 = refl
-at-edge binary64 = refl
-
-top-only : (x : Float) → T (le (inf false) x) → x ≡ inf false
-unfolding le
-top-only nan h = absurd h
-top-only (inf true) h = absurd h
-top-only (inf false) h = refl
-top-only (fin s m e) h = absurd h
-
-from-edge : (f : Format) (s : Bool) (a c : ℕ) → 0 < c → edge f * c ≤ a → round f s a c ≡ inf s
-from-edge f s a c C h = go s
-  where
-    plain : round f false a c ≡ inf false
-    plain = top-only (round f false a c) (subst (λ (x : Float). T (le x (round f false a c))) (at-edge f) (round-mono f (edge f) 1 a c (pow-pos 0) C (le-trans h (le-of-eq (sym (mul-one a))))))
-
-    go : (s : Bool) → round f s a c ≡ inf s
-    go false = plain
-    go true = round-neg f a c ∙ ap neg plain ∙ unfold neg in refl
-
-room : (f : Format) → (prec f ≤ emax f) × (2 ≤ prec f)
-room binary32 = (lit≤ tt, lit≤ tt)
-room binary64 = (lit≤ tt, lit≤ tt)
-
--- twice the edge in units, where k digits are dropped at it
-edge-units : (p e l k : ℕ) → p ≤ e → k + p ≡ l + suc e → 2 * ((2 ^ (p + 1) - 1) * 2 ^ (e - p) * 2 ^ l) ≡ (2 ^ (p + 1) - 1) * 2 ^ k
-edge-units p e l k P K =
-    mul-left-comm 2 ((2 ^ (p + 1) - 1) * 2 ^ (e - p)) (2 ^ l)
-    ∙ mul-assoc (2 ^ (p + 1) - 1) (2 ^ (e - p)) (2 * 2 ^ l)
-    ∙ ap (λ (x : ℕ). (2 ^ (p + 1) - 1) * x) (ap (λ (x : ℕ). 2 ^ (e - p) * x) (sym (pow-succ' 2 l)) ∙ sym (pow-add 2 (e - p) (suc l)) ∙ ap (λ (x : ℕ). 2 ^ x) exponents)
-  where
-    exponents : e - p + suc l ≡ k
-    exponents = omega arith
-
--- below the edge the result is below 2 ^ (emax + 1)
-one-less : (A T u : ℕ) → A + 1 ≡ 2 * T → A * u + u ≡ 2 * (T * u)
-one-less A T u e = let k : (A + 1) * u ≡ 2 * T * u = ap (λ (x : ℕ). x * u) e in omega arith
-
-full : (p : ℕ) → 2 ^ (p + 1) - 1 + 1 ≡ 2 * 2 ^ p
-full p =
-    let a : 2 ^ (p + 1) ≡ 2 * 2 ^ p = ap (λ (x : ℕ). 2 ^ x) (add-one p) ∙ pow-succ' 2 p in
-    let b : 0 < 2 ^ p = pow-pos p in
-    omega arith
-
-edge-le : (p e l : ℕ) → p ≤ e → (2 ^ (p + 1) - 1) * 2 ^ (e - p) * 2 ^ l ≤ 2 ^ (l + suc e)
-edge-le p e l P =
-    le-trans (mul-le-mul-right (2 ^ l) (mul-le-mul-right (2 ^ (e - p)) (less (2 ^ (p + 1)))))
-    (le-of-eq (ap (λ (x : ℕ). x * 2 ^ l) (sym (pow-add 2 (p + 1) (e - p))) ∙ sym (pow-add 2 (p + 1 + (e - p)) l) ∙ ap (λ (x : ℕ). 2 ^ x) exponents))
-  where
-    less : (a : ℕ) → a - 1 ≤ a
-    less a = omega arith
-
-    exponents : p + 1 + (e - p) + l ≡ l + suc e
-    exponents = omega arith
-
-no-carry : (p e l n c k q : ℕ) → p ≤ e → 0 < c → q ≤ 2 ^ p → Within n (c * 2 ^ k) q → size (n / c) - p ≡ k → n < (2 ^ (p + 1) - 1) * 2 ^ (e - p) * 2 ^ l * c → 2 ^ (l + suc e) ≤ q * 2 ^ k → ⊥
-no-carry p e l n c k q P C Q w d h v =
-    let u = c * 2 ^ k in
-    let A = 2 ^ (p + 1) - 1 in
-    let a : l + suc e ≤ p + k = pow-le-back (l + suc e) (p + k) (le-trans v (le-trans (mul-le-mul-right (2 ^ k) Q) (le-of-eq (sym (pow-add 2 p k))))) in
-    let s : size (n / c) ≤ l + suc e = size-le (n / c) (l + suc e) (div-lt-iff-lt-mul C .1 (lt-of-lt-of-le h (mul-le-mul-right c (edge-le p e l P)))) in
-    let K : k + p ≡ l + suc e = omega arith in
-    let t : 2 ^ p ≤ q = le-of-mul-le-mul-right (le-trans (le-of-eq (sym (pow-add 2 p k) ∙ ap (λ (x : ℕ). 2 ^ x) (add-comm p k ∙ K))) v) (pow-pos k) in
-    let x : 2 ^ p * u ≤ q * u = mul-le-mul-right u t in
-    let low : 2 * (q * u) ≤ 2 * n + u = w .low in
-    let y : 2 * n < A * u = lt-of-lt-of-le (double n (A * 2 ^ (e - p) * 2 ^ l * c) h) (le-of-eq (sym (mul-assoc 2 (A * 2 ^ (e - p) * 2 ^ l) c) ∙ ap (λ (x : ℕ). x * c) (edge-units p e l k P K) ∙ units-of A k c)) in
-    contradiction (A * u) (2 ^ p * u) (q * u) n u (one-less A (2 ^ p) u (full p)) x low y
-  where
-    double : (a b : ℕ) → a < b → 2 * a < 2 * b
-    double a b h = omega arith
-
-    contradiction : (a t q n u : ℕ) → a + u ≡ 2 * t → t ≤ q → 2 * q ≤ 2 * n + u → 2 * n < a → ⊥
-    contradiction a t q n u e x l y = omega arith
-
-under-edge : (f : Format) (a c : ℕ) → 0 < c → a < edge f * c → kept (prec f) (a * 2 ^ low f) c * 2 ^ drop (prec f) (a * 2 ^ low f) c < 2 ^ (low f + suc (emax f))
-under-edge f a c C h =
-    lt-of-not-le (λ v.
-    no-carry (prec f) (emax f) (low f) (a * 2 ^ low f) c (drop (prec f) (a * 2 ^ low f) c) (kept (prec f) (a * 2 ^ low f) c) (room f .0) C (kept-le (prec f) (a * 2 ^ low f) c)
-    (closest-within (a * 2 ^ low f) (c * 2 ^ drop (prec f) (a * 2 ^ low f) c) (mul-pos C (pow-pos (drop (prec f) (a * 2 ^ low f) c)))) refl
-    (lt-of-lt-of-le (mul-lt-mul-of-pos-right h (pow-pos (low f))) (le-of-eq (mul-right-comm (edge f) c (2 ^ low f)))) v)
+use Rattle.ieee.proofs.Packed.{units-pattern}
+use Rattle.ieee.proofs.Closest.{Within, closest-within}
+use Rattle.ieee.proofs.Units.{in-units}
+use Rattle.ieee.proofs.Kept.{Near, Same, near-value, kept-le, reached, led}
+use Rattle.ieee.proofs.Overflow.{edge, from-edge, under-edge}
 
 -- ---- distances in units
 sub-mul : (x y k : ℕ) → (x - y) * k ≡ x * k - y * k
