@@ -2,10 +2,23 @@
 // keeps, and 2^-low is its least value.
 ghost use mathlib.Core.Path.{_≡_};
 ghost use Prim.Native.Nat.{_≤_};
+ghost use mathlib.Core.Bool.{cond};
+ghost use lib.Dec.{leb};
 ghost use lib.Ieee.{binary32, binary64};
 ghost use Rattle.ieee.specs.Sqrt.{isqrt, sqrt};
 ghost use Rattle.ieee.specs.Recurrence.{taken};
 ghost use Rattle.ieee.specs.Patterns.{Radicand, Rooted, Positive, RootOf};
+
+// The next digit of the root: 1 if t fits into the remainder. (A number and not a branch in the loop:
+// the digits of a root are as good as random, and a branch on them costs more than the rest.)
+fn digit(rem: u64, t: u64) -> u64
+    ensures { λ r. ⌜ r ≡ cond (leb t rem) 1 0 ⌝ }
+{
+    if rem < t {
+        return 0;
+    }
+    1
+}
 
 // The whole root of the leading 2n digits of d, digit by digit: each turn takes the next two digits
 // of d into `rem`, and root * root + rem stays the part of d taken in (specs/Recurrence.antt).
@@ -21,12 +34,9 @@ fn root_digits(d: u64, n: u64) -> u64
         rem = rem * 4 + (left >> 62);
         left = left % 0x4000_0000_0000_0000 * 4;
         let t = root * 4 + 1;
-        if rem < t {
-            root = root * 2;
-        } else {
-            rem = rem - t;
-            root = root * 2 + 1;
-        }
+        let one = digit(rem, t);
+        rem = rem - t * one;
+        root = root * 2 + one;
         i += 1;
     }
     root
