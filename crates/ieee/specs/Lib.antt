@@ -1,0 +1,4 @@
+pub mod Narrow
+pub mod Sqrt
+pub mod Nearest
+pub mod Patterns

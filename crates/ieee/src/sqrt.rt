@@ -1,0 +1,102 @@
+// Square roots, rounded to the nearest. One code serves both formats: p is how many digits the
+// format keeps, and low says that its least value is 2^-low.
+ghost use mathlib.Core.Path.{_≡_};
+ghost use Prim.Native.Nat.{_+_, _*_, _/_, _^_, _≤_, _<_};
+ghost use lib.Ieee.{binary32, binary64};
+ghost use Rattle.ieee.specs.Sqrt.{isqrt, sqrt};
+ghost use Rattle.ieee.specs.Patterns.{Radicand, Rooted, Positive, RootOf};
+
+// The whole part of the root of d * 4^n / 2^64, by digits: each turn takes the next two digits of d
+// into `rem`, and root * root + rem is the part of d taken in so far.
+fn root_digits(d: u64, n: u64) -> u64
+    requires { ⌜ n ≤ 54 ⌝ }
+    ensures { λ r. ⌜ r ≡ isqrt (d * 4 ^ n / 2 ^ 64) ⌝ }
+{
+    let mut left = d;
+    let mut rem: u64 = 0;
+    let mut root: u64 = 0;
+    let mut i: u64 = 0;
+    while i < n {
+        rem = rem * 4 + (left >> 62);
+        left = left % 0x4000_0000_0000_0000 * 4;
+        let t = root * 4 + 1;
+        if rem < t {
+            root = root * 2;
+        } else {
+            rem = rem - t;
+            root = root * 2 + 1;
+        }
+        i += 1;
+    }
+    root
+}
+
+// The pattern of the root of q * 2^j / 4^low, for a q of p digits.
+fn root_pattern(q: u64, j: u64, p: u64) -> u64
+    requires { ⌜ Radicand p q j ⌝ }
+    ensures { λ r. ⌜ Rooted p q j r ⌝ }
+{
+    let odd = (j + p + 1) % 2;
+    let r = root_digits(q << (63 - p + odd), p + 1);
+    let k = (j - p + 1 - odd) / 2;
+    (k << (p - 1)) + (r + 1) / 2
+}
+
+// b is the pattern of a value above zero and below the infinity. The result is that of its root.
+fn root_bits(b: u64, p: u64, low: u64) -> u64
+    requires { ⌜ Positive p low b ⌝ }
+    ensures { λ r. ⌜ RootOf p low b r ⌝ }
+{
+    let lead = 1u64 << (p - 1);
+    let field = b >> (p - 1);
+    let frac = b & (lead - 1);
+    if field == 0 {
+        // a subnormal: its leading digit is moved up to where a normal value has it
+        let z = u64::leading_zeros(frac) as u64 + p - 64;
+        root_pattern(frac << z, low - z, p)
+    } else {
+        root_pattern(lead + frac, field - 1 + low, p)
+    }
+}
+
+pub fn sqrt32(x: f32) -> f32
+    ensures { λ r. ⌜ r ≡ sqrt binary32 x ⌝ }
+{
+    if x != x {
+        0.0 / 0.0
+    } else {
+        let b: u32 = f32::to_bits(x);
+        if b == 0 {
+            x
+        } else if b < 0x7f80_0000 {
+            f32::from_bits(root_bits(b as u64, 24, 149) as u32)
+        } else if b == 0x7f80_0000 {
+            x
+        } else if b == 0x8000_0000 {
+            x
+        } else {
+            0.0 / 0.0
+        }
+    }
+}
+
+pub fn sqrt64(x: f64) -> f64
+    ensures { λ r. ⌜ r ≡ sqrt binary64 x ⌝ }
+{
+    if x != x {
+        0.0 / 0.0
+    } else {
+        let b: u64 = f64::to_bits(x);
+        if b == 0 {
+            x
+        } else if b < 0x7ff0_0000_0000_0000 {
+            f64::from_bits(root_bits(b, 53, 1074))
+        } else if b == 0x7ff0_0000_0000_0000 {
+            x
+        } else if b == 0x8000_0000_0000_0000 {
+            x
+        } else {
+            0.0 / 0.0
+        }
+    }
+}
