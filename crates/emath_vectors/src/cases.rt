@@ -7,10 +7,10 @@ use crate::record::same_vec;
 use crate::record::vec_at;
 use crate::record::word;
 use emath::history::History;
-use emath::pos2::Pos2;
+use emath::history::MAX_LEN;
+use emath::history::PARTS;
 use emath::rect::Rect;
 use emath::vec2::MaybeVec2;
-use emath::vec2::Vec2;
 
 pub struct Tally {
     pub cases: u64,
@@ -106,7 +106,12 @@ fn arithmetic_agrees(b: &[u8; 64]) -> bool {
 
 // Word 1 is the operation: 0 begins an empty history at the place of word 6, 1 adds, 2 flushes, 3 clears.
 // Words 2 and 3 are the time, 4 and 5 the position.
-fn step(h: History, b: &[u8; 64], times: &mut [f64; 1000], positions: &mut [f32; 2000]) -> History {
+fn step(
+    h: History,
+    b: &[u8; 64],
+    times: &mut [f64; MAX_LEN],
+    positions: &mut [f32; PARTS],
+) -> History {
     let time = f64_at(b, 2);
     match word(b, 1) {
         0 => History {
@@ -120,7 +125,12 @@ fn step(h: History, b: &[u8; 64], times: &mut [f64; 1000], positions: &mut [f32;
 }
 
 // Words 7 to 11: len, duration, whether there is a velocity, and the velocity.
-fn history_agrees(h: History, b: &[u8; 64], times: &[f64; 1000], positions: &[f32; 2000]) -> bool {
+fn history_agrees(
+    h: History,
+    b: &[u8; 64],
+    times: &[f64; MAX_LEN],
+    positions: &[f32; PARTS],
+) -> bool {
     if h.len() != word(b, 7) as usize {
         return false;
     }
@@ -143,8 +153,8 @@ fn history_agrees(h: History, b: &[u8; 64], times: &[f64; 1000], positions: &[f3
 pub fn replay(
     s: State,
     b: &[u8; 64],
-    times: &mut [f64; 1000],
-    positions: &mut [f32; 2000],
+    times: &mut [f64; MAX_LEN],
+    positions: &mut [f32; PARTS],
 ) -> State {
     let vectors = s.vectors;
     let arithmetic = s.arithmetic;

@@ -4,6 +4,8 @@ mod cases;
 mod record;
 
 use cases::Tally;
+use emath::history::MAX_LEN;
+use emath::history::PARTS;
 use libc::STDOUT_FILENO;
 
 fn print_count(name: &[u8], t: Tally) {
@@ -17,8 +19,8 @@ fn print_count(name: &[u8], t: Tally) {
 // A million records at most, so that the loop ends.
 fn replay_all() -> cases::State {
     let mut record = [0u8; 64];
-    let mut times = [0.0f64; 1000];
-    let mut positions = [0.0f32; 2000];
+    let mut times = [0.0f64; MAX_LEN];
+    let mut positions = [0.0f32; PARTS];
     let mut s = cases::start();
     let mut left: u64 = 1_000_000;
     while left > 0 {

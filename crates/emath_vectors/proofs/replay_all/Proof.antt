@@ -1,7 +1,6 @@
 -- The measure is the number of records that may still come. Assumes nothing.
 use mathlib.Core.Path.{_≡_}
 use lib.ListN.{length}
-use native.Mathlib.Omega.{arith}
 use borrow.Author.Needs.{needs}
 use Rattle.emath_vectors.proofs.replay_all.Statement.{statement}
 use Rattle.emath_vectors.proofs.replay_all.Tie as tie
