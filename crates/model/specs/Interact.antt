@@ -10,7 +10,7 @@ use Rattle.model.specs.Types.{MaybePos2, no-pos, some-pos, MaybeClick, n
 use Rattle.model.specs.Types.interaction.{Malformed, TooManyHits, ShortBuffer, ZeroId, TallyFull}
 use Rattle.model.specs.Pointer.{any-down, could-any-button-be-click, is-long-press}
 use Rattle.model.specs.Touch.{any-touches}
-use Rattle.model.specs.Pass.{Panel, Interaction, no-interaction, decidedly-dragging, has, or-else}
+use Rattle.model.specs.Pass.{Panel, Interaction, no-interaction, decidedly-dragging, or-else}
 
 -- an entry of a hit list
 pub record Hit : Type 0 where
@@ -63,7 +63,7 @@ could-click p = could-any-button-be-click (p .screen .options) (p .clock .pointe
 unfoldable pub seen : Panel → Seen
 seen p =
     record {
-      escape-pressed = has 4 (p .keys .presses);
+      escape-pressed = ltb 0 (p .keys .presses 4);
       is-long-touch = any-touches (p .touch-states) && long-press p;
       pointer-events = p .press .held .pointer-events;
       is-decidedly-dragging = decidedly-dragging (p .clock) (p .screen) (p .press);

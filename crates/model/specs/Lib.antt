@@ -8,3 +8,4 @@ pub mod Pass
 pub mod Interact
 pub mod Questions
 pub mod Calls
+pub mod Widgets

@@ -1,8 +1,8 @@
 -- A pass (InputState of input_state/mod.rs): refused with all left as before, or taken. Definitions only.
-use Prim.Native.Nat.{ℕ, zero, suc}
+use Prim.Native.Nat.{ℕ, zero, suc, _+_}
 use mathlib.Core.Bool.{Bool, true, false, not, _&&_, _||_, cond}
 use mathlib.Core.Option.{Option, none, some}
-use mathlib.Core.List.{List, [], _∷_, _++_}
+use mathlib.Core.List.{List, [], _∷_}
 use lib.ListN.{length}
 use lib.Dec.{eqb}
 use lib.Ieee.{Float, binary32, binary64, add, sub, mul, lt}
@@ -37,11 +37,11 @@ pub record Screen : Type 0 where
   pub focused : Bool
   pub options : InputOptions
 
--- keys-down without repeats; of the pass's events, the keys pressed and whether there were none
+-- the keys that are down, how often each was pressed in the pass, and whether its feed was empty
 pub record Keys : Type 0 where
-  pub keys-down : List ℕ
+  pub keys-down : ℕ → Bool
   pub modifiers : Modifiers
-  pub presses : List ℕ
+  pub presses : ℕ → ℕ
   pub feed-empty : Bool
 
 -- zoom is the product of the pass's Zoom factors, and an exponent that the host takes the exponential of
@@ -69,6 +69,12 @@ pub record Panel : Type 0 where
   pub sums : Sums
   pub interaction : Interaction
   pub tally : ℕ
+
+unfoldable pub no-keys : ℕ → Bool
+no-keys k = false
+
+unfoldable pub no-presses : ℕ → ℕ
+no-presses k = 0
 
 unfoldable pub no-interaction : Interaction
 no-interaction = record { potential-click-id = none; potential-drag-id = none; dragged = none }
@@ -102,7 +108,7 @@ fresh =
       started-decidedly-dragging = false;
       touch-states = [];
       wheel = wheel-default;
-      keys = record { keys-down = []; modifiers = no-modifiers; presses = []; feed-empty = true };
+      keys = record { keys-down = no-keys; modifiers = no-modifiers; presses = no-presses; feed-empty = true };
       sums = record { zoom-factor = one; zoom-exponent = +0; rotation-radians = +0; smooth-scroll-delta = vec-zero };
       interaction = no-interaction;
       tally = 0;
@@ -127,18 +133,18 @@ pass-events i = events-of (items (i .feed))
 
 -- ---- keys, zoom and rotation
 
-unfoldable pub has : ℕ → List ℕ → Bool
-has k [] = false
-has k (l ∷ ls) = eqb k l || has k ls
+-- `keys_down.insert(key)`, or `remove(key)`
+unfoldable pub set-key : ℕ → Bool → (ℕ → Bool) → ℕ → Bool
+set-key k pressed down j = cond (eqb j k) pressed (down j)
 
-unfoldable pub without : ℕ → List ℕ → List ℕ
-without k [] = []
-without k (l ∷ ls) = cond (eqb k l) (without k ls) (l ∷ without k ls)
+-- one press more
+unfoldable pub count-press : ℕ → (ℕ → ℕ) → ℕ → ℕ
+count-press k presses j = cond (eqb j k) 1 0 + presses j
 
 -- an event's effect on keys and modifiers: lost focus clears both
 unfoldable pub key-event : Event → Keys → Keys
-key-event (Key k true) s = record { keys-down = cond (has k (s .keys-down)) (s .keys-down) (k ∷ s .keys-down); modifiers = s .modifiers; presses = s .presses ++ (k ∷ []); feed-empty = s .feed-empty }
-key-event (Key k false) s = record { keys-down = without k (s .keys-down); modifiers = s .modifiers; presses = s .presses; feed-empty = s .feed-empty }
+key-event (Key k true) s = record { keys-down = set-key k true (s .keys-down); modifiers = s .modifiers; presses = count-press k (s .presses); feed-empty = s .feed-empty }
+key-event (Key k false) s = record { keys-down = set-key k false (s .keys-down); modifiers = s .modifiers; presses = s .presses; feed-empty = s .feed-empty }
 key-event (ModifiersChanged m) s = record { keys-down = s .keys-down; modifiers = m; presses = s .presses; feed-empty = s .feed-empty }
 key-event (PointerMoved v) s = s
 key-event (MouseMoved v) s = s
@@ -149,7 +155,7 @@ key-event (Rotate x) s = s
 key-event (Touch d i ph v f) s = s
 key-event (MouseWheel u v ph g m) s = s
 key-event (WindowFocused true) s = s
-key-event (WindowFocused false) s = record { keys-down = []; modifiers = no-modifiers; presses = s .presses; feed-empty = s .feed-empty }
+key-event (WindowFocused false) s = record { keys-down = no-keys; modifiers = no-modifiers; presses = s .presses; feed-empty = s .feed-empty }
 key-event Other s = s
 
 unfoldable pub key-events : List Event → Keys → Keys
@@ -161,7 +167,7 @@ is-empty [] = true
 is-empty (e ∷ es) = false
 
 unfoldable pub keys-pass : List Event → Keys → Keys
-keys-pass es s = key-events es (record { keys-down = s .keys-down; modifiers = s .modifiers; presses = []; feed-empty = is-empty es })
+keys-pass es s = key-events es (record { keys-down = s .keys-down; modifiers = s .modifiers; presses = no-presses; feed-empty = is-empty es })
 
 -- `zoom_factor_delta *= factor`
 unfoldable pub zoom-event : Event → Float → Float

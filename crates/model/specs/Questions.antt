@@ -1,10 +1,10 @@
 -- What can be asked of a panel. Definitions only.
 -- No question tells has_moved_too_much_for_a_click, or the last clicks' position and times: they are state.
-use Prim.Native.Nat.{ℕ, _+_}
+use Prim.Native.Nat.{ℕ}
 use mathlib.Core.Bool.{Bool, true, false, not, _&&_, _||_, cond}
 use mathlib.Core.Option.{Option, none, some}
 use mathlib.Core.List.{List, [], _∷_}
-use lib.Dec.{ltb, leb, eqb}
+use lib.Dec.{ltb, eqb}
 use lib.Ieee.{Float, binary32, binary64, sub, div, lt}
 use Rattle.ieee.specs.Narrow.{narrow}
 use Rattle.emath.specs.Vec.{vec-zero, vec-ne, pos-sub, vec-abs, max-elem}
@@ -19,7 +19,7 @@ use Rattle.model.specs.Pointer as Pointer
 use Rattle.model.specs.Touch.{find-device, info-at, any-touches-at}
 use Rattle.model.specs.Touch as Touch
 use Rattle.model.specs.Wheel as Scroll
-use Rattle.model.specs.Pass.{Panel, Clock, Screen, Keys, Sums, Interaction, decidedly-dragging, has}
+use Rattle.model.specs.Pass.{Panel, Clock, Screen, Keys, Sums, Interaction, decidedly-dragging}
 use Rattle.model.specs.Interact.{long-press, could-click, has-pos}
 
 -- ---- the questions, with their arguments: a key's place, a button, a device id
@@ -152,10 +152,6 @@ repaint-after s =
     (some-time +0)
     (cond (s .any-touches && not (s .decidedly-dragging)) (until-menu (s .screen .options) (s .clock .time) (s .held .press-start-time)) no-time)
 
-unfoldable pub count-key : ℕ → List ℕ → ℕ
-count-key k [] = 0
-count-key k (l ∷ ls) = cond (eqb k l) 1 0 + count-key k ls
-
 -- `total_drag_delta`: latest_pos and press_origin
 unfoldable pub drag-delta : MaybePos2 → MaybePos2 → MaybeVec2
 drag-delta no-pos o = no-vec
@@ -208,9 +204,9 @@ reply is-scrolling s = bool (Scroll.is-scrolling (s .wheel))
 reply scroll-source s = source (source-if (Scroll.is-scrolling (s .wheel)) (s .wheel .source))
 reply time-since-last-scroll s = number (narrow binary32 (sub binary64 (s .clock .time) (s .wheel .«last_wheel_event»)))
 reply wants-repaint-after s = maybe-seconds (repaint-after s)
-reply (key-down k) s = bool (has k (s .keys .keys-down))
-reply (key-pressed k) s = bool (ltb 0 (count-key k (s .keys .presses)))
-reply (num-presses k) s = count (count-key k (s .keys .presses))
+reply (key-down k) s = bool (s .keys .keys-down k)
+reply (key-pressed k) s = bool (ltb 0 (s .keys .presses k))
+reply (num-presses k) s = count (s .keys .presses k)
 reply feed-was-empty s = bool (s .keys .feed-empty)
 reply any-touches s = bool (s .any-touches)
 reply is-long-touch s = bool (s .any-touches && s .long-press)
