@@ -20,6 +20,7 @@ use Rattle.model.specs.Pointer as model-Pointer
 use Rattle.model.specs.Questions as model-Questions
 use Rattle.model.specs.Touch as model-Touch
 use Rattle.model.specs.Wheel as model-Wheel
+use Rattle.model.specs.Widgets as model-Widgets
 use Rattle.edges.specs.Cases as edges-Cases
 use Rattle.edges.specs.Steps as edges-Steps
 use Rattle.edges.specs.Words as edges-Words
@@ -90,7 +91,7 @@ unfolding model-Options.default-options
 model-options = Type 0
 
 unfoldable pub model-pass : Type 1
-unfolding model-Pass.no-interaction model-Pass.fresh-place model-Pass.fresh-press model-Pass.fresh model-Pass.pass-events model-Pass.has model-Pass.without model-Pass.key-event model-Pass.key-events model-Pass.is-empty model-Pass.keys-pass model-Pass.zoom-event model-Pass.zoom-of model-Pass.rotation-event model-Pass.rotation-of model-Pass.sums-of model-Pass.time-or model-Pass.time-of model-Pass.rect-or model-Pass.clock-pass model-Pass.screen-pass model-Pass.decidedly-dragging model-Pass.begin-pass model-Pass.rect-given-ok model-Pass.own-numbers-ok model-Pass.own-refusal model-Pass.crowded model-Pass.item-refusal model-Pass.item-devices model-Pass.or-else model-Pass.survey model-Pass.pass-refusal model-Pass.pass-by model-Pass.pass
+unfolding model-Pass.no-keys model-Pass.no-presses model-Pass.no-interaction model-Pass.fresh-place model-Pass.fresh-press model-Pass.fresh model-Pass.pass-events model-Pass.set-key model-Pass.count-press model-Pass.key-event model-Pass.key-events model-Pass.is-empty model-Pass.keys-pass model-Pass.zoom-event model-Pass.zoom-of model-Pass.rotation-event model-Pass.rotation-of model-Pass.sums-of model-Pass.time-or model-Pass.time-of model-Pass.rect-or model-Pass.clock-pass model-Pass.screen-pass model-Pass.decidedly-dragging model-Pass.begin-pass model-Pass.rect-given-ok model-Pass.own-numbers-ok model-Pass.own-refusal model-Pass.crowded model-Pass.item-refusal model-Pass.item-devices model-Pass.or-else model-Pass.survey model-Pass.pass-refusal model-Pass.pass-by model-Pass.pass
 model-pass = Type 0
 
 unfoldable pub model-pointer : Type 1
@@ -98,7 +99,7 @@ unfolding model-Pointer.unwrap-or-default model-Pointer.zero-motion model-Pointe
 model-pointer = Type 0
 
 unfoldable pub model-questions : Type 1
-unfolding model-Questions.shown model-Questions.zoom-reply model-Questions.zoom-by-axis model-Questions.zoom-2d-reply model-Questions.rotation-reply model-Questions.translation-reply model-Questions.source-if model-Questions.until-menu model-Questions.some-event model-Questions.repaint-after model-Questions.count-key model-Questions.drag-delta model-Questions.same-button model-Questions.presses-button model-Questions.releases-button model-Questions.clicks-button model-Questions.clicks-button-times model-Questions.reply model-Questions.ask
+unfolding model-Questions.shown model-Questions.zoom-reply model-Questions.zoom-by-axis model-Questions.zoom-2d-reply model-Questions.rotation-reply model-Questions.translation-reply model-Questions.source-if model-Questions.until-menu model-Questions.some-event model-Questions.repaint-after model-Questions.drag-delta model-Questions.same-button model-Questions.presses-button model-Questions.releases-button model-Questions.clicks-button model-Questions.clicks-button-times model-Questions.reply model-Questions.ask
 model-questions = Type 0
 
 unfoldable pub model-touch : Type 1
@@ -109,12 +110,16 @@ unfoldable pub model-wheel : Type 1
 unfolding model-Wheel.scroll-action-timeout model-Wheel.resting-finger-timeout model-Wheel.wheel-default model-Wheel.is-static model-Wheel.is-in-touch model-Wheel.is-trackpad model-Wheel.is-scrolling model-Wheel.timeout model-Wheel.is-scroll-action-over model-Wheel.end-scroll-action-if model-Wheel.move-status model-Wheel.move-modifiers model-Wheel.in-points model-Wheel.swapped model-Wheel.axes model-Wheel.small model-Wheel.add-delta model-Wheel.scroll model-Wheel.on-move model-Wheel.stopped-wheel model-Wheel.on-phase model-Wheel.on-wheel-event model-Wheel.wheel-event model-Wheel.wheel-events model-Wheel.applied model-Wheel.unapplied model-Wheel.smoothed-if model-Wheel.smoothed model-Wheel.end-if-still model-Wheel.after-events model-Wheel.clear-smooth model-Wheel.wheel-pass
 model-wheel = Type 0
 
+unfoldable pub model-widgets : Type 1
+unfolding model-Widgets.no-widgets model-Widgets.same-layer model-Widgets.find-known model-Widgets.widget-of model-Widgets.get model-Widgets.is-known model-Widgets.contains model-Widgets.order-of model-Widgets.order model-Widgets.find-layer model-Widgets.count-of model-Widgets.layer-count model-Widgets.layer-ids model-Widgets.well-shaped model-Widgets.some-id-zero model-Widgets.edges-ok model-Widgets.record-refusal model-Widgets.slice-refusal model-Widgets.full model-Widgets.known-refusal model-Widgets.insert-refusal model-Widgets.updated model-Widgets.count-in model-Widgets.append model-Widgets.with-known model-Widgets.replace model-Widgets.fall model-Widgets.move-to-end model-Widgets.move-to-top model-Widgets.update model-Widgets.insert-by model-Widgets.insert-unless model-Widgets.insert
+model-widgets = Type 0
+
 unfoldable pub edges-cases : Type 1
-unfolding edges-Cases.dec edges-Cases.pos edges-Cases.vec edges-Cases.options edges-Cases.click-distance edges-Cases.click-duration edges-Cases.delay edges-Cases.at edges-Cases.press edges-Cases.release edges-Cases.clicks edges-Cases.click edges-Cases.held edges-Cases.point edges-Cases.finger-starts edges-Cases.finger-moves edges-Cases.moved-by-distance edges-Cases.clicked-by-distance edges-Cases.delay-over edges-Cases.within-delay edges-Cases.within-duration edges-Cases.duration-over edges-Cases.smoothed edges-Cases.smooth-by-itself edges-Cases.finger-rests edges-Cases.finger-gone edges-Cases.smoothing-lasts edges-Cases.smoothing-ends edges-Cases.pinched edges-Cases.proportional edges-Cases.drag-only edges-Cases.on-it edges-Cases.dragged-on edges-Cases.coincident edges-Cases.lone-release edges-Cases.second-release edges-Cases.cases
+unfolding edges-Cases.dec edges-Cases.pos edges-Cases.vec edges-Cases.options edges-Cases.click-distance edges-Cases.click-duration edges-Cases.delay edges-Cases.at edges-Cases.press edges-Cases.release edges-Cases.clicks edges-Cases.click edges-Cases.held edges-Cases.point edges-Cases.finger-starts edges-Cases.finger-moves edges-Cases.moved-by-distance edges-Cases.clicked-by-distance edges-Cases.delay-over edges-Cases.within-delay edges-Cases.within-duration edges-Cases.duration-over edges-Cases.smoothed edges-Cases.smooth-by-itself edges-Cases.finger-rests edges-Cases.finger-gone edges-Cases.smoothing-lasts edges-Cases.smoothing-ends edges-Cases.pinched edges-Cases.proportional edges-Cases.widget edges-Cases.on-it edges-Cases.dragged-on edges-Cases.coincident edges-Cases.lone-release edges-Cases.second-release edges-Cases.moved-to-top edges-Cases.start edges-Cases.cases
 edges-cases = Type 0
 
 unfoldable pub edges-steps : Type 1
-unfolding edges-Steps.feed-of edges-Steps.if-taken edges-Steps.drags-as edges-Steps.if-drags edges-Steps.step edges-Steps.go-on edges-Steps.steps edges-Steps.check-all
+unfolding edges-Steps.feed-of edges-Steps.with-panel edges-Steps.kept-if edges-Steps.if-taken edges-Steps.drags-as edges-Steps.if-drags edges-Steps.if-inserted edges-Steps.is-at edges-Steps.step edges-Steps.go-on edges-Steps.steps edges-Steps.check-all
 edges-steps = Type 0
 
 unfoldable pub edges-words : Type 1
@@ -122,5 +127,5 @@ unfolding edges-Words.same edges-Words.float-words edges-Words.present edges-Wor
 edges-words = Type 0
 
 unfoldable pub opened : Type 1
-unfolding ieee-narrow ieee-sqrt emath-history emath-vec data-limits data-modifiers data-sense feed-decode feed-encode feed-feed feed-shape feed-split model-calls model-interact model-numbers model-options model-pass model-pointer model-questions model-touch model-wheel edges-cases edges-steps edges-words Ieee.add Ieee.sub Ieee.mul Ieee.div Ieee.lt Ieee.le Ieee.eq Ieee.ne Ieee.fits Ieee.neg Ieee.round Ieee.sum Ieee.ofInt Ieee.ofBits Ieee.toBits Ieee.size
+unfolding ieee-narrow ieee-sqrt emath-history emath-vec data-limits data-modifiers data-sense feed-decode feed-encode feed-feed feed-shape feed-split model-calls model-interact model-numbers model-options model-pass model-pointer model-questions model-touch model-wheel model-widgets edges-cases edges-steps edges-words Ieee.add Ieee.sub Ieee.mul Ieee.div Ieee.lt Ieee.le Ieee.eq Ieee.ne Ieee.fits Ieee.neg Ieee.round Ieee.sum Ieee.ofInt Ieee.ofBits Ieee.toBits Ieee.size
 opened = Type 0

@@ -5,14 +5,17 @@ use mathlib.Core.Bool.{Bool, true, false, cond}
 use mathlib.Core.List.{List, [], _∷_, _++_}
 use mathlib.Core.Option.{Option, none, some}
 use lib.Dec.{eqb}
+use lib.ListN.{replicate}
 use lib.Ieee.{Float, nan, binary64, round}
 use Rattle.data.specs.Modifiers.{no-modifiers}
 use Rattle.model.specs.Options.{default-options}
 use Rattle.model.specs.Types.{Pos2, Vec2, Rect, InputOptions, WidgetRect, Primary, Point, Unknown, Trackpad, Start, Move, no-force, no-click, some-click}
 use Rattle.model.specs.Types.{PointerEvent, Moved, Pressed, Released, Event, PointerMoved, Button, Touch, MouseWheel}
+use Rattle.model.specs.Pass.{fresh}
+use Rattle.model.specs.Widgets.{no-widgets}
 use Rattle.model.specs.Interact.{Hit, InteractInput}
 use Rattle.model.specs.Questions.{bool, vector, zoom, zoom-2d, events, any-click, pointer-events, smooth-scroll-delta, is-scrolling, zoom-delta, zoom-delta-2d, translation-delta}
-use Rattle.edges.specs.Steps.{Step, passes, answers, unprocessed, interacts, feed-of, check-all}
+use Rattle.edges.specs.Steps.{Step, passes, answers, unprocessed, interacts, inserts, stands-at, State, feed-of, check-all}
 
 -- ---- how a case is written
 
@@ -165,24 +168,25 @@ proportional =
     ∷ at (dec 1 2500) default-options (finger-moves 2 (pos 6 2) ∷ [])
     ∷ answers zoom-delta-2d (zoom-2d (vec 2 2) (vec 0 0)) ∷ []
 
--- a drag-only widget, with the pointer on it
-unfoldable pub drag-only : WidgetRect
-drag-only =
+-- a widget with an id and a sense
+unfoldable pub widget : ℕ → ℕ → WidgetRect
+widget id sense =
     record {
-      id = 7;
+      id = id;
       «parent_id» = 1;
       «layer_id» = record { order = 1; id = 1 };
       rect = record { min = pos 0 0; max = pos 9 9 };
       «interact_rect» = record { min = pos 0 0; max = pos 9 9 };
-      sense = 2;
+      sense = sense;
       enabled = true;
       visible = true;
     }
 
+-- a drag-only widget, with the pointer on it
 unfoldable pub on-it : InteractInput
 on-it =
     record {
-      widgets = λ d. cond (eqb d 7) (some drag-only) none;
+      widgets = λ d. cond (eqb d 7) (some (widget 7 2)) none;
       close = record { id = 7; sense = 2 } ∷ [];
       contains-pointer = record { id = 7; sense = 2 } ∷ [];
       click = none;
@@ -217,12 +221,24 @@ second-release =
     at (dec 1 0) default-options (release (pos 0 0) ∷ release (pos 0 0) ∷ [])
     ∷ answers pointer-events (events (Released no-click Primary ∷ clicks (pos 0 0) 1 ∷ [])) ∷ []
 
+-- "widgets a, b, c; a moved to top: b, c, a.": 11, 12, 13 in a slice of three places that holds 99s
+unfoldable pub moved-to-top : List Step
+moved-to-top =
+    inserts false (widget 11 1) (11 ∷ 99 ∷ 99 ∷ [])
+    ∷ inserts false (widget 12 1) (11 ∷ 12 ∷ 99 ∷ [])
+    ∷ inserts false (widget 13 1) (11 ∷ 12 ∷ 13 ∷ [])
+    ∷ inserts true (widget 11 1) (12 ∷ 13 ∷ 11 ∷ []) ∷ stands-at 12 0 ∷ stands-at 13 1 ∷ stands-at 11 2 ∷ []
+
+-- a fresh panel, no widgets
+unfoldable pub start : State
+start = record { panel = fresh; widgets = no-widgets; slice = replicate 3 (widget 99 0) }
+
 unfoldable pub cases : List (List Step)
 cases =
     moved-by-distance ∷ clicked-by-distance ∷ delay-over ∷ within-delay ∷ within-duration ∷ duration-over
     ∷ smoothed ∷ smooth-by-itself ∷ finger-rests ∷ finger-gone ∷ smoothing-lasts ∷ smoothing-ends
-    ∷ pinched ∷ proportional ∷ dragged-on ∷ coincident ∷ lone-release ∷ second-release ∷ []
+    ∷ pinched ∷ proportional ∷ moved-to-top ∷ dragged-on ∷ coincident ∷ lone-release ∷ second-release ∷ []
 
 -- proofs/AllPass.antt: by evaluation
 abbrev pub AllPass : Type 0
-AllPass = check-all cases ≡ true
+AllPass = check-all start cases ≡ true

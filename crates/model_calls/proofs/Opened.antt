@@ -10,6 +10,7 @@ use Rattle.model_calls.specs.Places as model_calls-Places
 use Rattle.model_calls.specs.Refusals as model_calls-Refusals
 use Rattle.model_calls.specs.Touches as model_calls-Touches
 use Rattle.model_calls.specs.Wheels as model_calls-Wheels
+use Rattle.model_calls.specs.Widgets as model_calls-Widgets
 use Rattle.edges.proofs.Opened as Edges
 
 unfoldable pub model_calls-ask : Type 1
@@ -25,11 +26,11 @@ unfolding model_calls-Clicks.one-click model_calls-Clicks.many-clicks model_call
 model_calls-clicks = Type 0
 
 unfoldable pub model_calls-dump : Type 1
-unfolding model_calls-Dump.history-words model_calls-Dump.place-words model_calls-Dump.down-bits model_calls-Dump.press-words model_calls-Dump.wheel-words model_calls-Dump.maybe-force-words model_calls-Dump.touches-words model_calls-Dump.averages-words model_calls-Dump.previous-words model_calls-Dump.gesture-words model_calls-Dump.devices-words model_calls-Dump.keys-words model_calls-Dump.options-words model_calls-Dump.state-words model_calls-Dump.interaction-words model_calls-Dump.dump-words
+unfolding model_calls-Dump.history-words model_calls-Dump.place-words model_calls-Dump.down-bits model_calls-Dump.press-words model_calls-Dump.wheel-words model_calls-Dump.maybe-force-words model_calls-Dump.touches-words model_calls-Dump.averages-words model_calls-Dump.previous-words model_calls-Dump.gesture-words model_calls-Dump.devices-words model_calls-Dump.keys-words model_calls-Dump.options-words model_calls-Dump.state-words model_calls-Dump.interaction-words model_calls-Dump.widget-words model_calls-Dump.all-widget-words model_calls-Dump.layer-before model_calls-Dump.insert-slice model_calls-Dump.sort-slices model_calls-Dump.slices-words model_calls-Dump.insert-known model_calls-Dump.sort-known model_calls-Dump.known-words model_calls-Dump.dump-words
 model_calls-dump = Type 0
 
 unfoldable pub model_calls-exchanges : Type 1
-unfolding model_calls-Exchanges._zeros_ model_calls-Exchanges.word model_calls-Exchanges.f32-at model_calls-Exchanges.f64-at model_calls-Exchanges.id-at model_calls-Exchanges.rect-at model_calls-Exchanges.if-given model_calls-Exchanges.pass-input model_calls-Exchanges.widget-at model_calls-Exchanges.hit-at model_calls-Exchanges.hits-at model_calls-Exchanges.lookup model_calls-Exchanges.interact-input model_calls-Exchanges.answer-words model_calls-Exchanges.index-words model_calls-Exchanges.refusal-words model_calls-Exchanges.passed-words model_calls-Exchanges.ids-words model_calls-Exchanges.snapshot-words model_calls-Exchanges.interacted-words model_calls-Exchanges.passed-panel model_calls-Exchanges.interacted-panel model_calls-Exchanges.begins-with model_calls-Exchanges.insert-widget model_calls-Exchanges.exchange model_calls-Exchanges.exchanges model_calls-Exchanges.check-all
+unfolding model_calls-Exchanges._zeros_ model_calls-Exchanges.word model_calls-Exchanges.f32-at model_calls-Exchanges.f64-at model_calls-Exchanges.id-at model_calls-Exchanges.rect-at model_calls-Exchanges.if-given model_calls-Exchanges.pass-input model_calls-Exchanges.widget-at model_calls-Exchanges.widgets-at model_calls-Exchanges.hit-at model_calls-Exchanges.hits-at model_calls-Exchanges.interact-input model_calls-Exchanges.answer-words model_calls-Exchanges.index-words model_calls-Exchanges.refusal-words model_calls-Exchanges.passed-words model_calls-Exchanges.ids-words model_calls-Exchanges.snapshot-words model_calls-Exchanges.interacted-words model_calls-Exchanges.record-words model_calls-Exchanges.inserted-words model_calls-Exchanges.slice-of model_calls-Exchanges.with-slice model_calls-Exchanges.overwritten model_calls-Exchanges.lent model_calls-Exchanges.start model_calls-Exchanges.also model_calls-Exchanges.passed model_calls-Exchanges.interacted model_calls-Exchanges.inserted model_calls-Exchanges.inserts-into model_calls-Exchanges.exchange model_calls-Exchanges.exchanges model_calls-Exchanges.check-all
 model_calls-exchanges = Type 0
 
 unfoldable pub model_calls-inputs : Type 1
@@ -56,6 +57,10 @@ unfoldable pub model_calls-wheels : Type 1
 unfolding model_calls-Wheels.units model_calls-Wheels.small model_calls-Wheels.in-touch model_calls-Wheels.timeouts model_calls-Wheels.zooms-by-wheel model_calls-Wheels.table
 model_calls-wheels = Type 0
 
+unfoldable pub model_calls-widgets : Type 1
+unfolding model_calls-Widgets.moved-to-top model_calls-Widgets.updated model_calls-Widgets.layers model_calls-Widgets.lent-contents model_calls-Widgets.insert-refusals model_calls-Widgets.full-of-layers model_calls-Widgets.table
+model_calls-widgets = Type 0
+
 unfoldable pub opened : Type 1
-unfolding model_calls-ask model_calls-chances model_calls-clicks model_calls-dump model_calls-exchanges model_calls-inputs model_calls-interacts model_calls-places model_calls-refusals model_calls-touches model_calls-wheels Edges.opened
+unfolding model_calls-ask model_calls-chances model_calls-clicks model_calls-dump model_calls-exchanges model_calls-inputs model_calls-interacts model_calls-places model_calls-refusals model_calls-touches model_calls-wheels model_calls-widgets Edges.opened
 opened = Type 0

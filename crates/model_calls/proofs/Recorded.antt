@@ -7,6 +7,7 @@ use Rattle.model_calls.specs.Wheels as Wheels
 use Rattle.model_calls.specs.Touches as Touches
 use Rattle.model_calls.specs.Refusals as Refusals
 use Rattle.model_calls.specs.Interacts as Interacts
+use Rattle.model_calls.specs.Widgets as Widgets
 use Rattle.model_calls.specs.Chances as Chances
 use Rattle.model_calls.specs.Exchanges.{check-all}
 use Rattle.model_calls.specs.Recorded.{Recorded}
@@ -40,9 +41,13 @@ interacts-recorded : check-all Interacts.table ≡ true
 unfolding opened
 interacts-recorded = refl
 
+widgets-recorded : check-all Widgets.table ≡ true
+unfolding opened
+widgets-recorded = refl
+
 chances-recorded : check-all Chances.table ≡ true
 unfolding opened
 chances-recorded = refl
 
 pub recorded : Recorded
-recorded = record { clicks = clicks-recorded; places = places-recorded; inputs = inputs-recorded; wheels = wheels-recorded; touches = touches-recorded; refusals = refusals-recorded; interacts = interacts-recorded; chances = chances-recorded }
+recorded = record { clicks = clicks-recorded; places = places-recorded; inputs = inputs-recorded; wheels = wheels-recorded; touches = touches-recorded; refusals = refusals-recorded; interacts = interacts-recorded; widgets = widgets-recorded; chances = chances-recorded }

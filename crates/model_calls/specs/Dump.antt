@@ -1,19 +1,20 @@
--- A panel's whole state as words, for what no question shows: the history, the click past, the wheel, the averages of a gesture. Definitions only.
+-- A panel's whole state, and a widget set's, as words, for what no question shows: the history, the click past, the wheel, the averages of a gesture. Definitions only.
 use Prim.Native.Nat.{ℕ, _+_, _*_}
-use mathlib.Core.Bool.{Bool, cond}
+use mathlib.Core.Bool.{Bool, _&&_, _||_, cond}
 use mathlib.Core.List.{List, [], _∷_, _++_}
+use lib.Dec.{ltb, eqb}
 use lib.ListN.{length}
 use lib.Ieee.{binary32, binary64}
 use Rattle.emath.specs.History.{Sample}
 use Rattle.data.specs.Modifiers.{bit-number, modifiers-number}
 use Rattle.data.specs.Numbers.{source-number, status-number, pinch-number}
 use Rattle.feed.specs.Encode.{id-words, pos-words, vec-words, float-word}
-use Rattle.model.specs.Types.{InputOptions, ButtonsDown, WheelState, MaybeF32, no-force, some-force, ActiveTouch, DynGestureState, MaybeDynGestureState, no-state, some-state}
+use Rattle.model.specs.Types.{LayerId, WidgetRect, InputOptions, ButtonsDown, WheelState, MaybeF32, no-force, some-force, ActiveTouch, DynGestureState, MaybeDynGestureState, no-state, some-state}
 use Rattle.model.specs.Types.{GestureState, MaybeGestureState, no-gesture, some-gesture}
 use Rattle.model.specs.Pointer.{Place, Held, ClickPast}
 use Rattle.model.specs.Touch.{TouchState}
-use Rattle.model.specs.Pass.{Panel, Clock, Screen, Keys, Sums, Interaction, has}
-use Rattle.model.specs.Questions.{count-key}
+use Rattle.model.specs.Pass.{Panel, Clock, Screen, Keys, Sums, Interaction}
+use Rattle.model.specs.Widgets.{Known}
 use Rattle.edges.specs.Words.{float-words, present, absent, maybe-pos-words, maybe-vec-words, maybe-time-words, maybe-id-words, rect-words, pointer-events-words}
 use Rattle.model_calls.specs.Ask.{packs}
 
@@ -73,7 +74,7 @@ devices-words (v ∷ vs) =
 unfoldable pub keys-words : Keys → List ℕ
 keys-words k =
     modifiers-number (k .modifiers)
-    ∷ packs (λ n. bit-number (has n (k .keys-down))) 2 32 0 5 ++ (packs (λ n. count-key n (k .presses)) 256 4 0 37 ++ (bit-number (k .feed-empty) ∷ []))
+    ∷ packs (λ n. bit-number (k .keys-down n)) 2 32 0 5 ++ (packs (λ n. k .presses n) 256 4 0 37 ++ (bit-number (k .feed-empty) ∷ []))
 
 unfoldable pub options-words : InputOptions → List ℕ
 options-words o =
@@ -94,10 +95,58 @@ state-words c s k z =
 unfoldable pub interaction-words : Interaction → ℕ → List ℕ
 interaction-words i tally = maybe-id-words (i .potential-click-id) ++ (maybe-id-words (i .potential-drag-id) ++ (maybe-id-words (i .dragged) ++ (tally ∷ [])))
 
-unfoldable pub dump-words : Panel → List ℕ
-dump-words p =
+-- ---- widgets: the layers by ascending order and id, each with its widgets in painting order; then the widgets known by ascending id
+
+-- the widgets of a layer, as its slice holds them
+pub record Slice : Type 0 where
+  pub layer-id : LayerId
+  pub widgets : List WidgetRect
+
+unfoldable pub widget-words : WidgetRect → List ℕ
+widget-words w =
+    id-words (w .id)
+    ++ (id-words (w .«parent_id»)
+    ++ (w .«layer_id» .order ∷ id-words (w .«layer_id» .id)
+    ++ (rect-words (w .rect) ++ (rect-words (w .«interact_rect») ++ (w .sense ∷ (bit-number (w .enabled) + 2 * bit-number (w .visible)) ∷ [])))))
+
+unfoldable pub all-widget-words : List WidgetRect → List ℕ
+all-widget-words [] = []
+all-widget-words (w ∷ ws) = widget-words w ++ all-widget-words ws
+
+unfoldable pub layer-before : LayerId → LayerId → Bool
+layer-before a b = ltb (a .order) (b .order) || (eqb (a .order) (b .order) && ltb (a .id) (b .id))
+
+unfoldable pub insert-slice : Slice → List Slice → List Slice
+insert-slice s [] = s ∷ []
+insert-slice s (t ∷ ts) = cond (layer-before (s .layer-id) (t .layer-id)) (s ∷ t ∷ ts) (t ∷ insert-slice s ts)
+
+unfoldable pub sort-slices : List Slice → List Slice
+sort-slices [] = []
+sort-slices (s ∷ ss) = insert-slice s (sort-slices ss)
+
+unfoldable pub slices-words : List Slice → List ℕ
+slices-words [] = []
+slices-words (s ∷ ss) = s .layer-id .order ∷ id-words (s .layer-id .id) ++ (length (s .widgets) ∷ all-widget-words (s .widgets) ++ slices-words ss)
+
+unfoldable pub insert-known : Known → List Known → List Known
+insert-known k [] = k ∷ []
+insert-known k (j ∷ js) = cond (ltb (k .widget .id) (j .widget .id)) (k ∷ j ∷ js) (j ∷ insert-known k js)
+
+unfoldable pub sort-known : List Known → List Known
+sort-known [] = []
+sort-known (k ∷ ks) = insert-known k (sort-known ks)
+
+unfoldable pub known-words : List Known → List ℕ
+known-words [] = []
+known-words (k ∷ ks) = k .position ∷ widget-words (k .widget) ++ known-words ks
+
+unfoldable pub dump-words : Panel → List Slice → List Known → List ℕ
+dump-words p slices known =
     float-words binary64 (p .clock .pointer-time)
     ++ (place-words (p .place)
     ++ (press-words (p .press .held) (p .press .past) (p .started-decidedly-dragging)
     ++ (wheel-words (p .wheel)
-    ++ (length (p .touch-states) ∷ devices-words (p .touch-states) ++ (state-words (p .clock) (p .screen) (p .keys) (p .sums) ++ interaction-words (p .interaction) (p .tally))))))
+    ++ (length (p .touch-states) ∷ devices-words (p .touch-states)
+    ++ (state-words (p .clock) (p .screen) (p .keys) (p .sums)
+    ++ (interaction-words (p .interaction) (p .tally)
+    ++ (length slices ∷ slices-words (sort-slices slices) ++ (length known ∷ known-words (sort-known known)))))))))

@@ -1,23 +1,24 @@
 -- A recorded exchange with egui: the words that it was given and those that it answered. The model is given the same. Definitions only.
-use Prim.Native.Nat.{ℕ, zero, suc, _+_, _*_, _/_, _%_}
+use Prim.Native.Nat.{ℕ, zero, suc, _+_, _*_, _-_, _/_, _%_}
 use mathlib.Core.Bool.{Bool, true, false, _&&_, cond}
 use mathlib.Core.List.{List, [], _∷_, _++_}
 use mathlib.Core.Option.{Option, none, some}
-use lib.Dec.{eqb}
-use lib.ListN.{length, getD, drop, replicate}
+use lib.ListN.{length, getD, take, drop, replicate}
 use lib.Ieee.{Float, binary32, binary64, ofBits}
 use Rattle.data.specs.Modifiers.{bit-of, modifiers-of}
-use Rattle.data.specs.Numbers.{pass-refusal-number, pass-refusal-index, interact-refusal-number, interact-refusal-index}
+use Rattle.data.specs.Numbers.{pass-refusal-number, pass-refusal-index, interact-refusal-number, interact-refusal-index, insert-refusal-number, insert-refusal-index}
 use Rattle.feed.specs.Encode.{id-words}
 use Rattle.feed.specs.Shape.{id-of, float-of, pos-of}
 use Rattle.model.specs.Types.{Pos2, Rect, InputOptions, LayerId, WidgetRect}
 use Rattle.model.specs.Pass.{Panel, PassInput, Passed, pass, fresh}
 use Rattle.model.specs.Pass as P
+use Rattle.model.specs.Widgets.{WidgetRects, Inserted, insert, get, no-widgets, same-layer}
+use Rattle.model.specs.Widgets as W
 use Rattle.model.specs.Interact.{Hit, InteractInput, InteractionSnapshot, Interacted, interact, with-interaction}
 use Rattle.model.specs.Interact as I
 use Rattle.edges.specs.Words.{same, maybe-id-words}
 use Rattle.model_calls.specs.Ask.{ask-words}
-use Rattle.model_calls.specs.Dump.{dump-words}
+use Rattle.model_calls.specs.Dump.{Slice, widget-words, dump-words}
 
 infixr 67 _zeros_
 -- n words that are 0, and the words after them
@@ -95,6 +96,10 @@ widget-at ws i =
       visible = bit-of 2 (word ws (16 + i));
     }
 
+unfoldable pub widgets-at : List ℕ → ℕ → ℕ → List WidgetRect
+widgets-at ws i zero = []
+widgets-at ws i (suc n) = widget-at ws i ∷ widgets-at ws (17 + i) n
+
 -- n entries of a hit list
 unfoldable pub hit-at : List ℕ → ℕ → Hit
 hit-at ws i = record { id = id-at ws i; sense = word ws (2 + i) }
@@ -103,15 +108,10 @@ unfoldable pub hits-at : List ℕ → ℕ → ℕ → List Hit
 hits-at ws i zero = []
 hits-at ws i (suc n) = hit-at ws i ∷ hits-at ws (3 + i) n
 
--- the first widget of a list with an id
-unfoldable pub lookup : List WidgetRect → ℕ → Option WidgetRect
-lookup [] d = none
-lookup (w ∷ ws) d = cond (eqb d (w .id)) (some w) (lookup ws d)
-
-unfoldable pub interact-input : List WidgetRect → List ℕ → InteractInput
+unfoldable pub interact-input : WidgetRects → List ℕ → InteractInput
 interact-input widgets ws =
     record {
-      widgets = lookup widgets;
+      widgets = λ d. get d widgets;
       close = hits-at ws 5 (word ws 2);
       contains-pointer = hits-at ws (5 + 3 * word ws 2) (word ws 3);
       click = if-given (bit-of 1 (word ws 4)) (hit-at ws (5 + 3 * word ws 2 + 3 * word ws 3));
@@ -153,48 +153,88 @@ unfoldable pub interacted-words : Interacted → List ℕ
 interacted-words (I.refused r) = refusal-words (interact-refusal-number r) (interact-refusal-index r)
 interacted-words (I.answered a p) = answer-words (snapshot-words a (p .tally))
 
--- ---- the check: the panel, egui's own record of each widget, and whether all answers were the same so far
+-- the set's record of a widget
+unfoldable pub record-words : Option WidgetRect → List ℕ
+record-words none = []
+record-words (some w) = widget-words w
+
+-- of an insertion of the widget with the id d
+unfoldable pub inserted-words : ℕ → Inserted → List ℕ
+inserted-words d (W.refused r) = refusal-words (insert-refusal-number r) (insert-refusal-index r)
+inserted-words d (W.inserted i) = answer-words (i .position ∷ i .count ∷ record-words (get d (i .widgets)))
+
+-- ---- the slices that are lent, one for each layer: egui keeps them, the model's callers do
+
+unfoldable pub slice-of : LayerId → List Slice → List WidgetRect
+slice-of l [] = []
+slice-of l (s ∷ ss) = cond (same-layer l (s .layer-id)) (s .widgets) (slice-of l ss)
+
+unfoldable pub with-slice : LayerId → List WidgetRect → List Slice → List Slice
+with-slice l ws [] = record { layer-id = l; widgets = ws } ∷ []
+with-slice l ws (s ∷ ss) = cond (same-layer l (s .layer-id)) (record { layer-id = l; widgets = ws } ∷ ss) (s ∷ with-slice l ws ss)
+
+-- contents that the request gives, in as many places as there are widgets
+unfoldable pub overwritten : List WidgetRect → List WidgetRect → List WidgetRect
+overwritten gs [] = []
+overwritten [] (w ∷ ws) = w ∷ ws
+overwritten (g ∷ gs) (w ∷ ws) = g ∷ overwritten gs ws
+
+-- so many places: the layer's widgets, and then anything
+unfoldable pub lent : ℕ → List WidgetRect → WidgetRect → List WidgetRect
+lent places ws anything = take places (ws ++ replicate places anything)
+
+-- ---- the check: whether all answers were the same so far, the panel, the widgets
 
 pub record Checked : Type 0 where
   pub so-far : Bool
   pub panel : Panel
-  pub widgets : List WidgetRect
+  pub widgets : WidgetRects
+  pub slices : List Slice
 
-unfoldable pub passed-panel : Panel → Passed → Panel
-passed-panel p (P.refused r) = p
-passed-panel p (P.taken q) = q
+unfoldable pub start : Checked
+start = record { so-far = true; panel = fresh; widgets = no-widgets; slices = [] }
 
-unfoldable pub interacted-panel : Panel → Interacted → Panel
-interacted-panel p (I.refused r) = p
-interacted-panel p (I.answered a q) = q
+unfoldable pub also : Bool → Panel → Checked → Checked
+also b p s = record { so-far = s .so-far && b; panel = p; widgets = s .widgets; slices = s .slices }
 
--- the widgets' part of a dump is not compared
-unfoldable pub begins-with : List ℕ → List ℕ → Bool
-begins-with [] ws = true
-begins-with (v ∷ vs) [] = false
-begins-with (v ∷ vs) (w ∷ ws) = eqb v w && begins-with vs ws
+unfoldable pub passed : List ℕ → Passed → Checked → Checked
+passed a (P.refused r) s = also (same (passed-words (P.refused r)) a) (s .panel) s
+passed a (P.taken p) s = also (same (passed-words (P.taken p)) a) p s
 
--- a widget that egui took is known as egui answers it, from word 3 of the answer on
-unfoldable pub insert-widget : List ℕ → List WidgetRect → List WidgetRect
-insert-widget answer ws = cond (eqb (word answer 0) 19) (widget-at answer 3 ∷ ws) ws
+unfoldable pub interacted : List ℕ → Interacted → Checked → Checked
+interacted a (I.refused r) s = also (same (interacted-words (I.refused r)) a) (s .panel) s
+interacted a (I.answered x p) s = also (same (interacted-words (I.answered x p)) a) p s
+
+unfoldable pub inserted : List ℕ → WidgetRect → Inserted → Checked → Checked
+inserted a w (W.refused r) s = also (same (inserted-words (w .id) (W.refused r)) a) (s .panel) s
+inserted a w (W.inserted i) s =
+    record {
+      so-far = s .so-far && same (inserted-words (w .id) (W.inserted i)) a;
+      panel = s .panel;
+      widgets = i .widgets;
+      slices = with-slice (w .«layer_id») (take (i .count) (i .slice)) (s .slices);
+    }
+
+-- the request's widget, whether it is moved to top, the places lent and what they are given to hold
+unfoldable pub inserts-into : List ℕ → Checked → Inserted
+inserts-into ws s =
+    let w = widget-at ws 0 in
+    insert (bit-of 4 (word ws 16)) (s .widgets)
+    (lent (word ws 17) (overwritten (widgets-at ws 18 ((length ws - 18) / 17)) (slice-of (w .«layer_id») (s .slices))) w) w
 
 unfoldable pub exchange : Exchange → Checked → Checked
-exchange resets s = record { so-far = s .so-far; panel = fresh; widgets = [] }
-exchange (passes ws a) s =
-    let r = pass (s .panel) (pass-input ws) in record { so-far = s .so-far && same (passed-words r) a; panel = passed-panel (s .panel) r; widgets = s .widgets }
-exchange (inserts ws a) s = record { so-far = s .so-far; panel = s .panel; widgets = insert-widget a (s .widgets) }
-exchange clears-widgets s = record { so-far = s .so-far; panel = s .panel; widgets = [] }
-exchange (interacts ws a) s =
-    let r = interact (s .panel) (interact-input (s .widgets) ws) in
-    record { so-far = s .so-far && same (interacted-words r) a; panel = interacted-panel (s .panel) r; widgets = s .widgets }
-exchange (asks a) s = record { so-far = s .so-far && same (answer-words (ask-words (s .panel))) a; panel = s .panel; widgets = s .widgets }
-exchange (dumps a) s = record { so-far = s .so-far && begins-with (dump-words (s .panel)) (drop 1 a); panel = s .panel; widgets = s .widgets }
-exchange (sets-tally n) s = record { so-far = s .so-far; panel = with-interaction (s .panel) (s .panel .interaction) n; widgets = s .widgets }
+exchange resets s = record { so-far = s .so-far; panel = fresh; widgets = no-widgets; slices = [] }
+exchange (passes ws a) s = passed a (pass (s .panel) (pass-input ws)) s
+exchange (inserts ws a) s = inserted a (widget-at ws 0) (inserts-into ws s) s
+exchange clears-widgets s = record { so-far = s .so-far; panel = s .panel; widgets = no-widgets; slices = [] }
+exchange (interacts ws a) s = interacted a (interact (s .panel) (interact-input (s .widgets) ws)) s
+exchange (asks a) s = also (same (answer-words (ask-words (s .panel))) a) (s .panel) s
+exchange (dumps a) s = also (same (answer-words (dump-words (s .panel) (s .slices) (s .widgets .by-id))) a) (s .panel) s
+exchange (sets-tally n) s = also true (with-interaction (s .panel) (s .panel .interaction) n) s
 
 unfoldable pub exchanges : List Exchange → Checked → Checked
 exchanges [] s = s
 exchanges (x ∷ xs) s = exchanges xs (exchange x s)
 
--- a recording starts from a fresh panel
 unfoldable pub check-all : List Exchange → Bool
-check-all xs = exchanges xs (record { so-far = true; panel = fresh; widgets = [] }) .so-far
+check-all xs = exchanges xs start .so-far

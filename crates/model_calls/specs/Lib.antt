@@ -8,5 +8,6 @@ pub mod Wheels
 pub mod Touches
 pub mod Refusals
 pub mod Interacts
+pub mod Widgets
 pub mod Chances
 pub mod Recorded

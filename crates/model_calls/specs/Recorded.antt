@@ -8,6 +8,7 @@ use Rattle.model_calls.specs.Wheels as Wheels
 use Rattle.model_calls.specs.Touches as Touches
 use Rattle.model_calls.specs.Refusals as Refusals
 use Rattle.model_calls.specs.Interacts as Interacts
+use Rattle.model_calls.specs.Widgets as Widgets
 use Rattle.model_calls.specs.Chances as Chances
 use Rattle.model_calls.specs.Exchanges.{check-all}
 
@@ -19,4 +20,5 @@ pub record Recorded : Type 0 where
   pub touches : check-all Touches.table ≡ true
   pub refusals : check-all Refusals.table ≡ true
   pub interacts : check-all Interacts.table ≡ true
+  pub widgets : check-all Widgets.table ≡ true
   pub chances : check-all Chances.table ≡ true
