@@ -3,17 +3,17 @@ use Prim.Native.Nat.{ℕ, _+_, _*_}
 use mathlib.Core.Path.{_≡_}
 use mathlib.Core.Bool.{Bool, true, false, cond}
 use mathlib.Core.List.{List, [], _∷_, _++_}
-use mathlib.Core.Option.{Option, none, some}
+use mathlib.Core.Option.{none, some}
 use lib.Dec.{eqb}
 use lib.ListN.{replicate}
 use lib.Ieee.{Float, nan, binary64, round}
 use Rattle.data.specs.Modifiers.{no-modifiers}
 use Rattle.model.specs.Options.{default-options}
-use Rattle.model.specs.Types.{Pos2, Vec2, Rect, InputOptions, WidgetRect, Primary, Point, Unknown, Trackpad, Start, Move, no-force, no-click, some-click}
+use Rattle.model.specs.Types.{Pos2, Vec2, InputOptions, WidgetRect, Primary, Point, Unknown, Trackpad, Start, Move, no-force, no-click, some-click}
 use Rattle.model.specs.Types.{PointerEvent, Moved, Pressed, Released, Event, PointerMoved, Button, Touch, MouseWheel}
-use Rattle.model.specs.Pass.{fresh}
+use Rattle.model.specs.Pass.{PassInput, fresh}
 use Rattle.model.specs.Widgets.{no-widgets}
-use Rattle.model.specs.Interact.{Hit, InteractInput}
+use Rattle.model.specs.Interact.{InteractInput}
 use Rattle.model.specs.Questions.{bool, vector, zoom, zoom-2d, events, any-click, pointer-events, smooth-scroll-delta, is-scrolling, zoom-delta, zoom-delta-2d, translation-delta}
 use Rattle.edges.specs.Steps.{Step, passes, answers, unprocessed, interacts, inserts, stands-at, State, feed-of, check-all}
 
@@ -53,10 +53,9 @@ unfoldable pub delay : Float → InputOptions
 delay x = options (default-options .«max_click_dist») (default-options .«max_click_duration») x
 
 -- a pass at a time, with the smoothing factor 0.5
-unfoldable pub at : Float → InputOptions → List Event → Step
-at t o es =
-    passes
-    (record {
+unfoldable pub pass-at : Float → InputOptions → List Event → PassInput
+pass-at t o es =
+    record {
       time = some t;
       screen-rect = some (record { min = pos 0 0; max = pos 640 480 });
       predicted-dt = dec 0 625;
@@ -66,7 +65,10 @@ at t o es =
       requested-repaint = false;
       options = o;
       feed = feed-of es;
-    })
+    }
+
+unfoldable pub at : Float → InputOptions → List Event → Step
+at t o es = passes (pass-at t o es)
 
 unfoldable pub press : Pos2 → Event
 press p = Button p Primary true no-modifiers

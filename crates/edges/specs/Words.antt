@@ -1,4 +1,4 @@
--- The words of a reply: what is compared. A float is its bit pattern, and a not-a-number is always the same one. Definitions only.
+-- The words of a reply and of a snapshot: what is compared. A float is its bit pattern, and a not-a-number is always the same one. Definitions only.
 use Prim.Native.Nat.{ℕ, _+_, _*_}
 use mathlib.Core.Bool.{Bool, true, false, _&&_}
 use mathlib.Core.List.{List, [], _∷_, _++_}
@@ -7,11 +7,12 @@ use lib.Dec.{eqb}
 use lib.ListN.{length, replicate}
 use lib.Ieee.{Float, Format, binary32, binary64, toBits}
 use Rattle.data.specs.Modifiers.{bit-number, modifiers-number}
-use Rattle.data.specs.Numbers.{button-number, source-number, pointer-event-number}
+use Rattle.data.specs.Numbers.{button-number, source-number}
 use Rattle.feed.specs.Encode.{id-words, pos-words, vec-words, float-word}
-use Rattle.model.specs.Types.{Pos2, Vec2, Rect, MaybePos2, no-pos, some-pos, MaybeVec2, no-vec, some-vec, MaybeF64, no-time, some-time}
-use Rattle.model.specs.Types.{MaybeClick, no-click, some-click, PointerEvent, Moved, Pressed, Released, MaybeMouseWheelSource, no-source, some-source}
+use Rattle.model.specs.Types.{Rect, MaybePos2, no-pos, some-pos, MaybeVec2, no-vec, some-vec, MaybeF64, no-time, some-time}
+use Rattle.model.specs.Types.{no-click, some-click, PointerEvent, Moved, Pressed, Released, MaybeMouseWheelSource, no-source, some-source}
 use Rattle.model.specs.Types.{Rotation, Radians, Headings, MultiTouchInfo, MaybeMultiTouchInfo, no-info, some-info}
+use Rattle.model.specs.Interact.{InteractionSnapshot}
 use Rattle.model.specs.Questions.{Reply, bool, count, number, vector, maybe-vector, maybe-position, maybe-seconds, rectangle, flags, source, zoom, zoom-2d, rotation, gesture, events, widget}
 
 unfoldable pub same : List ℕ → List ℕ → Bool
@@ -103,3 +104,16 @@ reply-words f (rotation r) = rotation-words r
 reply-words f (gesture g) = maybe-info-words g
 reply-words f (events es) = length es ∷ pointer-events-words es
 reply-words f (widget d) = maybe-id-words d
+
+unfoldable pub ids-words : List ℕ → List ℕ
+ids-words [] = []
+ids-words (d ∷ ds) = id-words d ++ ids-words ds
+
+unfoldable pub snapshot-words : InteractionSnapshot → List ℕ
+snapshot-words a =
+    maybe-id-words (a .clicked)
+    ++ (maybe-id-words (a .long-touched)
+    ++ (maybe-id-words (a .drag-started)
+    ++ (maybe-id-words (a .dragged)
+    ++ (maybe-id-words (a .drag-stopped)
+    ++ (length (a .hovered) ∷ ids-words (a .hovered) ++ (length (a .contains-pointer) ∷ ids-words (a .contains-pointer)))))))

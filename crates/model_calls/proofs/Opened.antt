@@ -30,7 +30,7 @@ unfolding model_calls-Dump.history-words model_calls-Dump.place-words model_call
 model_calls-dump = Type 0
 
 unfoldable pub model_calls-exchanges : Type 1
-unfolding model_calls-Exchanges._zeros_ model_calls-Exchanges.word model_calls-Exchanges.f32-at model_calls-Exchanges.f64-at model_calls-Exchanges.id-at model_calls-Exchanges.rect-at model_calls-Exchanges.if-given model_calls-Exchanges.pass-input model_calls-Exchanges.widget-at model_calls-Exchanges.widgets-at model_calls-Exchanges.hit-at model_calls-Exchanges.hits-at model_calls-Exchanges.interact-input model_calls-Exchanges.answer-words model_calls-Exchanges.index-words model_calls-Exchanges.refusal-words model_calls-Exchanges.passed-words model_calls-Exchanges.ids-words model_calls-Exchanges.snapshot-words model_calls-Exchanges.interacted-words model_calls-Exchanges.record-words model_calls-Exchanges.inserted-words model_calls-Exchanges.slice-of model_calls-Exchanges.with-slice model_calls-Exchanges.overwritten model_calls-Exchanges.lent model_calls-Exchanges.start model_calls-Exchanges.also model_calls-Exchanges.passed model_calls-Exchanges.interacted model_calls-Exchanges.inserted model_calls-Exchanges.inserts-into model_calls-Exchanges.exchange model_calls-Exchanges.exchanges model_calls-Exchanges.check-all
+unfolding model_calls-Exchanges._zeros_ model_calls-Exchanges.word model_calls-Exchanges.f32-at model_calls-Exchanges.f64-at model_calls-Exchanges.id-at model_calls-Exchanges.rect-at model_calls-Exchanges.if-given model_calls-Exchanges.pass-input model_calls-Exchanges.widget-at model_calls-Exchanges.widgets-at model_calls-Exchanges.hit-at model_calls-Exchanges.hits-at model_calls-Exchanges.interact-input model_calls-Exchanges.answer-words model_calls-Exchanges.index-words model_calls-Exchanges.refusal-words model_calls-Exchanges.passed-words model_calls-Exchanges.interacted-words model_calls-Exchanges.record-words model_calls-Exchanges.inserted-words model_calls-Exchanges.slice-of model_calls-Exchanges.with-slice model_calls-Exchanges.overwritten model_calls-Exchanges.lent model_calls-Exchanges.start model_calls-Exchanges.also model_calls-Exchanges.passed model_calls-Exchanges.interacted model_calls-Exchanges.inserted model_calls-Exchanges.inserts-into model_calls-Exchanges.exchange model_calls-Exchanges.exchanges model_calls-Exchanges.check-all
 model_calls-exchanges = Type 0
 
 unfoldable pub model_calls-inputs : Type 1

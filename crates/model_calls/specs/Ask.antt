@@ -2,7 +2,7 @@
 use Prim.Native.Nat.{ℕ, zero, suc, _+_, _*_}
 use mathlib.Core.List.{List, [], _∷_, _++_}
 use lib.ListN.{length, getD}
-use lib.Ieee.{Format, binary32, binary64}
+use lib.Ieee.{binary32, binary64}
 use Rattle.feed.specs.Encode.{id-words}
 use Rattle.model.specs.Types.{PointerButton, Primary, Secondary, Middle, Extra1, Extra2}
 use Rattle.model.specs.Touch.{TouchState}

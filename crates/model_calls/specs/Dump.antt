@@ -4,13 +4,13 @@ use mathlib.Core.Bool.{Bool, _&&_, _||_, cond}
 use mathlib.Core.List.{List, [], _∷_, _++_}
 use lib.Dec.{ltb, eqb}
 use lib.ListN.{length}
-use lib.Ieee.{binary32, binary64}
+use lib.Ieee.{binary64}
 use Rattle.emath.specs.History.{Sample}
 use Rattle.data.specs.Modifiers.{bit-number, modifiers-number}
 use Rattle.data.specs.Numbers.{source-number, status-number, pinch-number}
 use Rattle.feed.specs.Encode.{id-words, pos-words, vec-words, float-word}
 use Rattle.model.specs.Types.{LayerId, WidgetRect, InputOptions, ButtonsDown, WheelState, MaybeF32, no-force, some-force, ActiveTouch, DynGestureState, MaybeDynGestureState, no-state, some-state}
-use Rattle.model.specs.Types.{GestureState, MaybeGestureState, no-gesture, some-gesture}
+use Rattle.model.specs.Types.{MaybeGestureState, no-gesture, some-gesture}
 use Rattle.model.specs.Pointer.{Place, Held, ClickPast}
 use Rattle.model.specs.Touch.{TouchState}
 use Rattle.model.specs.Pass.{Panel, Clock, Screen, Keys, Sums, Interaction}

@@ -4,19 +4,18 @@ use mathlib.Core.Bool.{Bool, true, false, _&&_, cond}
 use mathlib.Core.List.{List, [], _∷_, _++_}
 use mathlib.Core.Option.{Option, none, some}
 use lib.ListN.{length, getD, take, drop, replicate}
-use lib.Ieee.{Float, binary32, binary64, ofBits}
+use lib.Ieee.{Float, binary64, ofBits}
 use Rattle.data.specs.Modifiers.{bit-of, modifiers-of}
 use Rattle.data.specs.Numbers.{pass-refusal-number, pass-refusal-index, interact-refusal-number, interact-refusal-index, insert-refusal-number, insert-refusal-index}
-use Rattle.feed.specs.Encode.{id-words}
 use Rattle.feed.specs.Shape.{id-of, float-of, pos-of}
-use Rattle.model.specs.Types.{Pos2, Rect, InputOptions, LayerId, WidgetRect}
+use Rattle.model.specs.Types.{Rect, LayerId, WidgetRect}
 use Rattle.model.specs.Pass.{Panel, PassInput, Passed, pass, fresh}
 use Rattle.model.specs.Pass as P
 use Rattle.model.specs.Widgets.{WidgetRects, Inserted, insert, get, no-widgets, same-layer}
 use Rattle.model.specs.Widgets as W
-use Rattle.model.specs.Interact.{Hit, InteractInput, InteractionSnapshot, Interacted, interact, with-interaction}
+use Rattle.model.specs.Interact.{Hit, InteractInput, Interacted, interact, with-interaction}
 use Rattle.model.specs.Interact as I
-use Rattle.edges.specs.Words.{same, maybe-id-words}
+use Rattle.edges.specs.Words.{same, snapshot-words}
 use Rattle.model_calls.specs.Ask.{ask-words}
 use Rattle.model_calls.specs.Dump.{Slice, widget-words, dump-words}
 
@@ -136,22 +135,9 @@ unfoldable pub passed-words : Passed → List ℕ
 passed-words (P.refused r) = refusal-words (pass-refusal-number r) (pass-refusal-index r)
 passed-words (P.taken p) = answer-words []
 
-unfoldable pub ids-words : List ℕ → List ℕ
-ids-words [] = []
-ids-words (d ∷ ds) = id-words d ++ ids-words ds
-
-unfoldable pub snapshot-words : InteractionSnapshot → ℕ → List ℕ
-snapshot-words a tally =
-    maybe-id-words (a .clicked)
-    ++ (maybe-id-words (a .long-touched)
-    ++ (maybe-id-words (a .drag-started)
-    ++ (maybe-id-words (a .dragged)
-    ++ (maybe-id-words (a .drag-stopped)
-    ++ (length (a .hovered) ∷ ids-words (a .hovered) ++ (length (a .contains-pointer) ∷ ids-words (a .contains-pointer) ++ (tally ∷ [])))))))
-
 unfoldable pub interacted-words : Interacted → List ℕ
 interacted-words (I.refused r) = refusal-words (interact-refusal-number r) (interact-refusal-index r)
-interacted-words (I.answered a p) = answer-words (snapshot-words a (p .tally))
+interacted-words (I.answered a p) = answer-words (snapshot-words a ++ (p .tally ∷ []))
 
 -- the set's record of a widget
 unfoldable pub record-words : Option WidgetRect → List ℕ
