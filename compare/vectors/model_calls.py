@@ -112,7 +112,7 @@ class Scenario:
     def at(self, time, *events, rect=(0, 0, 640, 480), dt=1 / 60, factor=0.5, ppp=1.0, focused=True, repaint=False,
            line=40.0, speed=1 / 200, dist=6.0, duration=0.8, delay=0.3, zooms=COMMAND, horizontal=SHIFT, vertical=ALT, ask=True):
         bits = (time is not None) | (rect is not None) << 1 | focused << 2 | repaint << 3
-        words = [bits] + f64(time or 0.0) + [f32(dt), f32(factor), f32(ppp)] + [f32(x) for x in rect or (0, 0, 0, 0)]
+        words = [bits] + f64(0.0 if time is None else time) + [f32(dt), f32(factor), f32(ppp)] + [f32(x) for x in rect or (0, 0, 0, 0)]
         words += [f32(line), f32(speed), f32(dist)] + f64(duration) + f64(delay) + [zooms | horizontal << 5 | vertical << 10]
         self.requests.append((PASS, words + [w for e in events for w in e]))
         return self.ask() if ask and self.asks else self
@@ -168,7 +168,7 @@ s.at(1.02, press(10, 10, 1), release(10, 10, 1), press(10, 10, 2), release(10, 1
 
 s = scenario("Clicks", "second-far", "a second click 5, 6 and 7 away, with and without a delay that allows it")
 s.at(1.0, press(0, 0), release(0, 0)).at(1.1, press(3, 4), release(3, 4)).at(1.2, press(3, 10), release(3, 10)).at(1.3, press(10, 10), release(10, 10))
-s.at(1.4, press(10, 10), release(10, 10), delay=0.0).at(1.5, press(10, 10), release(10, 10), dist=0.0).at(1.6, press(10, 10), release(10, 10), delay=3600.0)
+s.at(1.4, press(10, 10), release(10, 10), delay=0.0).at(1.5, press(10, 10), release(10, 10), dist=0.0).at(1.6, press(10, 10), release(10, 10), delay=3600.0, duration=-0.0, dist=-0.0)
 
 s = scenario("Clicks", "moved", "moves of the click distance and over it; back again is too late")
 s.at(1.0, press(10, 10), move(16, 10)).at(1.1, release(16, 10)).at(2.0, press(10, 10)).at(2.1, move(16.001, 10)).at(2.2, move(10, 10)).at(2.3, release(10, 10))
@@ -216,10 +216,10 @@ s.at(1.0, press(100, 100)).at(1.02, move(120, 90)).at(1.04, move(-120.5, -0.0)).
 
 # ---- clock, screen, keys, zoom, rotation
 s = scenario("Inputs", "clock", "times given and absent, a repaint asked for, dt narrowed")
-s.ask().at(None).at(None, dt=1.0).at(5.1, repaint=True).at(5.1, repaint=True, dt=0.0).at(None, dt=0.25, repaint=True).at(1000000.1).at(1000000.2, repaint=True).at(4294967295.5).at(None, dt=0.5)
+s.ask().at(-0.0).at(None, dt=-0.0).at(None).at(None, dt=1.0).at(5.1, repaint=True).at(5.1, repaint=True, dt=0.0).at(None, dt=0.25, repaint=True).at(1000000.1).at(1000000.2, repaint=True).at(4294967295.5).at(None, dt=0.5)
 
 s = scenario("Inputs", "screen", "the rectangle stays where none is given; focus, pixels per point")
-s.at(1.0, rect=None, focused=False).at(1.1, rect=(-5, 7.5, 65536, -65536), ppp=1.5).at(1.2, rect=None, ppp=0.0).at(1.3, ppp=1024.0, focused=False).at(1.4, ppp=3.0).at(1.5, ppp=1e-40)
+s.at(1.0, rect=None, focused=False).at(1.1, rect=(-5, 7.5, 65536, -65536), ppp=1.5).at(1.2, rect=None, ppp=0.0).at(1.3, ppp=1024.0, focused=False).at(1.4, ppp=3.0).at(1.5, ppp=1e-40).at(1.6, ppp=-0.0)
 
 s = scenario("Inputs", "keys", "keys go down, again, up; presses are counted; lost focus clears keys and modifiers")
 s.at(1.0, key(0), key(144), key(31), key(32)).at(1.1, key(0), key(0), key(0, False), key(0)).at(1.2, key(31, False), key(31, False), mods(CTRL | COMMAND)).at(1.3)
@@ -249,8 +249,11 @@ s = scenario("Wheels", "timeouts", "smoothing lasts 0.15 s from the last event; 
 s.at(1.0, wheel(0, 1)).at(1.125).at(1.15).at(1.1500001).at(1.25).at(2.0, wheel(0, 1, flags=SHIFT)).at(2.3, wheel(0, 20, flags=0)).at(2.31).at(2.32).at(2.33).at(2.34).at(2.48).at(2.49)
 s.at(3.0, wheel(0, 0, phase=START, source=TRACKPAD, flags=SHIFT)).at(4.01, wheel(0, 5, source=TRACKPAD)).at(4.1, wheel(0, 0)).at(4.3, wheel(0, 0, phase=START)).at(4.4, wheel(0, 0, phase=START, source=TRACKPAD, flags=ALT))
 
+s = scenario("Wheels", "resting", "only a finger on a trackpad may rest: in touch by a wheel, and smoothing from a trackpad, end after 0.15 s")
+s.at(1.0, wheel(0, 0, phase=START, source=WHEEL, flags=SHIFT)).at(1.125).at(1.1875).dump().at(2.0, wheel(0, 1, source=TRACKPAD, flags=ALT)).at(2.125).at(2.25).dump().at(3.0, wheel(0, 0.01, PAGE)).at(3.1)
+
 s = scenario("Wheels", "zooms-by-wheel", "the wheel zooms where its modifiers match, at its own speed")
-s.at(1.0, wheel(0, 20, flags=CTRL)).at(1.02, wheel(0, 20, flags=COMMAND), speed=0.5).at(1.04, wheel(3, 4, flags=MAC), speed=1.0, zooms=ALT).at(1.06, wheel(3, 4, flags=ALT), speed=0.0, zooms=ALT).at(1.08, mods(CTRL)).at(1.1, wheel(0, 8, flags=CTRL | SHIFT), mods(SHIFT), zoom(2)).at(1.12, mods(ALT)).at(1.5)
+s.at(1.0, wheel(0, 20, flags=CTRL)).at(1.02, wheel(0, 20, flags=COMMAND), speed=0.5).at(1.04, wheel(3, 4, flags=MAC), speed=1.0, zooms=ALT).at(1.06, wheel(3, 4, flags=ALT), speed=0.0, zooms=ALT).at(1.08, mods(CTRL)).at(1.1, wheel(0, 8, flags=CTRL | SHIFT), mods(SHIFT), zoom(2)).at(1.12, mods(ALT)).at(1.5).at(2.0, wheel(0, 20, flags=CTRL), speed=-0.0).at(2.1, wheel(1, 2, LINE), line=-0.0)
 
 # ---- touch
 s = scenario("Touches", "pinch", "two fingers, moved, turned and pinched; a third comes and goes")
@@ -279,6 +282,7 @@ s.at(1.0, move(5, 5)).at(1.1, *[touch(START, 20 - k, 3.3 * k, 100 / (k + 1), 0.1
 s = scenario("Touches", "long-touch", "a finger that presses and stays: the wait for a menu, then a long touch, once")
 s.at(1.0, touch(START, 1, 9, 9), press(9, 9)).at(1.1).at(1.5).at(1.79).at(1.81).at(1.9).at(2.0, touch(END, 1, 9, 9), release(9, 9)).at(2.1)
 s.at(3.0, touch(START, 1, 9, 9), press(9, 9)).at(3.1, touch(MOVE, 1, 30, 9), move(30, 9)).at(3.2).at(3.9).at(4.0, touch(END, 1, 9, 9))
+s.at(5.0, touch(START, 1, 9, 9), press(9, 9), duration=0.75).at(5.75, duration=0.75).at(5.76, duration=0.75).at(6.0, release(9, 9)).at(7.0, press(9, 9)).at(8.0, move(90, 9)).at(8.1)
 
 # ---- refusals of a pass
 s = scenario("Refusals", "own-numbers", "the pass's own numbers outside the domain, by one each; then a time below; all left as before")
@@ -334,6 +338,7 @@ s = scenario("Interacts", "click-spoilt", "held too long or moved too far, the c
 s.widget(7, C)
 s.at(1.0, press(5, 5)).interact(**on).at(2.0).interact(**on).dump().at(2.1, release(5, 5)).interact(**on).at(3.0, press(5, 5)).interact(**on).at(3.1, move(90, 90)).interact().at(3.2, release(90, 90)).interact()
 s.at(4.0, press(5, 5)).interact(**on).at(4.1, press(5, 5, 1), release(5, 5, 1)).interact(**on).at(4.2, release(5, 5), press(5, 5), release(5, 5)).interact(**on)
+s.at(5.0, press(5, 5)).interact(**on).at(5.1, release(5, 5), release(5, 5)).interact(**on)
 
 s = scenario("Interacts", "dragged", "a drag-only widget: starts at its press, stops at the release; release and press in one pass")
 s.widget(7, D)
@@ -399,7 +404,7 @@ s = scenario("Widgets", "updated", "a known id takes new rectangles and the unio
 s.widget(11, C, False, False).widget(11, D, False, True, rect=(-1, -2, 3, 4), inner=(0, 0, 0, 0), parent=9).widget(11, F, True, False, rect=(65536, -65536, -0.0, 0.5)).widget(11, 0, False, False).widget(1 << 63, 5, parent=1 << 40).widget(1 << 63, 2, visible=False)
 
 s = scenario("Widgets", "layers", "layers by order and id, each with its own positions; emptied, all is forgotten")
-s.widget(1, 0, order=4, layer=2).widget(2, 0, order=0, layer=7).widget(3, 0, order=4, layer=2).widget(4, 0, order=4, layer=1).widget(5, 0, order=4, layer=2).widget(1, 0, order=4, layer=2, to_top=True).dump().clear().dump().widget(1, C, order=0, layer=7, places=1)
+s.widget(1, 0, order=4, layer=2).widget(2, 0, order=0, layer=7).widget(3, 0, order=4, layer=2).widget(4, 0, order=4, layer=1).widget(6, 0, order=4, layer=1).widget(5, 0, order=4, layer=2).widget(1, 0, order=4, layer=2, to_top=True).dump().clear().dump().widget(1, C, order=0, layer=7, places=1)
 
 s = scenario("Widgets", "lent-contents", "a slice that holds something else: the set's own record is what counts")
 s.widget(1, C).widget(2, D).widget(1, F, lent=[record(50, 7), record(51, 7)]).dump().widget(3, 0, lent=[record(9, 1, order=2)]).dump().widget(2, C, enabled=False, lent=[record(50, 0)] * 5)

@@ -54,7 +54,7 @@ unfolding model_calls-Touches.pinch model_calls-Touches.pinch-kinds model_calls-
 model_calls-touches = Type 0
 
 unfoldable pub model_calls-wheels : Type 1
-unfolding model_calls-Wheels.units model_calls-Wheels.small model_calls-Wheels.in-touch model_calls-Wheels.timeouts model_calls-Wheels.zooms-by-wheel model_calls-Wheels.table
+unfolding model_calls-Wheels.units model_calls-Wheels.small model_calls-Wheels.in-touch model_calls-Wheels.timeouts model_calls-Wheels.resting model_calls-Wheels.zooms-by-wheel model_calls-Wheels.table
 model_calls-wheels = Type 0
 
 unfoldable pub model_calls-widgets : Type 1
