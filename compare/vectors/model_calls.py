@@ -173,6 +173,8 @@ s.at(1.4, press(10, 10), release(10, 10), delay=0.0).at(1.5, press(10, 10), rele
 s = scenario("Clicks", "moved", "moves of the click distance and over it; back again is too late")
 s.at(1.0, press(10, 10), move(16, 10)).at(1.1, release(16, 10)).at(2.0, press(10, 10)).at(2.1, move(16.001, 10)).at(2.2, move(10, 10)).at(2.3, release(10, 10))
 s.at(3.0, press(10, 10), move(14, 14.5), release(10, 10)).at(4.0, move(90, 90), press(10, 10), release(90, 90))
+# the root rounds to 5, the square is over 25
+s.at(5.0, press(0, 0), move(3.0000002384185791, 4), release(3, 4), dist=5.0)
 
 s = scenario("Clicks", "held", "held 0.8 s, and longer; decidedly dragging once it is over")
 s.at(1.0, press(10, 10)).at(1.5).at(1.8).at(1.81).at(1.9).at(2.0, release(10, 10)).at(2.1)
