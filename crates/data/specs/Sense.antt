@@ -1,0 +1,27 @@
+-- egui's sense.rs, on the number of its bits: 1 CLICK, 2 DRAG, 4 FOCUSABLE.
+use Prim.Native.Nat.{ℕ, _+_, _*_}
+use mathlib.Core.Bool.{Bool, _||_}
+use lib.Dec.{ltb}
+use Rattle.data.specs.Modifiers.{bit-number, bit-of}
+
+-- no "sense bit that `sense.rs` doesn't name"
+unfoldable pub sense-ok : ℕ → Bool
+sense-ok s = ltb s 8
+
+-- `senses_click`, `senses_drag`, `is_focusable`
+unfoldable pub senses-click : ℕ → Bool
+senses-click s = bit-of 1 s
+
+unfoldable pub senses-drag : ℕ → Bool
+senses-drag s = bit-of 2 s
+
+unfoldable pub is-focusable : ℕ → Bool
+is-focusable s = bit-of 4 s
+
+-- `interactive`: clicks or drags
+unfoldable pub interactive : ℕ → Bool
+interactive s = bit-of 1 s || bit-of 2 s
+
+-- "the union of sense": `bitor`, of the bits that sense.rs names
+unfoldable pub sense-or : ℕ → ℕ → ℕ
+sense-or s t = bit-number (bit-of 1 s || bit-of 1 t) + 2 * bit-number (bit-of 2 s || bit-of 2 t) + 4 * bit-number (bit-of 4 s || bit-of 4 t)

@@ -1,0 +1,7 @@
+use mathlib.Core.Path.{refl}
+use Rattle.edges.specs.Cases.{AllPass}
+use Rattle.edges.proofs.Opened.{opened}
+
+pub all-pass : AllPass
+unfolding opened
+all-pass = refl

@@ -1,0 +1,1 @@
+// 01's cases marked P, evaluated on the model. See specs/ and proofs/.

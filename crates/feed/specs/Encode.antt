@@ -1,0 +1,86 @@
+-- The words of an event: what `decode` reads.
+use Prim.Native.Nat.{ℕ, _+_, _*_, _/_, _%_}
+use mathlib.Core.Bool.{Bool, true, false, _&&_}
+use mathlib.Core.List.{List, [], _∷_, _++_}
+use lib.Dec.{ltb}
+use lib.ListN.{take}
+use lib.Ieee.{Float, binary32, toBits}
+use Rattle.data.specs.Limits.{key-count}
+use Rattle.data.specs.Numbers.{button-number, phase-number, unit-number, source-number, kind-number}
+use Rattle.data.specs.Modifiers.{bit-number, modifiers-number}
+use Rattle.feed.specs.Types.{Pos2, Vec2, MaybeF32, no-force, some-force, EventWords}
+use Rattle.feed.specs.Types.{Event, Key, ModifiersChanged, PointerMoved, MouseMoved, Button, PointerGone, Zoom, Rotate, Touch, MouseWheel, WindowFocused, Other}
+
+-- "A float is one word of f32 bits"; NaN is 7FC00000
+unfoldable pub float-word : Float → ℕ
+float-word x = toBits binary32 x
+
+unfoldable pub pos-words : Pos2 → List ℕ
+pos-words p = float-word (p .x) ∷ float-word (p .y) ∷ []
+
+unfoldable pub vec-words : Vec2 → List ℕ
+vec-words v = float-word (v .x) ∷ float-word (v .y) ∷ []
+
+-- low, high
+unfoldable pub id-words : ℕ → List ℕ
+id-words id = id % 0x1_0000_0000 ∷ id / 0x1_0000_0000 ∷ []
+
+abbrev pub force-present : MaybeF32 → ℕ
+force-present no-force = 0
+force-present (some-force x) = 1
+
+unfoldable pub force-words : MaybeF32 → List ℕ
+force-words no-force = []
+force-words (some-force x) = float-word x ∷ []
+
+-- the low bits of the first word
+unfoldable pub fields : Event → ℕ
+fields (Key place pressed) = place + 256 * bit-number pressed
+fields (ModifiersChanged m) = modifiers-number m
+fields (PointerMoved pos) = 0
+fields (MouseMoved delta) = 0
+fields (Button pos b pressed m) = modifiers-number m + 32 * button-number b + 256 * bit-number pressed
+fields PointerGone = 0
+fields (Zoom factor) = 0
+fields (Rotate radians) = 0
+fields (Touch device id phase pos force) = phase-number phase + 4 * force-present force
+fields (MouseWheel unit delta phase source m) = modifiers-number m + 32 * unit-number unit + 128 * phase-number phase + 512 * source-number source
+fields (WindowFocused focused) = bit-number focused
+fields Other = 0
+
+-- the words after the first
+unfoldable pub words-after : Event → List ℕ
+words-after (Key place pressed) = []
+words-after (ModifiersChanged m) = []
+words-after (PointerMoved pos) = pos-words pos
+words-after (MouseMoved delta) = vec-words delta
+words-after (Button pos b pressed m) = pos-words pos
+words-after PointerGone = []
+words-after (Zoom factor) = float-word factor ∷ []
+words-after (Rotate radians) = float-word radians ∷ []
+words-after (Touch device id phase pos force) = id-words device ++ (id-words id ++ (pos-words pos ++ force-words force))
+words-after (MouseWheel unit delta phase source m) = vec-words delta
+words-after (WindowFocused focused) = []
+words-after Other = []
+
+unfoldable pub encode : Event → List ℕ
+encode e = (kind-number e * 0x1000_0000 + fields e) ∷ words-after e
+
+-- the event's numbers are those that a feed can hold: a place in egui's Key, ids of 64 bits
+unfoldable pub fields-ok : Event → Bool
+fields-ok (Key place pressed) = ltb place key-count
+fields-ok (ModifiersChanged m) = true
+fields-ok (PointerMoved pos) = true
+fields-ok (MouseMoved delta) = true
+fields-ok (Button pos b pressed m) = true
+fields-ok PointerGone = true
+fields-ok (Zoom factor) = true
+fields-ok (Rotate radians) = true
+fields-ok (Touch device id phase pos force) = ltb device 0x1_0000_0000_0000_0000 && ltb id 0x1_0000_0000_0000_0000
+fields-ok (MouseWheel unit delta phase source m) = true
+fields-ok (WindowFocused focused) = true
+fields-ok Other = true
+
+-- what the code's struct stands for
+unfoldable pub words-of : EventWords → List ℕ
+words-of w = take (w .count) (w .words)

@@ -1,0 +1,4 @@
+// 01's feed: 32-bit words, an event each few of them.
+pub mod decode;
+pub mod encode;
+pub mod shape;

@@ -1,0 +1,11 @@
+pub mod Types
+pub mod Numbers
+pub mod Options
+pub mod Wheel
+pub mod Touch
+pub mod Pointer
+pub mod Pass
+pub mod Interact
+pub mod Questions
+pub mod Calls
+pub mod Widgets

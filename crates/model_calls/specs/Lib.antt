@@ -1,0 +1,13 @@
+pub mod Ask
+pub mod Dump
+pub mod Exchanges
+pub mod Clicks
+pub mod Places
+pub mod Inputs
+pub mod Wheels
+pub mod Touches
+pub mod Refusals
+pub mod Interacts
+pub mod Widgets
+pub mod Chances
+pub mod Recorded

@@ -1,0 +1,1 @@
+// Calls recorded from egui, evaluated on the model. See specs/ and proofs/.
