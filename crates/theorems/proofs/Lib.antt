@@ -1,2 +1,9 @@
 -- Demand 3 and what every panel reached has, proved. Assumes nothing.
 pub mod Balance
+mod Ids
+mod Devices
+mod Held
+mod Taken
+mod Times
+mod Pointer
+pub mod Reach

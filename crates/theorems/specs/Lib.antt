@@ -1,1 +1,3 @@
 pub mod Balance
+pub mod Reach
+pub mod Clearing
