@@ -7,3 +7,6 @@ mod Taken
 mod Times
 mod Pointer
 pub mod Reach
+mod Trace
+mod Agreeing
+mod ClearingPass
