@@ -24,9 +24,19 @@ use Rattle.theorems.proofs.Taken.{Taken, Answered}
 -- p with another click past, other devices and another tally
 unfoldable pub but-for : Panel → ClickPast → List TouchState → ℕ → Panel
 but-for p b vs n =
-    record
-    { clock = p .clock; screen = p .screen; place = p .place; press = pair (p .press .held) b; started-decidedly-dragging = p .started-decidedly-dragging; touch-states = vs
-    ; wheel = p .wheel; keys = p .keys; sums = p .sums; interaction = p .interaction; tally = n }
+    record {
+      clock = p .clock;
+      screen = p .screen;
+      place = p .place;
+      press = pair (p .press .held) b;
+      started-decidedly-dragging = p .started-decidedly-dragging;
+      touch-states = vs;
+      wheel = p .wheel;
+      keys = p .keys;
+      sums = p .sums;
+      interaction = p .interaction;
+      tally = n;
+    }
 
 -- The relation, for later delays of at most D. `pr` says whether a button event came since the clearing pass, `k` whether a click came from the next taken pass on.
 pub record Agreeing (D tc : Float) (pr k : Bool) (p q : Panel) : Type 0 where
@@ -53,11 +63,14 @@ pub record Together (D tc now : Float) (pr c : Bool) (x y : Press) : Type 0 wher
 
 pub together : (D tc now : Float) (pr c : Bool) (x y : Press) → Kept D tc now pr c x y → Together D tc now pr c x y
 together D tc now pr c x y k =
-    record
-    { held = ap (λ (z : Press). z .held) (k .right) ∙ sym (ap (λ (z : Press). z .held) (k .left)); flag = k .flag; grows = k .grows
-    ; trace =
-        subst (λ (z : Press). Trace D tc now (z .held) (z .past) (y .past) pr (k .flag)) (sym (k .left))
-        (subst (λ (z : Press). Trace D tc now (k .held) (k .a) (z .past) pr (k .flag)) (sym (k .right)) (k .trace)) }
+    record {
+      held = ap (λ (z : Press). z .held) (k .right) ∙ sym (ap (λ (z : Press). z .held) (k .left));
+      flag = k .flag;
+      grows = k .grows;
+      trace =
+          subst (λ (z : Press). Trace D tc now (z .held) (z .past) (y .past) pr (k .flag)) (sym (k .left))
+          (subst (λ (z : Press). Trace D tc now (k .held) (k .a) (z .past) pr (k .flag)) (sym (k .right)) (k .trace));
+    }
 
 press-together : (D tc old now : Float) (o : InputOptions) (es : List Event) (h : Held) (a b : ClickPast) (pr c : Bool) → T (le (o .«max_double_click_delay») D) → T (finite tc) → T (finite now)
     → T (le tc old) → T (le old now) → Unless pr (FirstIsPress D tc now (first-button es)) → Trace D tc old h a b pr c
@@ -85,7 +98,7 @@ begin-but-for : (p : Panel) (i : PassInput) (b : ClickPast) (vs : List TouchStat
     → decidedly-dragging (p .clock) (p .screen) (p .press) ≡ decidedly-dragging (p .clock) (p .screen) (pair (p .press .held) b)
     → begin-pass (but-for p b vs n) i
     ≡ but-for (begin-pass p i) (press-pass (i .options) (time-of i (p .clock .time)) (pass-events i) (pair (p .press .held) b) .past)
-      (touch-pass (time-of i (p .clock .time)) (p .place .interact-pos) (pass-events i) vs) n
+    (touch-pass (time-of i (p .clock .time)) (p .place .interact-pos) (pass-events i) vs) n
 unfolding begin-pass but-for
 begin-but-for p i b vs n D tc pr c t e =
     let o = i .options in
@@ -96,19 +109,29 @@ begin-but-for p i b vs n D tc pr c t e =
     ap (λ (z : Held). is-decidedly-dragging o now z (y .past .has-moved-too-much-for-a-click)) (t .held)
     ∙ sym (decidedly-same D tc now (x .held) (x .past) (y .past) o now pr (t .flag) (t .trace)) in
     let m = begin-pass p i in
-    λ j. record
-    { clock = m .clock; screen = m .screen; place = m .place; press = pair (t .held j) (y .past); started-decidedly-dragging = d j && not (sym e j)
-    ; touch-states = touch-pass now (p .place .interact-pos) (pass-events i) vs; wheel = m .wheel; keys = m .keys; sums = m .sums; interaction = m .interaction; tally = n }
+    λ j. record {
+      clock = m .clock;
+      screen = m .screen;
+      place = m .place;
+      press = pair (t .held j) (y .past);
+      started-decidedly-dragging = d j && not (sym e j);
+      touch-states = touch-pass now (p .place .interact-pos) (pass-events i) vs;
+      wheel = m .wheel;
+      keys = m .keys;
+      sums = m .sums;
+      interaction = m .interaction;
+      tally = n;
+    }
 
 pub agreeing-pass : (i : PassInput) (D tc : Float) (pr k : Bool) (p q p' q' : Panel) → Agreeing D tc pr k p q → Taken p i p' → Taken q i q' → T (le (i .options .«max_double_click_delay») D)
     → T (le (p .clock .time) (time-of i (p .clock .time))) → Unless pr (FirstIsPress D tc (p' .clock .time) (first-button (pass-events i)))
-    → Agreeing D tc (button-came pr (first-button (pass-events i))) (k || any is-click (p' .press .held .pointer-events)) p' q'
+    → Agreeing D tc (button-came pr (first-button (pass-events i))) (any is-click (p' .press .held .pointer-events) || k) p' q'
 unfolding but-for begin-pass clock-pass decidedly-dragging
 agreeing-pass i D tc pr k p q p' q' g tp tq delay later opens =
-    let core : Unless pr (FirstIsPress D tc now (first-button es)) → Agreeing D tc (button-came pr (first-button es)) (k || any is-click (m .press .held .pointer-events)) m q' =
+    let core : Unless pr (FirstIsPress D tc now (first-button es)) → Agreeing D tc (button-came pr (first-button es)) (any is-click (m .press .held .pointer-events) || k) m q' =
     λ u. built (press-together D tc (p .clock .time) now o es (p .press .held) (p .press .past) (g .past) pr (g .flag) delay (g .fin-tc) fin-now (g .from) later u (g .trace)) in
     subst
-    (λ (z : Panel). Unless pr (FirstIsPress D tc (z .clock .time) (first-button es)) → Agreeing D tc (button-came pr (first-button es)) (k || any is-click (z .press .held .pointer-events)) z q')
+    (λ (z : Panel). Unless pr (FirstIsPress D tc (z .clock .time) (first-button es)) → Agreeing D tc (button-came pr (first-button es)) (any is-click (z .press .held .pointer-events) || k) z q')
     (sym (tp .is)) core opens
   where
     o : InputOptions
@@ -136,22 +159,29 @@ agreeing-pass i D tc pr k p q p' q' g tp tq delay later opens =
     is-then t =
         tq .is ∙ ap (λ (z : Panel). begin-pass z i) (g .is)
         ∙ begin-but-for p i (g .past) (g .devices) (g .count) D tc (button-came pr (first-button es)) (g .flag) t
-          (decidedly-same D tc (p .clock .time) (p .press .held) (p .press .past) (g .past) (p .screen .options) (p .clock .pointer-time) pr (g .flag) (g .trace))
+        (decidedly-same D tc (p .clock .time) (p .press .held) (p .press .past) (g .past) (p .screen .options) (p .clock .pointer-time) pr (g .flag) (g .trace))
 
-    flags : (t : Together D tc now (button-came pr (first-button es)) (g .flag) x y) (k' c' : Bool) → (T k' → T (g .flag)) → (T c' → T (t .flag)) → T (k' || c') → T (t .flag)
-    flags t true c' u v x = t .grows (u tt)
-    flags t false c' u v x = v x
+    flags : (t : Together D tc now (button-came pr (first-button es)) (g .flag) x y) (c' : Bool) → (T c' → T (t .flag)) → T (c' || k) → T (t .flag)
+    flags t true v z = v tt
+    flags t false v z = t .grows (g .clicks z)
 
-    built : Together D tc now (button-came pr (first-button es)) (g .flag) x y → Agreeing D tc (button-came pr (first-button es)) (k || any is-click (m .press .held .pointer-events)) m q'
+    built : Together D tc now (button-came pr (first-button es)) (g .flag) x y → Agreeing D tc (button-came pr (first-button es)) (any is-click (m .press .held .pointer-events) || k) m q'
     built t =
-        record
-        { past = y .past; devices = touch-pass now (p .place .interact-pos) es (g .devices); count = g .count; is = is-then t
-        ; same-live = touch-pass-live now (p .place .interact-pos) es (p .touch-states) (g .devices) (g .ascend-p) (g .ascend-q) (g .same-live)
-        ; ascend-p = touch-pass-ascending now (p .place .interact-pos) es (p .touch-states) (g .ascend-p)
-        ; ascend-q = touch-pass-ascending now (p .place .interact-pos) es (g .devices) (g .ascend-q)
-        ; flag = t .flag; trace = t .trace
-        ; clicks = flags t k (any is-click (m .press .held .pointer-events)) (g .clicks) (click-flag D tc now (x .held) (x .past) (y .past) (button-came pr (first-button es)) (t .flag) (t .trace))
-        ; fin-tc = g .fin-tc; timed = fin-now; from = le-trans tc (p .clock .time) now (g .from) later }
+        record {
+          past = y .past;
+          devices = touch-pass now (p .place .interact-pos) es (g .devices);
+          count = g .count;
+          is = is-then t;
+          same-live = touch-pass-live now (p .place .interact-pos) es (p .touch-states) (g .devices) (g .ascend-p) (g .ascend-q) (g .same-live);
+          ascend-p = touch-pass-ascending now (p .place .interact-pos) es (p .touch-states) (g .ascend-p);
+          ascend-q = touch-pass-ascending now (p .place .interact-pos) es (g .devices) (g .ascend-q);
+          flag = t .flag;
+          trace = t .trace;
+          clicks = flags t (any is-click (m .press .held .pointer-events)) (click-flag D tc now (x .held) (x .past) (y .past) (button-came pr (first-button es)) (t .flag) (t .trace));
+          fin-tc = g .fin-tc;
+          timed = fin-now;
+          from = le-trans tc (p .clock .time) now (g .from) later;
+        }
 
 -- ---- what they show
 primary-up : (d : ButtonsDown) → any-down d ≡ false → button-down Primary d ≡ false
@@ -205,19 +235,38 @@ module _ (D tc : Float) (pr k : Bool) (p q : Panel) (g : Agreeing D tc pr k p q)
   shown-same = of-other ∙ ap shown (sym (g .is))
     where
       of-other : shown p ≡ shown other
-      of-other = λ j. record
-        { clock = p .clock; screen = p .screen; place = p .place; held = p .press .held; wheel = p .wheel; keys = p .keys; sums = p .sums; interaction = p .interaction
-        ; could-be-click = could' j; decidedly-dragging = decidedly' j; long-press = long' j; multi-touch = devices-same multi-touch (λ vs a. multi-touch-live vs) j; any-touches = touches' j
-        ; info = λ d. devices-same (λ vs. info-at (find-device d vs)) (λ vs a. info-live d vs a) j; touched = λ d. devices-same (λ vs. any-touches-at (find-device d vs)) (λ vs a. any-touches-at-live d vs a) j }
+      of-other = λ j. record {
+        clock = p .clock;
+        screen = p .screen;
+        place = p .place;
+        held = p .press .held;
+        wheel = p .wheel;
+        keys = p .keys;
+        sums = p .sums;
+        interaction = p .interaction;
+        could-be-click = could' j;
+        decidedly-dragging = decidedly' j;
+        long-press = long' j;
+        multi-touch = devices-same multi-touch (λ vs a. multi-touch-live vs) j;
+        any-touches = touches' j;
+        info = λ d. devices-same (λ vs. info-at (find-device d vs)) (λ vs a. info-live d vs a) j;
+        touched = λ d. devices-same (λ vs. any-touches-at (find-device d vs)) (λ vs a. any-touches-at-live d vs a) j;
+      }
 
   seen-same : seen p ≡ seen q
   unfolding seen but-for other
   seen-same = of-other ∙ ap seen (sym (g .is))
     where
       of-other : seen p ≡ seen other
-      of-other = λ j. record
-        { escape-pressed = has 4 (p .keys .presses); is-long-touch = touches' j && long' j; pointer-events = p .press .held .pointer-events
-        ; is-decidedly-dragging = decidedly' j; could-any-button-be-click = could' j; any-down = any-down (p .press .held .down); has-pointer = has-pos (p .place .latest-pos) }
+      of-other = λ j. record {
+        escape-pressed = has 4 (p .keys .presses);
+        is-long-touch = touches' j && long' j;
+        pointer-events = p .press .held .pointer-events;
+        is-decidedly-dragging = decidedly' j;
+        could-any-button-be-click = could' j;
+        any-down = any-down (p .press .held .down);
+        has-pointer = has-pos (p .place .latest-pos);
+      }
 
   since-click-same : T (g .flag) → ask time-since-last-click p ≡ ask time-since-last-click q
   unfolding ask but-for
@@ -255,9 +304,22 @@ module _ (D tc : Float) (pr k : Bool) (p q : Panel) (g : Agreeing D tc pr k p q)
       let same-snapshot : snapshot (seen p) x (p .interaction) ≡ snapshot (seen q) x (q .interaction) = λ j. snapshot (seen-same j) x (interaction-same j) in
       let same-after : d ≡ interaction-after (seen q) x (q .interaction) = λ j. interaction-after (seen-same j) x (interaction-same j) in
       let e : q' ≡ but-for (with-interaction p d n) (g .past) (g .devices) n' =
-      hq .is ∙ ap (λ (z : Interaction). with-interaction q z n') (sym same-after) ∙ ap (λ (z : Panel). with-interaction z d n') (g .is) in
-      (hp .answer ∙ same-snapshot ∙ sym (hq .answer),
-      subst (λ (z : Panel). Agreeing D tc pr k z q') (sym (hp .is))
-      (record
-      { past = g .past; devices = g .devices; count = n'; is = e; same-live = g .same-live; ascend-p = g .ascend-p; ascend-q = g .ascend-q; flag = g .flag; trace = g .trace; clicks = g .clicks
-      ; fin-tc = g .fin-tc; timed = g .timed; from = g .from }))
+      hq .is ∙ ap (λ (z : Interaction). with-interaction q z n') (sym same-after) ∙ ap (λ (z : Panel). with-interaction z d n') (g .is) in (
+        hp .answer ∙ same-snapshot ∙ sym (hq .answer),
+        subst (λ (z : Panel). Agreeing D tc pr k z q') (sym (hp .is))
+            (record {
+              past = g .past;
+              devices = g .devices;
+              count = n';
+              is = e;
+              same-live = g .same-live;
+              ascend-p = g .ascend-p;
+              ascend-q = g .ascend-q;
+              flag = g .flag;
+              trace = g .trace;
+              clicks = g .clicks;
+              fin-tc = g .fin-tc;
+              timed = g .timed;
+              from = g .from;
+            }),
+      )

@@ -82,9 +82,15 @@ cleared-wheel c tc r = after-events tc (c .smoothing-factor) (stopped-wheel tc (
 
 abbrev cleared-place : Rest → Vec2 → Place
 cleared-place r v =
-    record
-    { latest-pos = no-pos; interact-pos = some-pos (r .pos); delta = vec-zero; motion = some-vec (vec-add vec-zero (r .motion)); velocity = v
-    ; direction = normalized (unwrap-or-default (velocity [])); pos-history = [] }
+    record {
+      latest-pos = no-pos;
+      interact-pos = some-pos (r .pos);
+      delta = vec-zero;
+      motion = some-vec (vec-add vec-zero (r .motion));
+      velocity = v;
+      direction = normalized (unwrap-or-default (velocity []));
+      pos-history = [];
+    }
 
 abbrev cleared-press : List PointerEvent → ClickPast → Press
 cleared-press es a = record { held = record { down = no-buttons; press-origin = no-pos; press-start-time = no-time; pointer-events = es }; past = a }
@@ -92,13 +98,19 @@ cleared-press es a = record { held = record { down = no-buttons; press-origin = 
 -- the panel that it leaves, with what it does not decide and an interaction
 unfoldable pub cleared-panel : PassInput → Float → Rect → Rest → Undecided → Interaction → Panel
 cleared-panel c tc rect r w d =
-    record
-    { clock = record { time = tc; pointer-time = tc; unstable-dt = w .unstable-dt; stable-dt = w .stable-dt; predicted-dt = c .predicted-dt }
-    ; screen = record { viewport-rect = rect; pixels-per-point = c .pixels-per-point; focused = c .focused; options = c .options }
-    ; place = cleared-place r (w .velocity); press = cleared-press (w .pointer-events) (w .past)
-    ; started-decidedly-dragging = w .started-decidedly-dragging; touch-states = w .touch-states; wheel = cleared-wheel c tc r
-    ; keys = record { keys-down = []; modifiers = no-modifiers; presses = []; feed-empty = false }
-    ; sums = sums-of (c .options) [] (cleared-wheel c tc r); interaction = d; tally = w .tally }
+    record {
+      clock = record { time = tc; pointer-time = tc; unstable-dt = w .unstable-dt; stable-dt = w .stable-dt; predicted-dt = c .predicted-dt };
+      screen = record { viewport-rect = rect; pixels-per-point = c .pixels-per-point; focused = c .focused; options = c .options };
+      place = cleared-place r (w .velocity);
+      press = cleared-press (w .pointer-events) (w .past);
+      started-decidedly-dragging = w .started-decidedly-dragging;
+      touch-states = w .touch-states;
+      wheel = cleared-wheel c tc r;
+      keys = record { keys-down = []; modifiers = no-modifiers; presses = []; feed-empty = false };
+      sums = sums-of (c .options) [] (cleared-wheel c tc r);
+      interaction = d;
+      tally = w .tally;
+    }
 
 -- ---- part by part
 delta-gone : (a : MaybePos2) → delta-of a no-pos ≡ vec-zero
@@ -117,9 +129,15 @@ place-rest : (time : Float) (r : Rest) (l : Place)
 unfolding end-place finish-place place-events place-event with-place start-place
 place-rest time r l =
     let q = end-place time (l .latest-pos) true (place-events (rest-events r) (start-place l)) in
-    λ j. record
-    { latest-pos = no-pos; interact-pos = some-pos (r .pos); delta = delta-gone (l .latest-pos) j; motion = motion-only (r .motion) (l .motion) j; velocity = q .velocity
-    ; direction = normalized (unwrap-or-default (velocity [])); pos-history = [] }
+    λ j. record {
+      latest-pos = no-pos;
+      interact-pos = some-pos (r .pos);
+      delta = delta-gone (l .latest-pos) j;
+      motion = motion-only (r .motion) (l .motion) j;
+      velocity = q .velocity;
+      direction = normalized (unwrap-or-default (velocity []));
+      pos-history = [];
+    }
 
 place-clears : (time : Float) (es : List TouchEnd) (r : Rest) (l : Place) → place-pass time (ends-then es (rest-events r)) l ≡ cleared-place r (place-pass time (ends-then es (rest-events r)) l .velocity)
 unfolding place-pass clear-history-after
@@ -157,19 +175,29 @@ keys-clear es r s =
 sums-clear : (o : InputOptions) (es : List TouchEnd) (r : Rest) (w : WheelState) → sums-of o (ends-then es (rest-events r)) w ≡ sums-of o [] w
 unfolding sums-of zoom-of zoom-event rotation-of rotation-event
 sums-clear o es r w =
-    λ j. record
-    { zoom-factor = zoom-ends es (rest-events r) one j; zoom-exponent = sums-of o [] w .zoom-exponent; rotation-radians = rotation-ends es (rest-events r) +0 j
-    ; smooth-scroll-delta = sums-of o [] w .smooth-scroll-delta }
+    λ j. record {
+      zoom-factor = zoom-ends es (rest-events r) one j;
+      zoom-exponent = sums-of o [] w .zoom-exponent;
+      rotation-radians = rotation-ends es (rest-events r) +0 j;
+      smooth-scroll-delta = sums-of o [] w .smooth-scroll-delta;
+    }
 
 -- ---- the pass as a whole
 unfoldable pub undecided-of : Panel → Undecided
 undecided-of q =
-    record
-    { unstable-dt = q .clock .unstable-dt; stable-dt = q .clock .stable-dt; velocity = q .place .velocity; pointer-events = q .press .held .pointer-events; past = q .press .past
-    ; started-decidedly-dragging = q .started-decidedly-dragging; touch-states = q .touch-states; tally = q .tally }
+    record {
+      unstable-dt = q .clock .unstable-dt;
+      stable-dt = q .clock .stable-dt;
+      velocity = q .place .velocity;
+      pointer-events = q .press .held .pointer-events;
+      past = q .press .past;
+      started-decidedly-dragging = q .started-decidedly-dragging;
+      touch-states = q .touch-states;
+      tally = q .tally;
+    }
 
 module _ (p : Panel) (c : PassInput) (tc : Float) (rect : Rect) (es : List TouchEnd) (r : Rest)
-  (gives-time : c .time ≡ some tc) (gives-rect : c .screen-rect ≡ some rect) (feed : pass-events c ≡ map end-event es ++ rest-events r) where
+    (gives-time : c .time ≡ some tc) (gives-rect : c .screen-rect ≡ some rect) (feed : pass-events c ≡ map end-event es ++ rest-events r) where
   pub time-is : time-of c (p .clock .time) ≡ tc
   unfolding time-of time-or
   time-is = rw gives-time
@@ -201,11 +229,19 @@ module _ (p : Panel) (c : PassInput) (tc : Float) (rect : Rect) (es : List Touch
   pub pass-clears : begin-pass p c ≡ cleared-panel c tc rect r (undecided-of (begin-pass p c)) (p .interaction)
   unfolding cleared-panel undecided-of begin-pass clock-pass screen-pass
   pass-clears = λ j.
-      record
-      { clock = record { time = time-is j; pointer-time = time-is j; unstable-dt = begin-pass p c .clock .unstable-dt; stable-dt = begin-pass p c .clock .stable-dt; predicted-dt = c .predicted-dt }
-      ; screen = record { viewport-rect = rect-is j; pixels-per-point = c .pixels-per-point; focused = c .focused; options = c .options }
-      ; place = place-cleared j; press = press-cleared j; started-decidedly-dragging = begin-pass p c .started-decidedly-dragging; touch-states = begin-pass p c .touch-states
-      ; wheel = wheel-cleared j; keys = keys-cleared j; sums = sums-cleared j; interaction = p .interaction; tally = p .tally }
+      record {
+        clock = record { time = time-is j; pointer-time = time-is j; unstable-dt = begin-pass p c .clock .unstable-dt; stable-dt = begin-pass p c .clock .stable-dt; predicted-dt = c .predicted-dt };
+        screen = record { viewport-rect = rect-is j; pixels-per-point = c .pixels-per-point; focused = c .focused; options = c .options };
+        place = place-cleared j;
+        press = press-cleared j;
+        started-decidedly-dragging = begin-pass p c .started-decidedly-dragging;
+        touch-states = begin-pass p c .touch-states;
+        wheel = wheel-cleared j;
+        keys = keys-cleared j;
+        sums = sums-cleared j;
+        interaction = p .interaction;
+        tally = p .tally;
+      }
 
 -- ---- the Ends leave no touch
 other-device : (a b x : Bool) → a ≡ false → T ((a && b) || x) → T x
@@ -240,10 +276,11 @@ ends-step : (e : TouchEnd) (es : List TouchEnd) (vs : List TouchState) → Ascen
 unfolding touch-event at-device touch-device on-touch new-device remove-touch
 ends-step e es [] a h = (tt, tt)
 ends-step e es (v ∷ vs) a h =
-    elim (order (e .device-id) (v .device-id))
-    [ less l ↦ rw (at-less (e .device-id) (touch-device End t) v vs l) (tt, ends-above e es (v ∷ vs) (l, above-down device-id-of (e .device-id) (v .device-id) vs l (a .0)) h)
-    | equal x ↦ rw (at-same (e .device-id) (touch-device End t) v vs x) (ends-removed e es (v .device-id) (v .active-touches) (h .0), ends-above e es vs (rw x (a .0)) (h .1))
-    | more l ↦ rw (at-more (e .device-id) (touch-device End t) v vs l) (ends-other e es (v .device-id) (v .active-touches) (λ x. omega arith) (h .0), ends-step e es vs (a .1) (h .1)) ]
+    elim (order (e .device-id) (v .device-id)) [
+      | less l ↦ rw (at-less (e .device-id) (touch-device End t) v vs l) (tt, ends-above e es (v ∷ vs) (l, above-down device-id-of (e .device-id) (v .device-id) vs l (a .0)) h)
+      | equal x ↦ rw (at-same (e .device-id) (touch-device End t) v vs x) (ends-removed e es (v .device-id) (v .active-touches) (h .0), ends-above e es vs (rw x (a .0)) (h .1))
+      | more l ↦ rw (at-more (e .device-id) (touch-device End t) v vs l) (ends-other e es (v .device-id) (v .active-touches) (λ x. omega arith) (h .0), ends-step e es vs (a .1) (h .1))
+    ]
   where
     t : ActiveTouch
     t = record { id = e .id; pos = e .pos; force = e .force }

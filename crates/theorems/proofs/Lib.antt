@@ -10,3 +10,6 @@ pub mod Reach
 mod Trace
 mod Agreeing
 mod ClearingPass
+mod Cleared
+mod Doubles
+pub mod Clearing

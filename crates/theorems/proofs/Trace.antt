@@ -62,11 +62,11 @@ pub data Trace (D tc now : Float) (h : Held) (a b : ClickPast) : Bool → Bool �
   unpressed : NoButton h → NotAfter tc (a .last-click-time) → NotAfter tc (b .last-click-time) → Trace D tc now h a b false false
   -- from it to the first click: the last clicks, too long ago for a double click
   pressed : (t : Float) → Times D tc t now → any is-click (h .pointer-events) ≡ false → a .has-moved-too-much-for-a-click ≡ b .has-moved-too-much-for-a-click
-    → NotAfter tc (a .last-click-time) → NotAfter tc (b .last-click-time) → Trace D tc now h a b true false
+      → NotAfter tc (a .last-click-time) → NotAfter tc (b .last-click-time) → Trace D tc now h a b true false
   -- from that to the next click: the click before the last, too long ago for a triple click
   clicked : a .has-moved-too-much-for-a-click ≡ b .has-moved-too-much-for-a-click → a .last-click-pos ≡ b .last-click-pos → a .last-click-time ≡ b .last-click-time
-    → T (le D (sub binary64 (a .last-click-time) (a .last-last-click-time))) → T (le D (sub binary64 (b .last-click-time) (b .last-last-click-time)))
-    → Trace D tc now h a b true true
+      → T (le D (sub binary64 (a .last-click-time) (a .last-last-click-time))) → T (le D (sub binary64 (b .last-click-time) (b .last-last-click-time)))
+      → Trace D tc now h a b true true
   -- from then on, nothing
   equal : a ≡ b → Trace D tc now h a b true true
 
@@ -97,9 +97,16 @@ any-more f (g ∷ es) e h k = go (f g) h (any-more f es e)
 module _ (D tc now : Float) (o : InputOptions) (delay : T (le (o .«max_double_click_delay») D)) where
   same-past : (h : Held) (a b : ClickPast) (f : Press → Press) → a ≡ b → Kept D tc now true true (f (pair h a)) (f (pair h b))
   same-past h a b f e =
-      record
-      { held = f (pair h a) .held; a = f (pair h a) .past; b = f (pair h a) .past; left = refl; right = ap (λ (z : ClickPast). f (pair h z)) (sym e)
-      ; flag = true; grows = λ t. t; trace = equal refl }
+      record {
+        held = f (pair h a) .held;
+        a = f (pair h a) .past;
+        b = f (pair h a) .past;
+        left = refl;
+        right = ap (λ (z : ClickPast). f (pair h z)) (sym e);
+        flag = true;
+        grows = λ t. t;
+        trace = equal refl;
+      }
 
   unchanged : (h : Held) (a b : ClickPast) (pr c : Bool) → Trace D tc now h a b pr c → Kept D tc now pr c (pair h a) (pair h b)
   unchanged h a b pr c t = record { held = h; a = a; b = b; left = refl; right = refl; flag = c; grows = λ x. x; trace = t }
@@ -108,24 +115,43 @@ module _ (D tc now : Float) (o : InputOptions) (delay : T (le (o .«max_double_c
       → Kept D tc now true c (press-event o now (PointerMoved v) (pair h a)) (press-event o now (PointerMoved v) (pair h b))
   unfolding press-event add-event with-moved is-click
   move-step h a b v c (pressed t times none-yet m la lb) =
-      record
-      { held = add-event (Moved v) h; a = with-moved (a .has-moved-too-much-for-a-click || too-far o v (h .press-origin)) a; b = with-moved (b .has-moved-too-much-for-a-click || too-far o v (h .press-origin)) b
-      ; left = refl; right = refl; flag = false; grows = λ x. x
-      ; trace = pressed t times (any-more is-click (h .pointer-events) (Moved v) none-yet refl) (ap (λ (z : Bool). z || too-far o v (h .press-origin)) m) la lb }
+      record {
+        held = add-event (Moved v) h;
+        a = with-moved (a .has-moved-too-much-for-a-click || too-far o v (h .press-origin)) a;
+        b = with-moved (b .has-moved-too-much-for-a-click || too-far o v (h .press-origin)) b;
+        left = refl;
+        right = refl;
+        flag = false;
+        grows = λ x. x;
+        trace = pressed t times (any-more is-click (h .pointer-events) (Moved v) none-yet refl) (ap (λ (z : Bool). z || too-far o v (h .press-origin)) m) la lb;
+      }
   move-step h a b v c (clicked m s l x y) =
-      record
-      { held = add-event (Moved v) h; a = with-moved (a .has-moved-too-much-for-a-click || too-far o v (h .press-origin)) a; b = with-moved (b .has-moved-too-much-for-a-click || too-far o v (h .press-origin)) b
-      ; left = refl; right = refl; flag = true; grows = λ x. x
-      ; trace = clicked (ap (λ (z : Bool). z || too-far o v (h .press-origin)) m) s l x y }
+      record {
+        held = add-event (Moved v) h;
+        a = with-moved (a .has-moved-too-much-for-a-click || too-far o v (h .press-origin)) a;
+        b = with-moved (b .has-moved-too-much-for-a-click || too-far o v (h .press-origin)) b;
+        left = refl;
+        right = refl;
+        flag = true;
+        grows = λ x. x;
+        trace = clicked (ap (λ (z : Bool). z || too-far o v (h .press-origin)) m) s l x y;
+      }
   move-step h a b v c (equal e) = same-past h a b (press-event o now (PointerMoved v)) e
 
   press-step : (h : Held) (a b : ClickPast) (v : Pos2) (u : PointerButton) (m : Modifiers) (c : Bool) → Trace D tc now h a b true c
       → Kept D tc now true c (press-event o now (Button v u true m) (pair h a)) (press-event o now (Button v u true m) (pair h b))
   unfolding press-event press-button with-moved is-click
   press-step h a b v u m c (pressed t times none-yet _ la lb) =
-      record
-      { held = press-button u now v h; a = with-moved false a; b = with-moved false b; left = refl; right = refl; flag = false; grows = λ x. x
-      ; trace = pressed t times (any-more is-click (h .pointer-events) (Pressed v u) none-yet refl) refl la lb }
+      record {
+        held = press-button u now v h;
+        a = with-moved false a;
+        b = with-moved false b;
+        left = refl;
+        right = refl;
+        flag = false;
+        grows = λ x. x;
+        trace = pressed t times (any-more is-click (h .pointer-events) (Pressed v u) none-yet refl) refl la lb;
+      }
   press-step h a b v u m c (clicked _ s l x y) =
       record { held = press-button u now v h; a = with-moved false a; b = with-moved false b; left = refl; right = refl; flag = true; grows = λ x. x; trace = clicked refl s l x y }
   press-step h a b v u m c (equal e) = same-past h a b (press-event o now (Button v u true m)) e
@@ -140,30 +166,54 @@ module _ (D tc now : Float) (o : InputOptions) (delay : T (le (o .«max_double_c
       → T (le D (sub binary64 (b .last-click-time) (b .last-last-click-time))) → click-count o now v a ≡ click-count o now v b
   unfolding click-count
   no-third v a b s l x y =
-      rw
-      (not-sooner (o .«max_double_click_delay») D (sub binary64 (a .last-click-time) (a .last-last-click-time)) delay x,
-      not-sooner (o .«max_double_click_delay») D (sub binary64 (b .last-click-time) (b .last-last-click-time)) delay y, s, l)
+      rw (
+        not-sooner (o .«max_double_click_delay») D (sub binary64 (a .last-click-time) (a .last-last-click-time)) delay x,
+        not-sooner (o .«max_double_click_delay») D (sub binary64 (b .last-click-time) (b .last-last-click-time)) delay y,
+        s,
+        l,
+      )
 
   release-as : (cl : Bool) (h : Held) (a b : ClickPast) (v : Pos2) (u : PointerButton) (m : Modifiers) (c : Bool) → Trace D tc now h a b true c
       → Kept D tc now true c (release cl o now v m u (pair h a)) (release cl o now v m u (pair h b))
   unfolding release release-button remember-click click-of is-click
   release-as cl h a b v u m c (equal e) = same-past h a b (release cl o now v m u) e
   release-as false h a b v u m c (pressed t times none-yet e la lb) =
-      record
-      { held = release-button u no-click h; a = a; b = b; left = refl; right = refl; flag = false; grows = λ x. x
-      ; trace = pressed t times (any-more is-click (h .pointer-events) (Released no-click u) none-yet refl) e la lb }
+      record {
+        held = release-button u no-click h;
+        a = a;
+        b = b;
+        left = refl;
+        right = refl;
+        flag = false;
+        grows = λ x. x;
+        trace = pressed t times (any-more is-click (h .pointer-events) (Released no-click u) none-yet refl) e la lb;
+      }
   release-as true h a b v u m c (pressed t times none-yet e la lb) =
       let x = far-apart D tc t now (a .last-click-time) times la in
       let y = far-apart D tc t now (b .last-click-time) times lb in
-      record
-      { held = release-button u (some-click (record { pos = v; count = 1; modifiers = m })) h; a = remember-click true now v a; b = remember-click true now v b
-      ; left = rw (one-click v a x); right = rw (one-click v b y); flag = true; grows = λ x. tt; trace = clicked e refl refl x y }
+      record {
+        held = release-button u (some-click (record { pos = v; count = 1; modifiers = m })) h;
+        a = remember-click true now v a;
+        b = remember-click true now v b;
+        left = rw (one-click v a x);
+        right = rw (one-click v b y);
+        flag = true;
+        grows = λ x. tt;
+        trace = clicked e refl refl x y;
+      }
   release-as false h a b v u m c (clicked e s l x y) =
       record { held = release-button u no-click h; a = a; b = b; left = refl; right = refl; flag = true; grows = λ x. x; trace = clicked e s l x y }
   release-as true h a b v u m c (clicked e s l x y) =
-      record
-      { held = release-button u (some-click (record { pos = v; count = click-count o now v a; modifiers = m })) h; a = remember-click true now v a; b = remember-click true now v b
-      ; left = refl; right = rw (no-third v a b s l x y); flag = true; grows = λ x. x; trace = equal (rw (e, l)) }
+      record {
+        held = release-button u (some-click (record { pos = v; count = click-count o now v a; modifiers = m })) h;
+        a = remember-click true now v a;
+        b = remember-click true now v b;
+        left = refl;
+        right = rw (no-third v a b s l x y);
+        flag = true;
+        grows = λ x. x;
+        trace = equal (rw (e, l));
+      }
 
   moved-same : (h : Held) (a b : ClickPast) (c : Bool) → Trace D tc now h a b true c → a .has-moved-too-much-for-a-click ≡ b .has-moved-too-much-for-a-click
   moved-same h a b c (pressed t times none-yet m la lb) = m
@@ -208,9 +258,11 @@ module _ (D tc now : Float) (o : InputOptions) (delay : T (le (o .«max_double_c
     moved-on : (h : Held) (v : Pos2) → NoButton h → NoButton (add-event (Moved v) h)
     unfolding add-event is-click is-release
     moved-on h v q =
-        record
-        { none-down = q .none-down; no-release = any-more is-release (h .pointer-events) (Moved v) (q .no-release) refl
-        ; no-click = any-more is-click (h .pointer-events) (Moved v) (q .no-click) refl }
+        record {
+          none-down = q .none-down;
+          no-release = any-more is-release (h .pointer-events) (Moved v) (q .no-release) refl;
+          no-click = any-more is-click (h .pointer-events) (Moved v) (q .no-click) refl;
+        }
 
     first-pressed : (h : Held) (a b : ClickPast) (v : Pos2) (u : PointerButton) → NoButton h → NotAfter tc (a .last-click-time) → NotAfter tc (b .last-click-time) → T (le D (sub binary64 now tc))
         → Trace D tc now (press-button u now v h) (with-moved false a) (with-moved false b) true false
@@ -228,7 +280,7 @@ module _ (D tc now : Float) (o : InputOptions) (delay : T (le (o .«max_double_c
       where
         go : {e : Event} → PointerView e → FirstIsPress D tc now (first-button (e ∷ es))
             → ((h : Held) (a b : ClickPast) → NoButton h → NotAfter tc (a .last-click-time) → NotAfter tc (b .last-click-time) → FirstIsPress D tc now (first-button es)
-              → Kept D tc now (button-came false (first-button es)) false (press-events o now es (pair h a)) (press-events o now es (pair h b)))
+            → Kept D tc now (button-came false (first-button es)) false (press-events o now es (pair h a)) (press-events o now es (pair h b)))
             → Kept D tc now (button-came false (first-button (e ∷ es))) false (press-events o now es (press-event o now e (pair h a))) (press-events o now es (press-event o now e (pair h b)))
         go (a-move v) p ih =
             ih (add-event (Moved v) h) (with-moved (a .has-moved-too-much-for-a-click || too-far o v (h .press-origin)) a) (with-moved (b .has-moved-too-much-for-a-click || too-far o v (h .press-origin)) b)

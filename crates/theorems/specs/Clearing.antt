@@ -205,8 +205,8 @@ When false A = Unit {0}
 abbrev pub Alike : Bool → Bool → Panel → Panel → List Call → Type 0
 Alike n k p q [] = Unit {0}
 Alike n k p q (c ∷ cs) =
-    When (n || is-passed (call p c)) (Same (k || has-click (call p c)) p q (call p c) (call q c))
-    × Alike (n || is-passed (call p c)) (k || has-click (call p c)) (after p (call p c)) (after q (call q c)) cs
+    When (is-passed (call p c) || n) (Same (has-click (call p c) || k) p q (call p c) (call q c))
+    × Alike (is-passed (call p c) || n) (has-click (call p c) || k) (after p (call p c)) (after q (call q c)) cs
 
 -- ---- the whole
 
