@@ -7,8 +7,12 @@ mod Isqrt
 mod Rooting
 mod Radicands
 mod Special
+mod Units
+mod RoundOrder
+mod RootOrder
+pub mod NearestNarrow
 pub mod NearestRoot
-pub mod Differences
 pub mod Order
+pub mod Exact
 pub mod Monotone
-pub mod NarrowOrder
+pub mod Differences

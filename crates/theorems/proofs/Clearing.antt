@@ -10,6 +10,7 @@ use lib.Ieee.{Float, binary64, sub, le, ofBits}
 use lib.Ieee.Fits.{and-r}
 use lib.Ieee.Scale.{finite}
 use Rattle.ieee.proofs.Order.{le-trans, le-refl}
+use Rattle.ieee.proofs.Monotone.{add-up}
 use Rattle.data.specs.Limits.{max-events, max-duration, length-ok, unit-interval-ok, duration-ok, options-ok}
 use Rattle.feed.specs.Decode.{Decoded, good, malformed, outside-domain, Item, items}
 use Rattle.model.specs.Types.{Rect, InputOptions, PassRefusal, Malformed, OutsideDomain, TimeBelow, TooManyEvents, NoPlace, InteractRefusal}
@@ -22,7 +23,6 @@ use Rattle.model.specs.Calls.{Call, passes, interacts, Outcome, refused-pass, r
 use Rattle.theorems.specs.Reach.{Reached}
 use Rattle.theorems.specs.Clearing.{Rest, Clears, Takes, FirstIsPress, Unless, first-button, button-came, is-refused, Fair, done, both-refused, both-passed, both-answered}
 use Rattle.theorems.specs.Clearing.{is-no-place, SameAnswer, same-pass-refusal, same-interact-refusal, both-taken, same-snapshot, Same, is-passed, has-click, When, Alike, may-differ, twice, Clearing}
-use Rattle.theorems.proofs.Doubles.{add-up}
 use Rattle.theorems.proofs.Times.{InRange, in-range, time-in-range}
 use Rattle.theorems.proofs.Taken.{Taken, passed-is, Answered, answered-is, CallView, pass-refused, pass-taken, interact-refused, interact-taken, call-view}
 use Rattle.theorems.proofs.Reach.{pass-later, pass-reaches, interact-reaches, reach}
@@ -204,7 +204,7 @@ fixed-within o tc b p q cs n (both-passed {i = i} {cs = ds} p' q' x y e u f) =
     let fb = first-button (pass-events i) in
     let D = o .«max_double_click_delay» in
     both-passed p' q' x y (subst (λ (z : InputOptions). T (le (z .«max_double_click_delay») D)) (sym e) (le-refl D (n .is-finite)))
-    (sooner b fb (add-up D D (n .fits-64) (n .is-finite) (n .is-finite) (n .from-zero) (n .from-zero)) u) (fixed-within o tc (button-came b fb) p' q' ds n f)
+    (sooner b fb (add-up binary64 D D (n .fits-64) (n .is-finite) (n .from-zero)) u) (fixed-within o tc (button-came b fb) p' q' ds n f)
   where
     sooner : (b : Bool) (f : Option Bool) → T (le (o .«max_double_click_delay») (twice (o .«max_double_click_delay»))) → Unless b (FirstIsPress (twice (o .«max_double_click_delay»)) tc (p' .clock .time) f)
         → Unless b (FirstIsPress (o .«max_double_click_delay») tc (p' .clock .time) f)

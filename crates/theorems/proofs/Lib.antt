@@ -11,5 +11,4 @@ mod Trace
 mod Agreeing
 mod ClearingPass
 mod Cleared
-mod Doubles
 pub mod Clearing

@@ -1,34 +1,36 @@
--- `ieee::sqrt::root_digits` meets its contract. The invariant of its loop: root * root + rem is the part of the radicand taken in, and rem is at most 2 * root, so that root is that part's whole root.
--- The measure is how many digits are left. Assumes nothing.
+-- `ieee::sqrt::root_digits` meets its contract. The invariant of its loop is `Recurrence`, of specs/, and the measure is how many digits are left. Assumes nothing.
 use mathlib.Core.Path.{_≡_, sym, ap, _∙_, subst}
 use mathlib.Core.Logic.{⊎-elim}
 use Prim.Native.Nat.{ℕ, _+_, _-_, _*_, _/_, _%_, _^_, _≤_, _<_}
-use native.Mathlib.Nat.{le-antisymm, lt-suc-self, mul-assoc, mul-comm, pow-suc, pow-succ'}
+use native.Mathlib.Nat.{le-antisymm, lt-suc-self, mod-lt, div-add-mod', mul-assoc, mul-comm, pow-suc, pow-succ'}
 use native.Mathlib.Numerals.{add-one}
 use native.Mathlib.Omega.{arith}
-use lib.Arith.{digits-div}
-use lib.Pow.{pow-mono}
+use lib.Arith.{digits-div, digits-mod}
+use lib.Pow.{pow-mono, pow-pos}
 use Rattle.ieee.specs.Sqrt.{isqrt}
-use Rattle.ieee.proofs.Isqrt.{IsRoot, isqrt-unique, turn-zero, turn-one, taken, root-rem}
+use Rattle.ieee.specs.Recurrence.{taken, Recurrence}
+use Rattle.ieee.proofs.Isqrt.{IsRoot, isqrt-unique, turn-zero, turn-one, next-digits, root-rem}
 use Rattle.ieee.proofs.sqrt.root_digits.Statement.{statement}
 use Rattle.ieee.proofs.sqrt.root_digits.Tie as tie
 
--- i digits of the root are found
-pub record Found (d n left rem root i : ℕ) : Type 0 where
-  pub turns : i ≤ n
-  pub small : rem ≤ 2 * root
-  pub digits : root < 2 ^ i
-  pub word : left < 2 ^ 64
-  pub whole : (root * root + rem) * 2 ^ 64 + left ≡ d * 4 ^ i
-
 abbrev Inv-loop : tie.InvT-loop
-Inv-loop d n left₀ rem₀ root₀ i₀ left rem root i = Found d n left rem root i
+Inv-loop d n left₀ rem₀ root₀ i₀ left rem root i = Recurrence d n left rem root i
 
 abbrev μ-loop : tie.MeasureT-loop
 μ-loop d n left₀ rem₀ root₀ i₀ left rem root i = n - i
 
+-- d * 4 ^ i, whose upper part is taken in and whose lower word is left
+whole : {d n left rem root i : ℕ} → Recurrence d n left rem root i → (root * root + rem) * 2 ^ 64 + left ≡ d * 4 ^ i
+whole {d} {n} {left} {rem} {root} {i} f = ap (λ (x : ℕ). x * 2 ^ 64 + left) (f .sum) ∙ ap (λ (x : ℕ). taken d i * 2 ^ 64 + x) (f .rest) ∙ div-add-mod' (d * 4 ^ i) (2 ^ 64)
+
+word : {d n left rem root i : ℕ} → Recurrence d n left rem root i → left < 2 ^ 64
+word {d} {n} {left} {rem} {root} {i} f = subst (λ (x : ℕ). x < 2 ^ 64) (sym (f .rest)) (mod-lt (d * 4 ^ i) (pow-pos 64))
+
+parts : (s left u : ℕ) → s * 2 ^ 64 + left ≡ u → left < 2 ^ 64 → (s ≡ u / 2 ^ 64) × (left ≡ u % 2 ^ 64)
+parts s left u e h = (sym (ap (λ (x : ℕ). x / 2 ^ 64) (sym e) ∙ digits-div s h), sym (ap (λ (x : ℕ). x % 2 ^ 64) (sym e) ∙ digits-mod s h))
+
 -- within the loop
-bound : {d n left rem root i : ℕ} → Found d n left rem root i → i < n → n ≤ 54 → root < 2 ^ 53
+bound : {d n left rem root i : ℕ} → Recurrence d n left rem root i → i < n → n ≤ 54 → root < 2 ^ 53
 bound {n = n} {root = root} {i = i} f h k =
     let a : root < 2 ^ i = f .digits in
     let b : 2 ^ i ≤ 2 ^ 53 = pow-mono {i = i} {j = 53} (omega arith) in
@@ -40,45 +42,41 @@ next-power i = ap (λ (x : ℕ). 2 ^ x) (add-one i) ∙ pow-succ' 2 i
 next-four : (d i : ℕ) → d * 4 ^ i * 4 ≡ d * 4 ^ (i + 1)
 next-four d i = mul-assoc d (4 ^ i) 4 ∙ ap (λ (x : ℕ). d * x) (sym (pow-suc 4 i) ∙ ap (λ (x : ℕ). 4 ^ x) (sym (add-one i)))
 
-step-zero : (d n left rem root i : ℕ) → Found d n left rem root i → i < n → rem * 4 + left / 2 ^ 62 < root * 4 + 1 → Found d n (left % 2 ^ 62 * 4) (rem * 4 + left / 2 ^ 62) (root * 2) (i + 1)
+step-zero : (d n left rem root i : ℕ) → Recurrence d n left rem root i → i < n → rem * 4 + left / 2 ^ 62 < root * 4 + 1 → Recurrence d n (left % 2 ^ 62 * 4) (rem * 4 + left / 2 ^ 62) (root * 2) (i + 1)
 step-zero d n left rem root i f h t =
-    let e = next-power i in record {
-      turns = omega arith;
-      small = omega arith;
-      digits = omega (arith, f .digits);
-      word = omega arith;
-      whole =
-          ap (λ (x : ℕ). x * 2 ^ 64 + left % 2 ^ 62 * 4) (ap (λ (x : ℕ). x * x + (rem * 4 + left / 2 ^ 62)) (mul-comm root 2) ∙ turn-zero root rem (left / 2 ^ 62))
-          ∙ taken (root * root + rem) left (d * 4 ^ i) (f .whole)
-          ∙ next-four d i;
-    }
+    let e = next-power i in
+    let w = word f in
+    let k = parts (root * 2 * (root * 2) + (rem * 4 + left / 2 ^ 62)) (left % 2 ^ 62 * 4) (d * 4 ^ (i + 1))
+    (ap (λ (x : ℕ). x * 2 ^ 64 + left % 2 ^ 62 * 4) (ap (λ (x : ℕ). x * x + (rem * 4 + left / 2 ^ 62)) (mul-comm root 2) ∙ turn-zero root rem (left / 2 ^ 62))
+    ∙ next-digits (root * root + rem) left (d * 4 ^ i) (whole f)
+    ∙ next-four d i) (omega arith) in
+    record { turns = omega arith; sum = k .0; small = omega arith; digits = omega (arith, f .digits); rest = k .1 }
 
-step-one : (d n left rem root i : ℕ) → Found d n left rem root i → i < n → root * 4 + 1 ≤ rem * 4 + left / 2 ^ 62
-    → Found d n (left % 2 ^ 62 * 4) (rem * 4 + left / 2 ^ 62 - (root * 4 + 1)) (root * 2 + 1) (i + 1)
+step-one : (d n left rem root i : ℕ) → Recurrence d n left rem root i → i < n → root * 4 + 1 ≤ rem * 4 + left / 2 ^ 62
+    → Recurrence d n (left % 2 ^ 62 * 4) (rem * 4 + left / 2 ^ 62 - (root * 4 + 1)) (root * 2 + 1) (i + 1)
 step-one d n left rem root i f h t =
-    let e = next-power i in record {
-      turns = omega arith;
-      small = omega (arith, f .small, f .word);
-      digits = omega (arith, f .digits);
-      word = omega arith;
-      whole =
-          ap (λ (x : ℕ). x * 2 ^ 64 + left % 2 ^ 62 * 4)
-          (ap (λ (x : ℕ). (x + 1) * (x + 1) + (rem * 4 + left / 2 ^ 62 - (root * 4 + 1))) (mul-comm root 2) ∙ turn-one root rem (left / 2 ^ 62) t)
-          ∙ taken (root * root + rem) left (d * 4 ^ i) (f .whole)
-          ∙ next-four d i;
-    }
+    let e = next-power i in
+    let w = word f in
+    let k = parts ((root * 2 + 1) * (root * 2 + 1) + (rem * 4 + left / 2 ^ 62 - (root * 4 + 1))) (left % 2 ^ 62 * 4) (d * 4 ^ (i + 1))
+    (ap (λ (x : ℕ). x * 2 ^ 64 + left % 2 ^ 62 * 4)
+    (ap (λ (x : ℕ). (x + 1) * (x + 1) + (rem * 4 + left / 2 ^ 62 - (root * 4 + 1))) (mul-comm root 2) ∙ turn-one root rem (left / 2 ^ 62) t)
+    ∙ next-digits (root * root + rem) left (d * 4 ^ i) (whole f)
+    ∙ next-four d i) (omega arith) in
+    record { turns = omega arith; sum = k .0; small = omega (arith, f .small, w); digits = omega (arith, f .digits); rest = k .1 }
 
-done : (d n left rem root i : ℕ) → Found d n left rem root i → n ≤ i → root ≡ isqrt (d * 4 ^ n / 2 ^ 64)
+done : (d n left rem root i : ℕ) → Recurrence d n left rem root i → n ≤ i → root ≡ isqrt (taken d n)
 done d n left rem root i f h =
     let e : i ≡ n = le-antisymm (f .turns) h in
-    let q : d * 4 ^ n / 2 ^ 64 ≡ root * root + rem = ap (λ (x : ℕ). d * 4 ^ x / 2 ^ 64) (sym e) ∙ ap (λ (x : ℕ). x / 2 ^ 64) (sym (f .whole)) ∙ digits-div (root * root + rem) (f .word) in
-    sym (isqrt-unique root (d * 4 ^ n / 2 ^ 64) (subst (λ (x : ℕ). IsRoot root x) (sym q) (root-rem root rem (f .small))))
+    sym (isqrt-unique root (taken d n) (subst (λ (x : ℕ). IsRoot root x) (f .sum ∙ ap (taken d) e) (root-rem root rem (f .small))))
 
-place : {d n left rem rem′ root root′ i : ℕ} → rem′ ≡ rem → root′ ≡ root → Found d n left rem root i → Found d n left rem′ root′ i
-place {d} {n} {left} {rem} {rem′} {root} {root′} {i} p q f = subst (λ (x : ℕ). Found d n left x root′ i) (sym p) (subst (λ (y : ℕ). Found d n left rem y i) (sym q) f)
+place : {d n left rem rem′ root root′ i : ℕ} → rem′ ≡ rem → root′ ≡ root → Recurrence d n left rem root i → Recurrence d n left rem′ root′ i
+place {d} {n} {left} {rem} {rem′} {root} {root′} {i} p q f = subst (λ (x : ℕ). Recurrence d n left x root′ i) (sym p) (subst (λ (y : ℕ). Recurrence d n left rem y i) (sym q) f)
 
 loop-holds : tie.Need-loop-holds Inv-loop μ-loop
-loop-holds c = record { turns = omega arith; small = omega arith; digits = lt-suc-self 0; word = omega arith; whole = omega arith }
+loop-holds c =
+    let d = c .args .d in
+    let k = parts (0 * 0 + 0) d (d * 4 ^ 0) (omega arith) (omega arith) in
+    record { turns = omega arith; sum = k .0; small = omega arith; digits = lt-suc-self 0; rest = k .1 }
 
 mul-rem : tie.Need-mul-rem Inv-loop μ-loop
 mul-rem c = omega (arith, bound (c .before .loop .inv) (c .loop-test .taken) (c .before .before .pre))
