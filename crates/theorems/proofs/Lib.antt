@@ -2,7 +2,7 @@
 pub mod Balance
 mod Ids
 mod Devices
-mod Held
+mod TouchLimits
 mod Taken
 mod Times
 mod Pointer

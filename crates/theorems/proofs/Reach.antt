@@ -4,21 +4,24 @@ use native.Mathlib.Omega.{arith}
 use mathlib.Core.Path.{_≡_, refl, sym, ap, _∙_, subst}
 use mathlib.Core.Bool.{Bool, true, false, not, _&&_, _||_, cond}
 use mathlib.Core.List.{List, [], _∷_}
-use lib.Dec.{T}
-use lib.Ieee.{Float, lt, le}
+use lib.Dec.{T, not-T}
+use lib.Ieee.{Float, binary32, binary64, add, lt, le, fits, ofBits}
+use lib.Ieee.Fits.{and-l, and-r}
 use lib.Ieee.Scale.{finite}
-use Rattle.ieee.proofs.Order.{le-trans, le-refl, not-lt-le}
-use Rattle.data.specs.Limits.{max-events}
+use Rattle.ieee.proofs.Order.{le-trans, le-refl, le-not-lt, not-lt-le}
+use Rattle.ieee.proofs.Monotone.{add-up}
+use Rattle.data.specs.Limits.{max-events, zero32, one32, within32, unit-interval-ok}
 use Rattle.feed.specs.Decode.{items}
+use Rattle.model.specs.Numbers.{+0}
 use Rattle.model.specs.Types.{Pos2, InputOptions, Event}
 use Rattle.model.specs.Pointer.{ClickPast, Press, could-any-button-be-click, with-moved, remember-click, release, press-event, press-events, clear-events, press-pass}
-use Rattle.model.specs.Pass.{Panel, PassInput, fresh, fresh-press, pass, begin-pass, clock-pass, pass-events, time-of}
+use Rattle.model.specs.Pass.{Panel, PassInput, fresh, fresh-press, pass, begin-pass, clock-pass, pass-events, time-or, time-of}
 use Rattle.model.specs.Interact.{InteractInput, InteractionSnapshot, with-interaction}
 use Rattle.model.specs.Calls.{Call, passes, interacts, Outcome, refused-pass, refused-interact, passed, answered, call, after, run}
-use Rattle.theorems.specs.Reach.{NotAfter, never, by, Reached, Reach, TimeNeverFalls}
+use Rattle.theorems.specs.Reach.{NotAfter, never, by, Reached, Reach, TimeNeverFalls, AbsentTimeNeverBelow}
 use Rattle.theorems.proofs.Pointer.{PointerView, a-move, a-press, a-release, nothing, pointer-view}
 use Rattle.theorems.proofs.Times.{InRange, time-in-range, +0-time-ok, not-after-later}
-use Rattle.theorems.proofs.Held.{Within, touch-pass-within}
+use Rattle.theorems.proofs.TouchLimits.{Within, touch-pass-within}
 use Rattle.theorems.proofs.Taken.{Taken, Answered, CallView, pass-refused, pass-taken, interact-refused, interact-taken, call-view}
 
 -- ---- clicks
@@ -113,3 +116,16 @@ run-later p (c ∷ cs) r =
 
 pub time-never-falls : TimeNeverFalls
 time-never-falls cs later = run-later (run fresh cs) later (reach cs)
+
+-- ---- an absent time is never below the state's
+dt-from-zero : (x : Float) → T (unit-interval-ok x) → T (le +0 x)
+unfolding unit-interval-ok within32 zero32 ofBits
+dt-from-zero x h = and-l (le +0 x) (le x one32) (and-r (fits binary32 x) (le +0 x && le x one32) h)
+
+pub absent-time-never-below : AbsentTimeNeverBelow
+unfolding time-of time-or
+absent-time-never-below cs i e h =
+    let r = reach cs in
+    let old = run fresh cs .clock .time in
+    rw e (not-T (lt (add binary64 old (i .predicted-dt)) old)
+    (le-not-lt old (add binary64 old (i .predicted-dt)) (add-up binary64 old (i .predicted-dt) (time-in-range old (r .time-in-domain) .fits-64) (r .time-finite) (dt-from-zero (i .predicted-dt) h))))

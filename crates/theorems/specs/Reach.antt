@@ -1,16 +1,18 @@
 -- What holds of every panel that a list of calls reaches from the fresh one. Definitions only.
 use Prim.Native.Nat.{ℕ, _≤_, _<_}
 use mathlib.Core.Path.{_≡_}
+use mathlib.Core.Bool.{not}
+use mathlib.Core.Option.{none}
 use mathlib.Core.List.{List, [], _∷_}
 use lib.ListN.{length}
 use lib.Dec.{T}
-use lib.Ieee.{Float, le}
+use lib.Ieee.{Float, lt, le}
 use lib.Ieee.Scale.{finite}
-use Rattle.data.specs.Limits.{max-devices, max-touches, time-ok}
+use Rattle.data.specs.Limits.{max-devices, max-touches, time-ok, unit-interval-ok}
 use Rattle.model.specs.Numbers.{neg-infinity}
 use Rattle.model.specs.Types.{ActiveTouch}
 use Rattle.model.specs.Touch.{TouchState}
-use Rattle.model.specs.Pass.{Panel, fresh}
+use Rattle.model.specs.Pass.{Panel, PassInput, fresh, time-of}
 use Rattle.model.specs.Calls.{Call, run}
 
 -- ---- lists by ascending id, without repeats
@@ -60,3 +62,8 @@ Reach = (calls : List Call) → Reached (run fresh calls)
 -- and its time never falls
 abbrev pub TimeNeverFalls : Type 0
 TimeNeverFalls = (calls later : List Call) → T (le (run fresh calls .clock .time) (run (run fresh calls) later .clock .time))
+
+-- 01, row 3: "given time below the state's". An absent time, the old one plus predicted dt, is never below it
+abbrev pub AbsentTimeNeverBelow : Type 0
+AbsentTimeNeverBelow =
+    (calls : List Call) (i : PassInput) → i .time ≡ none → T (unit-interval-ok (i .predicted-dt)) → T (not (lt (time-of i (run fresh calls .clock .time)) (run fresh calls .clock .time)))
