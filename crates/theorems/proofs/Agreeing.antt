@@ -1,9 +1,9 @@
 -- Two panels from the next taken pass on: they differ in the click past, in devices without a touch and in the tally, and answer alike. Assumes nothing.
 use Prim.Native.Nat.{ℕ, _+_}
 use mathlib.Core.Path.{_≡_, refl, sym, ap, _∙_, subst}
-use mathlib.Core.Bool.{Bool, true, false, not, _&&_, _||_, cond}
+use mathlib.Core.Bool.{Bool, true, false, not, _&&_, _||_}
 use mathlib.Core.Option.{Option, none, some}
-use mathlib.Core.List.{List, [], _∷_}
+use mathlib.Core.List.{List}
 use lib.Dec.{T}
 use lib.Ieee.{Float, binary32, binary64, sub, le}
 use lib.Ieee.Scale.{finite}
@@ -17,8 +17,8 @@ use Rattle.model.specs.Interact.{InteractInput, InteractionSnapshot, seen, snap
 use Rattle.model.specs.Questions.{Question, settled, time-since-last-click, has-touch-screen, tally, shown, reply, ask}
 use Rattle.theorems.specs.Clearing.{FirstIsPress, Unless, first-button, button-came, may-differ}
 use Rattle.theorems.proofs.Devices.{Ascend, live, touch-pass-ascending, touch-pass-live, info-live, any-touches-at-live, multi-touch-live, any-touches-live}
-use Rattle.theorems.proofs.Times.{InRange, time-in-range}
-use Rattle.theorems.proofs.Trace.{NoButton, Trace, unpressed, pressed, clicked, equal, pair, Kept, steps, first, could-same, decidedly-same, last-same, click-flag, next-pass}
+use Rattle.theorems.proofs.Times.{time-in-range}
+use Rattle.theorems.proofs.Trace.{Trace, unpressed, pressed, clicked, equal, pair, Kept, steps, first, could-same, decidedly-same, last-same, click-flag, next-pass}
 use Rattle.theorems.proofs.Taken.{Taken, Answered}
 
 -- p with another click past, other devices and another tally

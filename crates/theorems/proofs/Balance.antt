@@ -1,11 +1,11 @@
 -- Drag starts and drag stops balance: one invariant of a call, then the list. Assumes nothing.
-use Prim.Native.Nat.{ℕ, zero, suc, _+_, _≤_, _<_}
+use Prim.Native.Nat.{ℕ, _+_, _≤_, _<_}
 use native.Mathlib.Omega.{arith}
-use mathlib.Core.Path.{_≡_, refl, sym, ap, _∙_, subst}
-use mathlib.Core.Bool.{Bool, true, false, not, _&&_, _||_, cond}
+use mathlib.Core.Path.{_≡_, refl, sym, ap}
+use mathlib.Core.Bool.{Bool, true, false, not, _&&_, cond}
 use mathlib.Core.Option.{Option, none, some}
-use mathlib.Core.List.{List, [], _∷_, _++_}
-use lib.Dec.{T, leb, eqb, eqb→eq, nleb→lt}
+use mathlib.Core.List.{List, [], _∷_}
+use lib.Dec.{T, leb, eqb→eq, nleb→lt}
 use Rattle.data.specs.Limits.{max-tally}
 use Rattle.model.specs.Types.{PassRefusal, InteractRefusal}
 use Rattle.model.specs.Types.interaction.{TallyFull}
@@ -13,7 +13,7 @@ use Rattle.model.specs.Pass.{Panel, PassInput, Interaction, fresh, pass, pass-b
 use Rattle.model.specs.Interact as I
 use Rattle.model.specs.Interact.{InteractInput, InteractionSnapshot, seen, interact, interact-by, input-refusal, tallied, snapshot, interaction-after, with-interaction, if-changed, same-id, one-if, is-some}
 use Rattle.model.specs.Calls.{Call, passes, interacts, Outcome, refused-pass, refused-interact, passed, answered, of-pass, of-interact, call, after, run, outcomes}
-use Rattle.theorems.specs.Balance.{one-if-is, starts, stops, last-dragged, all-starts, Balanced, Balance}
+use Rattle.theorems.specs.Balance.{one-if-is, starts, stops, last-dragged, all-starts, Balance}
 
 -- ---- what a taken call does to the widget dragged and to the tally
 pub record Unchanged (p q : Panel) : Type 0 where

@@ -1,7 +1,7 @@
 -- The clearing pass and its interact clear a panel, further interacts leave it cleared, and the next taken pass makes two of them agree. Assumes nothing.
 use Prim.Native.Nat.{ℕ, _+_}
 use mathlib.Core.Path.{_≡_, refl, sym, ap, _∙_, subst}
-use mathlib.Core.Bool.{Bool, true, false, not, _&&_, _||_, cond, true≢false, false≢true}
+use mathlib.Core.Bool.{Bool, true, false, not, _&&_, _||_, true≢false, false≢true}
 use mathlib.Core.Option.{Option, none, some}
 use mathlib.Core.List.{List, [], _∷_, _++_, map}
 use lib.Dec.{T}
@@ -13,19 +13,19 @@ use Rattle.model.specs.Types.{Event, Key, ModifiersChanged, PointerMoved, Mouse
 use Rattle.model.specs.Pointer.{Place, with-place, place-event, place-events, clear-history-after, start-place, finish-place, end-place, place-pass}
 use Rattle.model.specs.Pointer.{Held, ClickPast, Press, any, is-press, is-release, is-click, any-down, no-buttons, could-any-button-be-click, is-decidedly-dragging, add-event, press-button, release-button, click-of, release}
 use Rattle.model.specs.Pointer.{press-event, press-events, clear-events, press-pass}
-use Rattle.model.specs.Touch.{TouchState, touch-pass}
+use Rattle.model.specs.Touch.{touch-pass}
 use Rattle.model.specs.Pass.{Panel, PassInput, Interaction, no-interaction, begin-pass, clock-pass, decidedly-dragging, pass-events, time-of, or-else}
 use Rattle.model.specs.Interact.{InteractInput, InteractionSnapshot, Seen, seen, Going, pointer-event, pointer-events, walked, interaction-after, forget-gone-click, abort-if, long-touch-on, long-touch-if, get, is-some, kept-if, dragged-after, new-drag, with-interaction, one-if}
 use Rattle.theorems.specs.Reach.{NotAfter, Reached}
 use Rattle.theorems.specs.Clearing.{TouchEnd, end-event, EndsAll, Rest, rest-events, FirstIsPress, button-event, first-button, button-came}
 use Rattle.theorems.proofs.Pointer.{PointerView, a-move, a-press, a-release, nothing, pointer-view}
 use Rattle.theorems.proofs.Devices.{Ascend, live, touch-pass-ascending, touch-pass-live}
-use Rattle.theorems.proofs.Times.{InRange, time-in-range}
+use Rattle.theorems.proofs.Times.{time-in-range}
 use Rattle.theorems.proofs.Taken.{Taken, Answered}
-use Rattle.theorems.proofs.Reach.{pass-later, pass-reaches}
-use Rattle.theorems.proofs.Trace.{NoButton, Trace, unpressed, pressed, clicked, equal, pair, first, click-flag}
+use Rattle.theorems.proofs.Reach.{pass-reaches}
+use Rattle.theorems.proofs.Trace.{NoButton, Trace, unpressed, pair, first, click-flag}
 use Rattle.theorems.proofs.Agreeing.{but-for, Together, together, Agreeing}
-use Rattle.theorems.proofs.ClearingPass.{Undecided, undecided-of, cleared-panel, pass-clears, touches-cleared, ends-then, press-ends}
+use Rattle.theorems.proofs.ClearingPass.{Undecided, undecided-of, cleared-panel, pass-clears, touches-cleared, press-ends}
 use Rattle.theorems.proofs.ClearingPass as C
 
 unfoldable pub with-tally : ℕ → Undecided → Undecided

@@ -1,6 +1,5 @@
 -- Demand 3, second half: the later list, call by call. Assumes nothing.
 use Prim.Native.Nat.{ℕ, zero, suc}
-use native.Mathlib.Omega.{arith}
 use mathlib.Core.Path.{_≡_, refl, sym, ap, _∙_, subst}
 use mathlib.Core.Bool.{Bool, true, false, not, _&&_, _||_, cond}
 use mathlib.Core.Option.{Option, none, some}
@@ -13,25 +12,22 @@ use Rattle.ieee.proofs.Order.{le-trans, le-refl}
 use Rattle.ieee.proofs.Monotone.{add-up}
 use Rattle.data.specs.Limits.{max-events, max-duration, length-ok, unit-interval-ok, duration-ok, options-ok}
 use Rattle.feed.specs.Decode.{Decoded, good, malformed, outside-domain, Item, items}
-use Rattle.model.specs.Types.{Rect, InputOptions, PassRefusal, Malformed, OutsideDomain, TimeBelow, TooManyEvents, NoPlace, InteractRefusal}
-use Rattle.model.specs.Types.interaction.{TallyFull}
+use Rattle.model.specs.Types.{Rect, InputOptions, PassRefusal, NoPlace, InteractRefusal}
 use Rattle.model.specs.Touch.{TouchState, touch-event}
 use Rattle.model.specs.Pass.{Panel, PassInput, fresh, pass-events, time-of, crowded, item-refusal, item-devices, or-else, survey, own-refusal, pass-refusal}
-use Rattle.model.specs.Interact.{InteractInput, InteractionSnapshot, input-refusal}
+use Rattle.model.specs.Interact.{InteractInput, InteractionSnapshot}
 use Rattle.model.specs.Questions.{Question, ask}
 use Rattle.model.specs.Calls.{Call, passes, interacts, Outcome, refused-pass, refused-interact, passed, answered, call, after, run}
 use Rattle.theorems.specs.Reach.{Reached}
 use Rattle.theorems.specs.Clearing.{Rest, Clears, Takes, FirstIsPress, Unless, first-button, button-came, is-refused, Fair, done, both-refused, both-passed, both-answered}
 use Rattle.theorems.specs.Clearing.{is-no-place, SameAnswer, same-pass-refusal, same-interact-refusal, both-taken, same-snapshot, Same, is-passed, has-click, When, Alike, may-differ, twice, Clearing}
+use Rattle.theorems.proofs.Ids.{impossible}
 use Rattle.theorems.proofs.Times.{InRange, in-range, time-in-range}
-use Rattle.theorems.proofs.Taken.{Taken, passed-is, Answered, answered-is, CallView, pass-refused, pass-taken, interact-refused, interact-taken, call-view}
+use Rattle.theorems.proofs.Taken.{passed-is, answered-is, CallView, pass-refused, pass-taken, interact-refused, interact-taken, call-view}
 use Rattle.theorems.proofs.Reach.{pass-later, pass-reaches, interact-reaches, reach}
 use Rattle.theorems.proofs.ClearingPass.{time-is}
 use Rattle.theorems.proofs.Cleared.{Cleared, clears, cleared-interact, cleared-pass, cleared-time}
 use Rattle.theorems.proofs.Agreeing.{Agreeing, agreeing-pass, agreeing-interact, agreeing-replies, agreeing-time}
-
-never : {A : Type 0} → _≡_ {A = ℕ} 0 1 → A
-never z = absurd (omega arith)
 
 -- ---- two refusals of one call: the same, unless one is 5
 abbrev Agree : PassRefusal → PassRefusal → Type 0
@@ -47,7 +43,7 @@ no-place-right w r s e = rw e (λ p q. absurd q)
 
 survey-agrees : (left : ℕ) (is : List Item) (vs ws : List TouchState) (r s : PassRefusal) → survey left is vs ≡ some r → survey left is ws ≡ some s → Agree r s
 unfolding survey item-refusal item-devices or-else
-survey-agrees left [] vs ws r s h k = never (cc)
+survey-agrees left [] vs ws r s h k = impossible (cc)
 survey-agrees zero (i ∷ is) vs ws r s h k = λ _ _. cc
 survey-agrees (suc left) (i ∷ is) vs ws r s h k = go (i .what) h k (λ us ts a b. survey-agrees left is us ts r s a b)
   where

@@ -1,21 +1,19 @@
 -- Touch devices: those that hold no touch and no gesture answer nothing, so two panels that know different ones, but hold the same touches, answer alike.
 -- Assumes nothing.
-use Prim.Native.Nat.{ℕ, zero, suc, _≤_, _<_}
+use Prim.Native.Nat.{ℕ, _<_}
 use native.Mathlib.Omega.{arith}
-use mathlib.Core.Path.{_≡_, refl, sym, ap, _∙_, subst}
-use mathlib.Core.Bool.{Bool, true, false, not, _&&_, _||_, cond, true≢false}
+use mathlib.Core.Path.{_≡_, refl, sym, ap, _∙_}
+use mathlib.Core.Bool.{Bool, true, false, _||_, cond, true≢false}
 use mathlib.Core.Option.{Option, none, some}
-use mathlib.Core.List.{List, [], _∷_, _++_, map}
-use lib.ListN.{length}
-use lib.Dec.{T, leb, ltb, eqb, eqb→eq}
+use mathlib.Core.List.{List, [], _∷_, map}
+use lib.Dec.{T, eqb, eqb→eq}
 use lib.Ieee.{Float}
-use Rattle.model.specs.Types.{Pos2, MaybePos2, MaybeF32, TouchPhase, Start, Move, End, Cancel, ActiveTouch, MaybeGestureState, no-gesture, some-gesture, MaybeMultiTouchInfo, no-info, some-info}
+use Rattle.model.specs.Types.{Pos2, MaybePos2, MaybeF32, TouchPhase, ActiveTouch, MaybeGestureState, no-gesture, some-gesture, no-info}
 use Rattle.model.specs.Types.{Event, Key, ModifiersChanged, PointerMoved, MouseMoved, Button, PointerGone, Zoom, Rotate, Touch, MouseWheel, WindowFocused, Other}
 use Rattle.model.specs.Touch.{TouchState, new-device, touch-device, at-device, find-device, calc-dynamic-state, update-gesture, forget-previous-if, touch-event, touch-events, end-touches, touch-pass}
 use Rattle.model.specs.Touch.{info, info-of, info-at, first-of, multi-touch, some-touch, any-touches, any-touches-at}
-use Rattle.model.specs.Pass.{crowded}
 use Rattle.theorems.specs.Reach.{Above, Ascending, device-id-of}
-use Rattle.theorems.proofs.Ids.{eqb-no, eqb-yes, ltb-yes, ltb-no, Order, less, equal, more, order, above-down}
+use Rattle.theorems.proofs.Ids.{eqb-no, eqb-yes, ltb-yes, ltb-no, less, equal, more, order, above-down}
 
 abbrev pub AboveAll : ℕ → List TouchState → Type 0
 AboveAll n vs = Above device-id-of n vs

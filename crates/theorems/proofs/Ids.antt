@@ -1,5 +1,5 @@
 -- Tests on ids, and lists by ascending id. Assumes nothing.
-use Prim.Native.Nat.{ℕ, zero, suc, _≤_, _<_}
+use Prim.Native.Nat.{ℕ, _≤_, _<_}
 use native.Mathlib.Nat.{lt-trans}
 use native.Mathlib.Omega.{arith}
 use mathlib.Core.Path.{_≡_, refl}
@@ -7,6 +7,10 @@ use mathlib.Core.Bool.{Bool, true, false, not}
 use mathlib.Core.List.{List, [], _∷_}
 use lib.Dec.{T, ltb, eqb, ltb→lt, lt→ltb, nltb→le, eqb→eq, eqb-refl}
 use Rattle.theorems.specs.Reach.{Above}
+
+-- where two constructors are claimed equal, `cc` proves 0 ≡ 1
+pub impossible : {A : Type 0} → _≡_ {A = ℕ} 0 1 → A
+impossible z = absurd (omega arith)
 
 pub true-of : (b : Bool) → T b → b ≡ true
 true-of true t = refl

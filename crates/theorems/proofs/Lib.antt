@@ -12,3 +12,5 @@ mod Agreeing
 mod ClearingPass
 mod Cleared
 pub mod Clearing
+mod Opened
+pub mod Example

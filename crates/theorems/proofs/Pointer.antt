@@ -1,7 +1,7 @@
 -- What an event is to the buttons and clicks: a move, a press, a release, or nothing. Assumes nothing.
 use mathlib.Core.Path.{_≡_, refl}
-use mathlib.Core.Bool.{Bool, true, false}
-use mathlib.Core.Option.{Option, none, some}
+use mathlib.Core.Bool.{true, false}
+use mathlib.Core.Option.{none}
 use lib.Ieee.{Float}
 use Rattle.model.specs.Types.{Pos2, Modifiers, InputOptions, PointerButton}
 use Rattle.model.specs.Types.{Event, Key, ModifiersChanged, PointerMoved, MouseMoved, Button, PointerGone, Zoom, Rotate, Touch, MouseWheel, WindowFocused, Other}

@@ -1,8 +1,8 @@
 -- What holds of every panel reached: an invariant of each call. Assumes nothing.
-use Prim.Native.Nat.{ℕ, zero, suc, _+_, _≤_}
+use Prim.Native.Nat.{_+_}
 use native.Mathlib.Omega.{arith}
-use mathlib.Core.Path.{_≡_, refl, sym, ap, _∙_, subst}
-use mathlib.Core.Bool.{Bool, true, false, not, _&&_, _||_, cond}
+use mathlib.Core.Path.{refl, sym, subst}
+use mathlib.Core.Bool.{Bool, true, false, _&&_}
 use mathlib.Core.List.{List, [], _∷_}
 use lib.Dec.{T, not-T}
 use lib.Ieee.{Float, binary32, binary64, add, lt, le, fits, ofBits}
@@ -15,12 +15,12 @@ use Rattle.feed.specs.Decode.{items}
 use Rattle.model.specs.Numbers.{+0}
 use Rattle.model.specs.Types.{Pos2, InputOptions, Event}
 use Rattle.model.specs.Pointer.{ClickPast, Press, could-any-button-be-click, with-moved, remember-click, release, press-event, press-events, clear-events, press-pass}
-use Rattle.model.specs.Pass.{Panel, PassInput, fresh, fresh-press, pass, begin-pass, clock-pass, pass-events, time-or, time-of}
+use Rattle.model.specs.Pass.{Panel, PassInput, fresh, fresh-press, begin-pass, clock-pass, pass-events, time-or, time-of}
 use Rattle.model.specs.Interact.{InteractInput, InteractionSnapshot, with-interaction}
-use Rattle.model.specs.Calls.{Call, passes, interacts, Outcome, refused-pass, refused-interact, passed, answered, call, after, run}
+use Rattle.model.specs.Calls.{Call, Outcome, call, after, run}
 use Rattle.theorems.specs.Reach.{NotAfter, never, by, Reached, Reach, TimeNeverFalls, AbsentTimeNeverBelow}
 use Rattle.theorems.proofs.Pointer.{PointerView, a-move, a-press, a-release, nothing, pointer-view}
-use Rattle.theorems.proofs.Times.{InRange, time-in-range, +0-time-ok, not-after-later}
+use Rattle.theorems.proofs.Times.{time-in-range, +0-time-ok, not-after-later}
 use Rattle.theorems.proofs.TouchLimits.{Within, touch-pass-within}
 use Rattle.theorems.proofs.Taken.{Taken, Answered, CallView, pass-refused, pass-taken, interact-refused, interact-taken, call-view}
 
@@ -55,7 +55,7 @@ pass-reaches p i q r t =
     let now = time-of i (p .clock .time) in
     let es = pass-events i in
     let f : T (finite now) = time-in-range now (t .in-domain) .is-finite in
-    let w : Within (p .touch-states) = record { ascend = r .devices-ascend; few = r .few-devices; touches = r .touches } in
+    let w : Within (p .touch-states) = record { ascend = r .devices-ascend; limit = r .device-limit; touches = r .touches } in
     let v = touch-pass-within now (p .place .interact-pos) max-events (items (i .feed)) (p .touch-states) w (t .surveyed) in
     let z : Reached (begin-pass p i) =
     record {
@@ -63,7 +63,7 @@ pass-reaches p i q r t =
       time-in-domain = t .in-domain;
       last-click = events-not-after (i .options) now es (record { held = clear-events (p .press .held); past = p .press .past }) (by f (le-refl now f)) (not-after-later (p .clock .time) now (p .press .past .last-click-time) (pass-later p i q r t) (r .last-click));
       devices-ascend = v .ascend;
-      few-devices = v .few;
+      device-limit = v .limit;
       touches = v .touches;
     } in
     subst (λ (x : Panel). Reached x) (sym (t .is)) z
@@ -72,7 +72,7 @@ pub interact-reaches : (p : Panel) (x : InteractInput) (s : InteractionSnapshot)
 unfolding with-interaction
 interact-reaches p x s q r t =
     subst (λ (z : Panel). Reached z) (sym (t .is))
-    (record { time-finite = r .time-finite; time-in-domain = r .time-in-domain; last-click = r .last-click; devices-ascend = r .devices-ascend; few-devices = r .few-devices; touches = r .touches })
+    (record { time-finite = r .time-finite; time-in-domain = r .time-in-domain; last-click = r .last-click; devices-ascend = r .devices-ascend; device-limit = r .device-limit; touches = r .touches })
 
 call-reaches : (p : Panel) (c : Call) → Reached p → Reached (after p (call p c))
 unfolding after
@@ -91,7 +91,7 @@ run-reaches p (c ∷ cs) r = run-reaches (after p (call p c)) cs (call-reaches p
 
 pub reach : Reach
 unfolding fresh fresh-press
-reach cs = run-reaches fresh cs (record { time-finite = tt; time-in-domain = +0-time-ok; last-click = never refl; devices-ascend = tt; few-devices = omega arith; touches = tt })
+reach cs = run-reaches fresh cs (record { time-finite = tt; time-in-domain = +0-time-ok; last-click = never refl; devices-ascend = tt; device-limit = omega arith; touches = tt })
 
 -- ---- time never falls
 call-later : (p : Panel) (c : Call) → Reached p → T (le (p .clock .time) (after p (call p c) .clock .time))

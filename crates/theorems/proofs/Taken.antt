@@ -1,10 +1,8 @@
 -- What a taken pass and a taken interact are, and what both-refused calls answer. Assumes nothing.
-use Prim.Native.Nat.{ℕ, zero, suc, _+_}
-use native.Mathlib.Omega.{arith}
-use mathlib.Core.Path.{_≡_, refl, sym, ap, _∙_, subst}
-use mathlib.Core.Bool.{Bool, true, false, not, _&&_, _||_, cond}
+use Prim.Native.Nat.{ℕ, _+_}
+use mathlib.Core.Path.{_≡_, refl, sym, ap, _∙_}
+use mathlib.Core.Bool.{Bool, true, false, not, _&&_, cond}
 use mathlib.Core.Option.{Option, none, some}
-use mathlib.Core.List.{List, [], _∷_}
 use lib.Dec.{T, leb}
 use lib.Ieee.{Float, lt}
 use lib.Ieee.Fits.{and-l, and-r}
@@ -17,9 +15,7 @@ use Rattle.model.specs.Pass as P
 use Rattle.model.specs.Interact.{InteractInput, InteractionSnapshot, Interacted, seen, interact, interact-by, input-refusal, tallied, snapshot, interaction-after, with-interaction, one-if, is-some}
 use Rattle.model.specs.Interact as I
 use Rattle.model.specs.Calls.{Call, passes, interacts, Outcome, refused-pass, refused-interact, passed, answered, of-pass, of-interact, call}
-
-never : {A : Type 0} → _≡_ {A = ℕ} 0 1 → A
-never z = absurd (omega arith)
+use Rattle.theorems.proofs.Ids.{impossible}
 
 -- ---- a taken pass
 pub record Taken (p : Panel) (i : PassInput) (q : Panel) : Type 0 where
@@ -48,13 +44,13 @@ taken-is p i q h = own (own-numbers-ok i t) (lt t (p .clock .time)) (λ x. x) (�
     t = time-of i (p .clock .time)
 
     fed : (r : Option PassRefusal) → survey max-events (items (i .feed)) (p .touch-states) ≡ r → T (own-numbers-ok i t) → T (not (lt t (p .clock .time))) → pass-by r p i ≡ P.taken q → Taken p i q
-    fed (some r) e a b k = never (cc)
+    fed (some r) e a b k = impossible (cc)
     fed none e a b k = let z = own-options i t a in record { is = cc; in-domain = z .0; options = z .1; not-before = b; surveyed = e }
 
     own : (a b : Bool) → (T a → T (own-numbers-ok i t)) → (T (not b) → T (not (lt t (p .clock .time))))
         → pass-by (or-else (cond a (cond b (some TimeBelow) none) (some (OutsideDomain 0))) (survey max-events (items (i .feed)) (p .touch-states))) p i ≡ P.taken q → Taken p i q
-    own false b x y k = never (cc)
-    own true true x y k = never (cc)
+    own false b x y k = impossible (cc)
+    own true true x y k = impossible (cc)
     own true false x y k = fed (survey max-events (items (i .feed)) (p .touch-states)) refl (x tt) (y tt) k
 
 pub passed-is : (p : Panel) (i : PassInput) (q : Panel) → call p (passes i) ≡ passed q → Taken p i q
@@ -62,7 +58,7 @@ unfolding call of-pass
 passed-is p i q h = taken-is p i q (go (pass p i) h)
   where
     go : (r : Passed) → of-pass r ≡ passed q → r ≡ P.taken q
-    go (P.refused r) k = never (cc)
+    go (P.refused r) k = impossible (cc)
     go (P.taken x) k = cc
 
 -- ---- a taken interact writes the interaction and the tally
@@ -81,14 +77,14 @@ interacted-is p x s q h = go (input-refusal x) h
     d = interaction-after (seen p) x (p .interaction)
 
     full : (b : Bool) → cond b (I.refused TallyFull) (I.answered t (with-interaction p d (p .tally + one-if (t .drag-started)))) ≡ I.answered s q → Answered p x s q
-    full true k = never (cc)
+    full true k = impossible (cc)
     full false k =
         let a : s ≡ t = cc in
         let b : q ≡ with-interaction p d (p .tally + one-if (t .drag-started)) = cc in
         record { answer = a; is = b ∙ ap (λ (z : InteractionSnapshot). with-interaction p d (p .tally + one-if (z .drag-started))) (sym a) }
 
     go : (r : Option InteractRefusal) → interact-by r p x ≡ I.answered s q → Answered p x s q
-    go (some r) k = never (cc)
+    go (some r) k = impossible (cc)
     go none k = full (is-some (t .drag-started) && leb max-tally (p .tally)) k
 
 pub answered-is : (p : Panel) (x : InteractInput) (s : InteractionSnapshot) (q : Panel) → call p (interacts x) ≡ answered s q → Answered p x s q
@@ -96,7 +92,7 @@ unfolding call of-interact
 answered-is p x s q h = interacted-is p x s q (go (interact p x) h)
   where
     go : (r : Interacted) → of-interact r ≡ answered s q → r ≡ I.answered s q
-    go (I.refused r) k = never (cc)
+    go (I.refused r) k = impossible (cc)
     go (I.answered t y) k = cc
 
 -- ---- a call
@@ -112,7 +108,7 @@ unfolding call of-pass of-interact pass pass-by interact interact-by tallied or-
 call-view p (passes i) = go (pass p i) refl
   where
     refusal : (o : Option PassRefusal) (r : PassRefusal) → pass-by o p i ≡ P.refused r → o ≡ some r
-    refusal none r k = never (cc)
+    refusal none r k = impossible (cc)
     refusal (some s) r k = cc
 
     go : (r : Passed) → pass p i ≡ r → CallView p (passes i) (of-pass r)
@@ -122,7 +118,7 @@ call-view p (interacts x) = go (interact p x) refl
   where
     full : (b : Bool) (r : InteractRefusal) (s : InteractionSnapshot) (q : Panel) → cond b (I.refused TallyFull) (I.answered s q) ≡ I.refused r → some TallyFull ≡ some r
     full true r s q k = cc
-    full false r s q k = never (cc)
+    full false r s q k = impossible (cc)
 
     refusal : (o : Option InteractRefusal) (r : InteractRefusal) → interact-by o p x ≡ I.refused r → or-else o (some TallyFull) ≡ some r
     refusal none r k =

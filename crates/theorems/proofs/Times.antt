@@ -1,6 +1,6 @@
 -- Times of the domain, and clicks that are not later than a time. Assumes nothing.
 use mathlib.Core.Path.{_≡_, refl}
-use mathlib.Core.Bool.{Bool, true, false, not, _&&_}
+use mathlib.Core.Bool.{true, false, _&&_}
 use lib.Dec.{T}
 use lib.Ieee.{Float, nan, inf, fin, binary64, le, fits, ofBits}
 use lib.Ieee.Fits.{and-l, and-r}

@@ -1,21 +1,21 @@
 -- Touches and devices stay within their limits, and touches ascend: what the survey refuses with 5 is what would break it. Assumes nothing.
-use Prim.Native.Nat.{ℕ, zero, suc, _+_, _≤_, _<_}
+use Prim.Native.Nat.{ℕ, zero, suc, _≤_, _<_}
 use native.Mathlib.Omega.{arith}
 use mathlib.Core.Path.{_≡_, refl, sym, ap, _∙_, subst}
-use mathlib.Core.Bool.{Bool, true, false, not, _&&_, _||_, cond, true≢false}
+use mathlib.Core.Bool.{Bool, true, false, not, _&&_, cond, true≢false}
 use mathlib.Core.Option.{Option, none, some}
 use mathlib.Core.List.{List, [], _∷_, map}
 use lib.ListN.{length}
-use lib.Dec.{T, leb, ltb, eqb, eqb→eq, nleb→lt}
+use lib.Dec.{T, leb, eqb, eqb→eq, nleb→lt}
 use lib.Ieee.{Float}
 use Rattle.data.specs.Limits.{max-devices, max-touches}
 use Rattle.feed.specs.Decode.{Decoded, good, malformed, outside-domain, Item}
 use Rattle.feed.specs.Feed.{then-events, events-of}
-use Rattle.model.specs.Types.{Pos2, MaybePos2, MaybeF32, TouchPhase, Start, Move, End, Cancel, ActiveTouch, Event, Touch, PassRefusal, NoPlace}
+use Rattle.model.specs.Types.{MaybePos2, TouchPhase, Start, Move, End, Cancel, ActiveTouch, Event, NoPlace}
 use Rattle.model.specs.Touch.{TouchState, insert-touch, move-touch, remove-touch, holds, on-touch, is-start, no-place, new-device, touch-device, at-device, find-device, touch-event, touch-events, end-touches, touch-pass}
 use Rattle.model.specs.Pass.{crowded, item-refusal, item-devices, or-else, survey}
 use Rattle.theorems.specs.Reach.{Above, Ascending, device-id-of, touch-id-of, TouchesWithin, AllTouchesWithin}
-use Rattle.theorems.proofs.Ids.{eqb-no, eqb-yes, ltb-yes, ltb-no, Order, less, equal, more, order, above-down}
+use Rattle.theorems.proofs.Ids.{impossible, eqb-no, eqb-yes, ltb-yes, ltb-no, less, equal, more, order, above-down}
 use Rattle.theorems.proofs.Devices.{Ascend, TouchView, a-touch, no-touch, touch-view, touch-of, touch-event-is, at-less, at-same, at-more, at-ascending, keeps-id, map-ascending, find-above}
 
 -- ---- touches of one device
@@ -195,7 +195,7 @@ module _ (d : ℕ) (f : TouchState → TouchState) where
 -- ---- the survey takes an event only where it has a place
 pub record Within (vs : List TouchState) : Type 0 where
   pub ascend : Ascend vs
-  pub few : length vs ≤ max-devices
+  pub limit : length vs ≤ max-devices
   pub touches : AllTouchesWithin vs
 
 touch-within : (d : ℕ) (ph : TouchPhase) (t : ActiveTouch) (vs : List TouchState) → Within vs → no-place ph (t .id) (length vs) (find-device d vs) ≡ false → Within (at-device d (touch-device ph t) vs)
@@ -203,18 +203,18 @@ unfolding no-place touch-device new-device is-start holds
 touch-within d ph t vs w h =
     record {
       ascend = at-ascending d (touch-device ph t) (keeps-id ph t) vs (w .ascend);
-      few = at-length d (touch-device ph t) vs (w .ascend) (w .few) (λ n. few-enough n (find-device d vs) h n);
+      limit = at-length d (touch-device ph t) vs (w .ascend) (w .limit) (λ n. few-enough n (find-device d vs) h n);
       touches = at-within d (touch-device ph t) vs (w .ascend) (w .touches) (λ n. new) (λ v e k. old v (subst (λ (o : Option TouchState). no-place ph (t .id) (length vs) o ≡ false) e h) k);
     }
   where
     few-enough : find-device d vs ≡ none → (o : Option TouchState) → no-place ph (t .id) (length vs) o ≡ false → o ≡ none → length vs < max-devices
     few-enough n none e m = nleb→lt max-devices (length vs) (subst (λ (b : Bool). T (not b)) (sym e) tt)
-    few-enough n (some v) e m = let z : _≡_ {A = ℕ} 0 1 = cc in omega arith
+    few-enough n (some v) e m = impossible (cc)
 
     new : TouchesWithin (touch-device ph t (new-device d))
     new =
         let z = on-touch-within ph t [] tt (omega arith) (empty ph) in
-        record { ascend = z .0; few = z .1 }
+        record { ascend = z .0; limit = z .1 }
       where
         empty : (ph : TouchPhase) → (is-start ph && not (holds (t .id) []) && leb max-touches 0) ≡ false
         empty Start = refl
@@ -224,8 +224,8 @@ touch-within d ph t vs w h =
 
     old : (v : TouchState) → no-place ph (t .id) (length vs) (some v) ≡ false → TouchesWithin v → TouchesWithin (touch-device ph t v)
     old v e k =
-        let z = on-touch-within ph t (v .active-touches) (k .ascend) (k .few) e in
-        record { ascend = z .0; few = z .1 }
+        let z = on-touch-within ph t (v .active-touches) (k .ascend) (k .limit) e in
+        record { ascend = z .0; limit = z .1 }
 
 event-within : (e : Event) (vs : List TouchState) → Within vs → crowded e vs ≡ false → Within (touch-event e vs)
 unfolding crowded
@@ -238,24 +238,24 @@ event-within e vs w h = go (touch-view e) h
 pub survey-within : (left : ℕ) (is : List Item) (vs : List TouchState) → Within vs → survey left is vs ≡ none → Within (touch-events (events-of is) vs)
 unfolding survey touch-events events-of then-events item-refusal item-devices or-else
 survey-within left [] vs w h = w
-survey-within zero (i ∷ is) vs w h = let z : _≡_ {A = ℕ} 0 1 = cc in absurd (omega arith)
+survey-within zero (i ∷ is) vs w h = impossible (cc)
 survey-within (suc left) (i ∷ is) vs w h = go (i .what) h (λ us z k. survey-within left is us z k)
   where
     go : (x : Decoded) → or-else (item-refusal (i .index) x vs) (survey left is (item-devices x vs)) ≡ none
         → ((us : List TouchState) → Within us → survey left is us ≡ none → Within (touch-events (events-of is) us)) → Within (touch-events (then-events x (events-of is)) vs)
-    go malformed k ih = let z : _≡_ {A = ℕ} 0 1 = cc in absurd (omega arith)
-    go outside-domain k ih = let z : _≡_ {A = ℕ} 0 1 = cc in absurd (omega arith)
+    go malformed k ih = impossible (cc)
+    go outside-domain k ih = impossible (cc)
     go (good e) k ih = placed (crowded e vs) refl k
       where
         placed : (b : Bool) → crowded e vs ≡ b → or-else (cond b (some (NoPlace (i .index))) none) (survey left is (touch-event e vs)) ≡ none → Within (touch-events (events-of is) (touch-event e vs))
-        placed true c m = let z : _≡_ {A = ℕ} 0 1 = cc in absurd (omega arith)
+        placed true c m = impossible (cc)
         placed false c m = ih (touch-event e vs) (event-within e vs w c) m
 
 -- ---- the devices' part of a pass
 map-within : (time : Float) (p : MaybePos2) (es : List Event) (vs : List TouchState) → AllTouchesWithin vs → AllTouchesWithin (map (end-touches time p es) vs)
 unfolding end-touches
 map-within time p es [] w = tt
-map-within time p es (v ∷ vs) w = (record { ascend = w .0 .ascend; few = w .0 .few }, map-within time p es vs (w .1))
+map-within time p es (v ∷ vs) w = (record { ascend = w .0 .ascend; limit = w .0 .limit }, map-within time p es vs (w .1))
 
 map-length : (f : TouchState → TouchState) (vs : List TouchState) → length (map f vs) ≡ length vs
 map-length f [] = refl
@@ -268,6 +268,6 @@ touch-pass-within time p left is vs w h =
     let z = survey-within left is vs w h in
     record {
       ascend = map-ascending time p es (touch-events es vs) (z .ascend);
-      few = rw (map-length (end-touches time p es) (touch-events es vs)) (z .few);
+      limit = rw (map-length (end-touches time p es) (touch-events es vs)) (z .limit);
       touches = map-within time p es (touch-events es vs) (z .touches);
     }

@@ -1,7 +1,6 @@
 -- What a lost event may leave in the click past of two panels, and how it ends. Assumes nothing.
-use mathlib.Core.Path.{_≡_, refl, sym, ap, _∙_, subst}
-use mathlib.Core.Bool.{Bool, true, false, not, _&&_, _||_, cond}
-use mathlib.Core.Option.{Option, none, some}
+use mathlib.Core.Path.{_≡_, refl, sym, ap, subst}
+use mathlib.Core.Bool.{Bool, true, false, _||_}
 use mathlib.Core.List.{List, [], _∷_, _++_}
 use lib.Dec.{T}
 use lib.Ieee.{Float, nan, inf, fin, binary64, sub, lt, le}
@@ -9,8 +8,8 @@ use lib.Ieee.Scale.{finite}
 use Rattle.ieee.proofs.Order.{le-trans, le-not-lt}
 use Rattle.ieee.proofs.Differences.{sub-spans}
 use Rattle.model.specs.Numbers.{neg-infinity}
-use Rattle.model.specs.Types.{Pos2, Modifiers, InputOptions, PointerButton, Event, PointerMoved, Button, MaybeClick, no-click, some-click, PointerEvent, Moved, Pressed, Released}
-use Rattle.model.specs.Pointer.{Held, ClickPast, Press, any, is-press, is-release, is-click, any-down, could-any-button-be-click, is-decidedly-dragging, near, count-of, click-count, too-far}
+use Rattle.model.specs.Types.{Pos2, Modifiers, InputOptions, PointerButton, Event, PointerMoved, Button, no-click, some-click, PointerEvent, Moved, Pressed, Released}
+use Rattle.model.specs.Pointer.{Held, ClickPast, Press, any, is-release, is-click, any-down, could-any-button-be-click, is-decidedly-dragging, count-of, click-count, too-far}
 use Rattle.model.specs.Pointer.{add-event, press-button, release-button, with-moved, remember-click, click-of, release, press-event, press-events, clear-events}
 use Rattle.model.specs.Pass.{or-else}
 use Rattle.theorems.specs.Reach.{NotAfter, never, by}

@@ -201,12 +201,12 @@ abbrev pub When : Bool → Type 0 → Type 0
 When true A = A
 When false A = Unit {0}
 
--- "from the next taken pass on": `n` says whether it has come, `k` whether a later taken pass had a click
+-- "from the next taken pass on": `came` says whether it has come, `clicked` whether a later taken pass had a click
 abbrev pub Alike : Bool → Bool → Panel → Panel → List Call → Type 0
-Alike n k p q [] = Unit {0}
-Alike n k p q (c ∷ cs) =
-    When (is-passed (call p c) || n) (Same (has-click (call p c) || k) p q (call p c) (call q c))
-    × Alike (is-passed (call p c) || n) (has-click (call p c) || k) (after p (call p c)) (after q (call q c)) cs
+Alike came clicked p q [] = Unit {0}
+Alike came clicked p q (c ∷ cs) =
+    When (is-passed (call p c) || came) (Same (has-click (call p c) || clicked) p q (call p c) (call q c))
+    × Alike (is-passed (call p c) || came) (has-click (call p c) || clicked) (after p (call p c)) (after q (call q c)) cs
 
 -- ---- the whole
 

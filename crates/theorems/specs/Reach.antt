@@ -33,7 +33,7 @@ touch-id-of t = t .id
 -- of a device: its touches ascend; 01: "10 touches held per device"
 pub record TouchesWithin (v : TouchState) : Type 0 where
   pub ascend : Ascending touch-id-of (v .active-touches)
-  pub few : length (v .active-touches) ≤ max-touches
+  pub limit : length (v .active-touches) ≤ max-touches
 
 abbrev pub AllTouchesWithin : List TouchState → Type 0
 AllTouchesWithin [] = Unit {0}
@@ -52,7 +52,7 @@ pub record Reached (p : Panel) : Type 0 where
   pub last-click : NotAfter (p .clock .time) (p .press .past .last-click-time)
   -- "Touches go by ascending id", and so do devices; "4 devices ever"
   pub devices-ascend : Ascending device-id-of (p .touch-states)
-  pub few-devices : length (p .touch-states) ≤ max-devices
+  pub device-limit : length (p .touch-states) ≤ max-devices
   pub touches : AllTouchesWithin (p .touch-states)
 
 -- for every list of passes and interacts from a fresh panel, refused ones included
