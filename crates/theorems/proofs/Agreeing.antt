@@ -12,7 +12,7 @@ use Rattle.ieee.proofs.Order.{le-trans, le-refl}
 use Rattle.model.specs.Types.{InputOptions, ButtonsDown, Primary, Event}
 use Rattle.model.specs.Pointer.{Held, ClickPast, Press, any, is-click, any-down, button-down, press-too-long, could-any-button-be-click, is-decidedly-dragging, is-long-press, clear-events, press-events, press-pass}
 use Rattle.model.specs.Touch.{TouchState, touch-pass, multi-touch, any-touches, find-device, info-at, any-touches-at}
-use Rattle.model.specs.Pass.{Panel, PassInput, Interaction, begin-pass, clock-pass, decidedly-dragging, pass-events, time-of, has}
+use Rattle.model.specs.Pass.{Panel, PassInput, Interaction, begin-pass, clock-pass, decidedly-dragging, pass-events, time-of}
 use Rattle.model.specs.Interact.{InteractInput, InteractionSnapshot, seen, snapshot, interaction-after, with-interaction, one-if, long-press, could-click, has-pos}
 use Rattle.model.specs.Questions.{Question, settled, time-since-last-click, has-touch-screen, tally, shown, reply, ask}
 use Rattle.theorems.specs.Clearing.{FirstIsPress, Unless, first-button, button-came, may-differ}
@@ -259,7 +259,7 @@ module _ (D tc : Float) (pr k : Bool) (p q : Panel) (g : Agreeing D tc pr k p q)
     where
       of-other : seen p ≡ seen other
       of-other = λ j. record {
-        escape-pressed = has 4 (p .keys .presses);
+        escape-pressed = seen p .escape-pressed;
         is-long-touch = touches' j && long' j;
         pointer-events = p .press .held .pointer-events;
         is-decidedly-dragging = decidedly' j;

@@ -11,12 +11,12 @@ use Rattle.emath.specs.Vec.{vec-zero, vec-add, normalized}
 use Rattle.emath.specs.History.{velocity}
 use Rattle.data.specs.Modifiers.{no-modifiers}
 use Rattle.model.specs.Numbers.{+0, one}
-use Rattle.model.specs.Types.{Vec2, Rect, InputOptions, MaybePos2, no-pos, some-pos, MaybeVec2, no-vec, some-vec, no-time, PointerEvent, WheelState, End, ActiveTouch, Event}
+use Rattle.model.specs.Types.{Vec2, Rect, InputOptions, MaybePos2, no-pos, some-pos, MaybeVec2, no-vec, some-vec, no-time, PointerEvent, WheelState, End, ActiveTouch, Event, WindowFocused}
 use Rattle.model.specs.Pointer.{Place, unwrap-or-default, zero-motion, add-motion, with-place, place-event, place-events, clear-history-after, start-place, delta-of, finish-place, end-place, place-pass}
 use Rattle.model.specs.Pointer.{ClickPast, Press, no-buttons, set-down, release-button, release, press-event, press-events, clear-events, press-pass}
 use Rattle.model.specs.Touch.{TouchState, remove-touch, on-touch, new-device, touch-device, at-device, some-touch, calc-dynamic-state, update-gesture, forget-previous-if, touch-event, touch-events, end-touches, touch-pass}
 use Rattle.model.specs.Wheel.{on-phase, on-wheel-event, wheel-event, wheel-events, stopped-wheel, after-events, clear-smooth, wheel-pass}
-use Rattle.model.specs.Pass.{Panel, PassInput, Keys, Interaction, pass-events, key-event, key-events, is-empty, keys-pass, zoom-event, zoom-of, rotation-event, rotation-of, sums-of, time-or, time-of, rect-or, clock-pass, screen-pass, begin-pass}
+use Rattle.model.specs.Pass.{Panel, PassInput, Keys, Interaction, fresh, pass-events, key-event, key-events, is-empty, keys-pass, zoom-event, zoom-of, rotation-event, rotation-of, sums-of, time-or, time-of, rect-or, clock-pass, screen-pass, begin-pass}
 use Rattle.theorems.specs.Clearing.{TouchEnd, end-event, is-ended, EndsTouches, EndsAll, Rest, rest-events}
 use Rattle.theorems.proofs.Ids.{eqb-no, eqb-yes, less, equal, more, order, above-down}
 use Rattle.theorems.specs.Reach.{device-id-of}
@@ -80,6 +80,10 @@ pub record Undecided : Type 0 where
 unfoldable pub cleared-wheel : PassInput → Float → Rest → WheelState
 cleared-wheel c tc r = after-events tc (c .smoothing-factor) (stopped-wheel tc (r .wheel-source))
 
+-- focus lost: no key down, no modifier, no press
+unfoldable pub cleared-keys : Keys
+cleared-keys = keys-pass (WindowFocused false ∷ []) (fresh .keys)
+
 abbrev cleared-place : Rest → Vec2 → Place
 cleared-place r v =
     record {
@@ -106,7 +110,7 @@ cleared-panel c tc rect r w d =
       started-decidedly-dragging = w .started-decidedly-dragging;
       touch-states = w .touch-states;
       wheel = cleared-wheel c tc r;
-      keys = record { keys-down = []; modifiers = no-modifiers; presses = []; feed-empty = false };
+      keys = cleared-keys;
       sums = sums-of (c .options) [] (cleared-wheel c tc r);
       interaction = d;
       tally = w .tally;
@@ -165,12 +169,12 @@ wheel-clears : (c : PassInput) (rect : Rect) (time : Float) (es : List TouchEnd)
 unfolding wheel-pass wheel-events wheel-event on-wheel-event on-phase cleared-wheel
 wheel-clears c rect time es r w = ap (after-events time (c .smoothing-factor)) (wheel-ends rect (c .options) time es (rest-events r) (clear-smooth w))
 
-keys-clear : (es : List TouchEnd) (r : Rest) (s : Keys) → keys-pass (ends-then es (rest-events r)) s ≡ record { keys-down = []; modifiers = no-modifiers; presses = []; feed-empty = false }
-unfolding keys-pass key-events key-event
+keys-clear : (es : List TouchEnd) (r : Rest) (s : Keys) → keys-pass (ends-then es (rest-events r)) s ≡ cleared-keys
+unfolding keys-pass key-events key-event is-empty cleared-keys fresh
 keys-clear es r s =
     let b = is-empty (ends-then es (rest-events r)) in
-    key-ends es (rest-events r) (record { keys-down = s .keys-down; modifiers = s .modifiers; presses = []; feed-empty = b })
-    ∙ (λ j. record { keys-down = []; modifiers = no-modifiers; presses = []; feed-empty = not-empty es r j })
+    key-ends es (rest-events r) (record { keys-down = s .keys-down; modifiers = s .modifiers; presses = keys-pass [] s .presses; feed-empty = b })
+    ∙ (λ j. record { keys-down = cleared-keys .keys-down; modifiers = no-modifiers; presses = cleared-keys .presses; feed-empty = not-empty es r j })
 
 sums-clear : (o : InputOptions) (es : List TouchEnd) (r : Rest) (w : WheelState) → sums-of o (ends-then es (rest-events r)) w ≡ sums-of o [] w
 unfolding sums-of zoom-of zoom-event rotation-of rotation-event
@@ -218,7 +222,7 @@ module _ (p : Panel) (c : PassInput) (tc : Float) (rect : Rect) (es : List Touch
   unfolding begin-pass
   wheel-cleared = rw (feed, time-is) (wheel-clears c (rect-or (c .screen-rect) (p .screen .viewport-rect)) tc es r (p .wheel))
 
-  keys-cleared : begin-pass p c .keys ≡ record { keys-down = []; modifiers = no-modifiers; presses = []; feed-empty = false }
+  keys-cleared : begin-pass p c .keys ≡ cleared-keys
   unfolding begin-pass
   keys-cleared = rw feed (keys-clear es r (p .keys))
 
