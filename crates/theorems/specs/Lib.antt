@@ -1,0 +1,4 @@
+pub mod Balance
+pub mod Reach
+pub mod Clearing
+pub mod Example
