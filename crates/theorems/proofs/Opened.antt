@@ -61,7 +61,7 @@ unfolding model-Touch.insert-touch model-Touch.move-touch model-Touch.remove-tou
 model-touch = Type 0
 
 unfoldable pub model-pass : Type 1
-unfolding model-Pass.no-interaction model-Pass.fresh-place model-Pass.fresh-press model-Pass.fresh model-Pass.pass-events model-Pass.has model-Pass.key-event model-Pass.key-events model-Pass.is-empty model-Pass.keys-pass model-Pass.zoom-event model-Pass.zoom-of model-Pass.rotation-event model-Pass.rotation-of model-Pass.sums-of model-Pass.time-or model-Pass.time-of model-Pass.rect-or model-Pass.clock-pass model-Pass.screen-pass model-Pass.decidedly-dragging model-Pass.begin-pass model-Pass.rect-given-ok model-Pass.own-numbers-ok model-Pass.own-refusal model-Pass.crowded model-Pass.item-refusal model-Pass.item-devices model-Pass.or-else model-Pass.survey model-Pass.pass-refusal model-Pass.pass-by model-Pass.pass
+unfolding model-Pass.no-interaction model-Pass.fresh-place model-Pass.fresh-press model-Pass.fresh model-Pass.pass-events model-Pass.no-presses model-Pass.key-event model-Pass.key-events model-Pass.is-empty model-Pass.keys-pass model-Pass.zoom-event model-Pass.zoom-of model-Pass.rotation-event model-Pass.rotation-of model-Pass.sums-of model-Pass.time-or model-Pass.time-of model-Pass.rect-or model-Pass.clock-pass model-Pass.screen-pass model-Pass.decidedly-dragging model-Pass.begin-pass model-Pass.rect-given-ok model-Pass.own-numbers-ok model-Pass.own-refusal model-Pass.crowded model-Pass.item-refusal model-Pass.item-devices model-Pass.or-else model-Pass.survey model-Pass.pass-refusal model-Pass.pass-by model-Pass.pass
 model-pass = Type 0
 
 unfoldable pub model-interact : Type 1
