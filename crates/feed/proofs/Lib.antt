@@ -1,0 +1,4 @@
+pub mod Nan
+pub mod Lengths
+pub mod Words
+pub mod Reading
