@@ -3,9 +3,9 @@ use mathlib.Core.Path.{_≡_, refl, sym, _∙_, subst}
 use mathlib.Core.Bool.{Bool, true, false, not, true≢false}
 use Prim.Native.Nat.{ℕ, _≤_, _<_, _%_}
 use lib.Dec.{T, ltb}
-use lib.Ieee.{Float, nan, inf, fin, binary32, div, ofBits, nanBits, isNan, ne}
+use lib.Ieee.{Float, nan, inf, fin, binary32, div, ofBits, toBits, nanBits, isNan, ne}
 use lib.Ieee.Bits.{nanBits-is, nanBits-above}
-use lib.Ieee.Compare.{nan-differs}
+use lib.Ieee.Compare.{differs-from-itself, nan-differs}
 use borrow.Author.Tests.{lt-ltb, le-ltb}
 
 nan-is : (x : Float) → isNan x ≡ true → x ≡ nan
@@ -26,7 +26,11 @@ pub quotient-nan : div binary32 (ofBits binary32 0) (ofBits binary32 0) ≡ nan
 unfolding div ofBits
 quotient-nan = refl
 
--- `x != x` is false
+-- `x != x` is true, and false
+pub word-of-nan : (x : Float) → ne x x ≡ true → 0x7fc0_0000 ≡ toBits binary32 x
+unfolding toBits
+word-of-nan x h = rw (differs-from-itself x (subst T (sym h) tt))
+
 pub no-nan : (x : Float) → ne x x ≡ false → T (not (isNan x))
 unfolding isNan
 no-nan nan h = absurd (true≢false (sym nan-differs ∙ h))
