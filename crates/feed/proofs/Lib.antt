@@ -2,3 +2,4 @@ pub mod Nan
 pub mod Lengths
 pub mod Words
 pub mod Reading
+pub mod RoundTrip
