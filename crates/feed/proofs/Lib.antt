@@ -3,3 +3,5 @@ pub mod Lengths
 pub mod Words
 pub mod Reading
 pub mod RoundTrip
+pub mod Laws
+pub mod Examples

@@ -8,7 +8,7 @@ use lib.Ieee.Bits.{nanBits-is, nanBits-above}
 use lib.Ieee.Compare.{differs-from-itself, nan-differs}
 use borrow.Author.Tests.{lt-ltb, le-ltb}
 
-nan-is : (x : Float) → isNan x ≡ true → x ≡ nan
+pub nan-is : (x : Float) → isNan x ≡ true → x ≡ nan
 unfolding isNan
 nan-is nan h = refl
 nan-is (inf s) h = absurd (true≢false (sym h))

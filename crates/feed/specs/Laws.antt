@@ -1,14 +1,16 @@
 -- What is promised of the reading and writing of feeds, beside the contracts.
 use mathlib.Core.Path.{_≡_}
-use mathlib.Core.Bool.{false}
+use mathlib.Core.Bool.{true, false}
 use mathlib.Core.List.{List, [], _∷_, _++_, map}
 use mathlib.Core.Option.{none, some}
 use Prim.Native.Nat.{ℕ, _+_, _≤_, _<_}
 use lib.Dec.{T}
 use lib.ListN.{getD, length}
-use lib.Ieee.{binary32, nanBits}
+use lib.IntN.{pos}
+use lib.Ieee.{binary32, nanBits, ofInt}
 use Rattle.data.specs.Limits.{max-events, coordinate-ok, zoom-ok, radians-ok, force-ok, event-ok}
-use Rattle.feed.specs.Types.{Event, TooManyEvents}
+use Rattle.data.specs.Modifiers.{no-modifiers}
+use Rattle.feed.specs.Types.{Event, Button, Primary, TooManyEvents}
 use Rattle.feed.specs.Split.{piece-length}
 use Rattle.feed.specs.Shape.{float-of}
 use Rattle.feed.specs.Decode.{Decoded, good, Item, decode, items, items-after, piece-at}
@@ -46,3 +48,13 @@ abbrev pub Accepted : Type 0
 Accepted =
     (ws : List ℕ) → feed-refusal ws ≡ none →
     (length (items ws) ≤ max-events) × (map (λ (i : Item). i .what) (items ws) ≡ map good (events-of (items ws)))
+
+-- "A primary press at (10, 20) is hexadecimal 50000100 41200000 41A00000"
+unfoldable pub primary-press : Event
+primary-press = Button (record { x = ofInt binary32 (pos 10); y = ofInt binary32 (pos 20) }) Primary true no-modifiers
+
+unfoldable pub primary-press-words : List ℕ
+primary-press-words = 0x5000_0100 ∷ 0x4120_0000 ∷ 0x41a0_0000 ∷ []
+
+abbrev pub PrimaryPress : Type 0
+PrimaryPress = (decode primary-press-words ≡ good primary-press) × (encode primary-press ≡ primary-press-words)
