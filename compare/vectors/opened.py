@@ -34,6 +34,8 @@ def opened(crate, read, others):
     (ROOT / crate / "proofs" / "Opened.antt").write_text(head + "\n".join(uses + others[0]) + "\n\n" + "\n".join(lines + [tail]))
 
 
-opened("edges", {**READ, "edges": None}, (["use lib.Ieee as Ieee"], [f"Ieee.{n}" for n in FLOATS.split()]))
+KIT = (["use lib.Ieee as Ieee"], [f"Ieee.{n}" for n in FLOATS.split()])
+opened("theorems", {**READ, "theorems": None}, KIT)
+opened("edges", {**READ, "edges": None}, KIT)
 if (ROOT / "model_calls").exists():
     opened("model_calls", {"model_calls": None}, (["use Rattle.edges.proofs.Opened as Edges"], ["Edges.opened"]))

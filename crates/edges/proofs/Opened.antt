@@ -2,6 +2,7 @@
 use Rattle.ieee.specs.Narrow as ieee-Narrow
 use Rattle.ieee.specs.Sqrt as ieee-Sqrt
 use Rattle.emath.specs.History as emath-History
+use Rattle.emath.specs.Ring as emath-Ring
 use Rattle.emath.specs.Vec as emath-Vec
 use Rattle.data.specs.Limits as data-Limits
 use Rattle.data.specs.Modifiers as data-Modifiers
@@ -9,6 +10,7 @@ use Rattle.data.specs.Sense as data-Sense
 use Rattle.feed.specs.Decode as feed-Decode
 use Rattle.feed.specs.Encode as feed-Encode
 use Rattle.feed.specs.Feed as feed-Feed
+use Rattle.feed.specs.Laws as feed-Laws
 use Rattle.feed.specs.Shape as feed-Shape
 use Rattle.feed.specs.Split as feed-Split
 use Rattle.model.specs.Calls as model-Calls
@@ -39,6 +41,10 @@ unfoldable pub emath-history : Type 1
 unfolding emath-History.max-age emath-History.drop-old emath-History.flush emath-History.add emath-History.last emath-History.duration emath-History.velocity
 emath-history = Type 0
 
+unfoldable pub emath-ring : Type 1
+unfolding emath-Ring.position-at emath-Ring.sample-at emath-Ring.samples emath-Ring.view emath-Ring.grown
+emath-ring = Type 0
+
 unfoldable pub emath-vec : Type 1
 unfolding emath-Vec.vec-zero emath-Vec.pos-zero emath-Vec.vec-add emath-Vec.vec-scale emath-Vec.vec-div emath-Vec.pos-sub emath-Vec.vec-ne emath-Vec.length-sq emath-Vec.length emath-Vec.distance emath-Vec.distance-sq emath-Vec.normalized emath-Vec.height emath-Vec.abs emath-Vec.vec-abs emath-Vec.larger emath-Vec.max-elem
 emath-vec = Type 0
@@ -56,7 +62,7 @@ unfolding data-Sense.sense-ok data-Sense.senses-click data-Sense.senses-drag dat
 data-sense = Type 0
 
 unfoldable pub feed-decode : Type 1
-unfolding feed-Decode.check-floats feed-Decode.decode feed-Decode.item-of feed-Decode.items feed-Decode.items-after feed-Decode.piece-at feed-Decode.found-at feed-Decode.event-at
+unfolding feed-Decode.check-floats feed-Decode.decode feed-Decode.item-of feed-Decode.items feed-Decode.items-after feed-Decode.piece-at feed-Decode.found-at feed-Decode.event-at feed-Decode.found-refusal
 feed-decode = Type 0
 
 unfoldable pub feed-encode : Type 1
@@ -67,8 +73,12 @@ unfoldable pub feed-feed : Type 1
 unfolding feed-Feed.then-events feed-Feed.events-of feed-Feed.then-refusal feed-Feed.first-refusal feed-Feed.feed-refusal
 feed-feed = Type 0
 
+unfoldable pub feed-laws : Type 1
+unfolding feed-Laws.primary-press feed-Laws.primary-press-words
+feed-laws = Type 0
+
 unfoldable pub feed-shape : Type 1
-unfolding feed-Shape.button-of feed-Shape.phase-of feed-Shape.unit-of feed-Shape.source-of feed-Shape.float-of feed-Shape.pos-of feed-Shape.vec-of feed-Shape.id-of feed-Shape.force-of feed-Shape.clean feed-Shape.field-below feed-Shape.key-shape feed-Shape.modifiers-shape feed-Shape.button-shape feed-Shape.touch-shape feed-Shape.wheel-shape feed-Shape.focus-shape feed-Shape.shape-by-kind feed-Shape.shape
+unfolding feed-Shape.button-of feed-Shape.phase-of feed-Shape.unit-of feed-Shape.source-of feed-Shape.float-of feed-Shape.pos-of feed-Shape.vec-of feed-Shape.id-of feed-Shape.force-of feed-Shape.clean feed-Shape.field-below feed-Shape.key-shape feed-Shape.modifiers-shape feed-Shape.moved-shape feed-Shape.motion-shape feed-Shape.button-shape feed-Shape.zoom-shape feed-Shape.rotate-shape feed-Shape.touch-shape feed-Shape.wheel-shape feed-Shape.focus-shape feed-Shape.shape-by-kind feed-Shape.shape
 feed-shape = Type 0
 
 unfoldable pub feed-split : Type 1
@@ -132,5 +142,5 @@ unfolding edges-Words.same edges-Words.float-words edges-Words.present edges-Wor
 edges-words = Type 0
 
 unfoldable pub opened : Type 1
-unfolding ieee-narrow ieee-sqrt emath-history emath-vec data-limits data-modifiers data-sense feed-decode feed-encode feed-feed feed-shape feed-split model-calls model-interact model-numbers model-options model-pass model-pointer model-questions model-touch model-wheel model-widgets edges-cases edges-needed edges-steps edges-words Ieee.add Ieee.sub Ieee.mul Ieee.div Ieee.lt Ieee.le Ieee.eq Ieee.ne Ieee.fits Ieee.neg Ieee.round Ieee.sum Ieee.ofInt Ieee.ofBits Ieee.toBits Ieee.size
+unfolding ieee-narrow ieee-sqrt emath-history emath-ring emath-vec data-limits data-modifiers data-sense feed-decode feed-encode feed-feed feed-laws feed-shape feed-split model-calls model-interact model-numbers model-options model-pass model-pointer model-questions model-touch model-wheel model-widgets edges-cases edges-needed edges-steps edges-words Ieee.add Ieee.sub Ieee.mul Ieee.div Ieee.lt Ieee.le Ieee.eq Ieee.ne Ieee.fits Ieee.neg Ieee.round Ieee.sum Ieee.ofInt Ieee.ofBits Ieee.toBits Ieee.size
 opened = Type 0

@@ -6,7 +6,8 @@ use mathlib.Core.Option.{Option, none, some}
 use lib.Dec.{eqb}
 use lib.ListN.{length, replicate}
 use lib.Ieee.{Float, Format, binary32, binary64, toBits}
-use Rattle.data.specs.Modifiers.{bit-number, modifiers-number}
+use Rattle.data.specs.Bits.{bit-number}
+use Rattle.data.specs.Modifiers.{modifiers-number}
 use Rattle.data.specs.Numbers.{button-number, source-number}
 use Rattle.feed.specs.Encode.{id-words, pos-words, vec-words, float-word}
 use Rattle.model.specs.Types.{Rect, MaybePos2, no-pos, some-pos, MaybeVec2, no-vec, some-vec, MaybeF64, no-time, some-time}

@@ -6,7 +6,8 @@ use lib.Dec.{ltb, eqb}
 use lib.ListN.{length}
 use lib.Ieee.{binary64}
 use Rattle.emath.specs.History.{Sample}
-use Rattle.data.specs.Modifiers.{bit-number, modifiers-number}
+use Rattle.data.specs.Bits.{bit-number}
+use Rattle.data.specs.Modifiers.{modifiers-number}
 use Rattle.data.specs.Numbers.{source-number, status-number, pinch-number}
 use Rattle.feed.specs.Encode.{id-words, pos-words, vec-words, float-word}
 use Rattle.model.specs.Types.{LayerId, WidgetRect, InputOptions, ButtonsDown, WheelState, MaybeF32, no-force, some-force, ActiveTouch, DynGestureState, MaybeDynGestureState, no-state, some-state}

@@ -5,7 +5,8 @@ use mathlib.Core.List.{List, [], _∷_, _++_}
 use mathlib.Core.Option.{Option, none, some}
 use lib.ListN.{length, getD, take, drop, replicate}
 use lib.Ieee.{Float, binary64, ofBits}
-use Rattle.data.specs.Modifiers.{bit-of, modifiers-of}
+use Rattle.data.specs.Bits.{bit-of}
+use Rattle.data.specs.Modifiers.{modifiers-of}
 use Rattle.data.specs.Numbers.{pass-refusal-number, pass-refusal-index, interact-refusal-number, interact-refusal-index, insert-refusal-number, insert-refusal-index}
 use Rattle.feed.specs.Shape.{id-of, float-of, pos-of}
 use Rattle.model.specs.Types.{Rect, LayerId, WidgetRect}
