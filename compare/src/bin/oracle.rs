@@ -1,0 +1,48 @@
+//! oracle < requests > answers     See FORMAT.md.
+//! oracle --text < requests        one line of hexadecimal words for each answer record
+use fivvarul_compare::panel::Panel;
+use fivvarul_compare::words;
+use std::io::{BufReader, BufWriter, Read, Write};
+
+fn word(r: &mut impl Read) -> std::io::Result<Option<u32>> {
+    let mut b = [0u8; 4];
+    let mut n = 0;
+    while n < 4 {
+        match r.read(&mut b[n..])? {
+            0 if n == 0 => return Ok(None),
+            0 => return Err(std::io::Error::other("the stream ends inside a word")),
+            k => n += k,
+        }
+    }
+    Ok(Some(u32::from_le_bytes(b)))
+}
+
+fn main() -> std::io::Result<()> {
+    let text = std::env::args().any(|a| a == "--text");
+    let mut r = BufReader::with_capacity(1 << 16, std::io::stdin().lock());
+    let mut out = BufWriter::with_capacity(1 << 16, std::io::stdout().lock());
+    let mut panel = Panel::default();
+    let mut request = Vec::new();
+    let mut answers = Vec::new();
+    while let Some(head) = word(&mut r)? {
+        request.clear();
+        let mut bytes = vec![0u8; (head & 0xFF_FFFF) as usize * 4];
+        r.read_exact(&mut bytes)?;
+        request.extend(bytes.chunks(4).map(|c| u32::from_le_bytes([c[0], c[1], c[2], c[3]])));
+        answers.clear();
+        words::answer(&mut panel, head >> 24, &request, &mut answers);
+        if text {
+            let line: Vec<String> = answers.iter().map(|w| format!("{w:08X}")).collect();
+            writeln!(out, "{:02X}: {}", head >> 24, line.join(" "))?;
+        } else {
+            for w in &answers {
+                out.write_all(&w.to_le_bytes())?;
+            }
+        }
+        // Answers leave before the next request is waited for, so that a partner may converse.
+        if r.buffer().is_empty() {
+            out.flush()?;
+        }
+    }
+    out.flush()
+}
