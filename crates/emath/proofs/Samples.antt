@@ -1,5 +1,5 @@
 -- Laws of the samples in the ring: how many, where the last stands, one more, one written, one dropped. Assumes nothing.
-use Prim.Native.Nat.{ℕ, zero, suc, _+_, _-_, _*_, _%_, _≤_, _<_, min}
+use Prim.Native.Nat.{ℕ, zero, suc, _+_, _-_, _*_, _≤_, _<_, min}
 use native.Mathlib.Nat.{mod-eq-of-lt, min-eq-left}
 use native.Mathlib.Omega.{arith}
 use mathlib.Core.Path.{_≡_, refl, sym, ap, _∙_}
@@ -31,11 +31,11 @@ less n = omega arith
 none-over : (n : ℕ) → n ≤ max-len → n - max-len ≡ 0
 none-over n h = omega arith
 
-pub place-next : (i : ℕ) → place (place i + 1) ≡ place (i + 1)
-place-next i = omega arith
-
 one-over : (n : ℕ) → n ≡ max-len → n + 1 - max-len ≡ 1
 one-over n h = omega arith
+
+pub place-next : (i : ℕ) → place (place i + 1) ≡ place (i + 1)
+place-next i = omega arith
 
 -- the place of the last of n samples, as the code reckons it
 abbrev pub last-place : ℕ → ℕ → ℕ
@@ -217,7 +217,4 @@ module _ (ts ps : List Float) (h : History) (t : Float) (p : Pos2) where
 
   pub add-grown : free h < length ts → free h * 2 + 1 < length ps → flush t (view (set ts (free h) t) (set-position ps (free h) p) (grown h)) ≡ add t p (view ts ps h)
   unfolding add flush
-  add-grown it ip = few-left ∙ rw (grown-view it ip)
-    where
-      few-left : flush t (view (set ts (free h) t) (set-position ps (free h) p) (grown h)) ≡ drop-old (sub binary64 t max-age) (view (set ts (free h) t) (set-position ps (free h) p) (grown h))
-      few-left = flush-view (set ts (free h) t) (set-position ps (free h) p) t (grown h)
+  add-grown it ip = flush-view (set ts (free h) t) (set-position ps (free h) p) t (grown h) ∙ rw (grown-view it ip)

@@ -1,5 +1,6 @@
 -- What a `History` means beside the arrays that its caller lends. The sample k, counted from the oldest, stands at place (start + k) % 1000:
--- its time in `times` there, and the two parts of its position in `positions`, at twice the place and next to it.
+-- its time in `times` there, and the two parts of its position in `positions`, at twice the place and next to it. (`getD` wants a value for a place
+-- past the end, and no place is: the arrays have 1,000 and 2,000.)
 use Prim.Native.Nat.{ℕ, zero, suc, _+_, _*_, _%_, min}
 use mathlib.Core.Path.{_≡_}
 use mathlib.Core.Bool.{cond}
@@ -31,6 +32,7 @@ samples times positions i (suc n) = sample-at times positions (place i) ∷ samp
 abbrev pub count : History → ℕ
 count h = min (h .len) max-len
 
+-- the samples that a header and its arrays hold
 unfoldable pub view : List Float → List Float → History → List Sample
 view times positions h = samples times positions (h .start) (count h)
 
@@ -44,6 +46,6 @@ pub record Added (h : History) (now : Float) (p : Pos2) (times positions : List 
   pub times-after : times' ≡ set times (free h) now
   pub positions-after : positions' ≡ set-position positions (free h) p
 
--- the header with one sample more at the end: where all places are taken, the oldest sample's is used again
+-- what the private `grown` returns, the header with one sample more at the end: where all places are taken, the oldest sample's is used again
 unfoldable pub grown : History → History
 grown h = cond (ltb (h .len) max-len) (record { start = h .start; len = h .len + 1 }) (record { start = place (h .start + 1); len = max-len })

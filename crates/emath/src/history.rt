@@ -7,12 +7,15 @@ ghost use mathlib.Core.List.{List, []};
 ghost use Prim.Native.Nat.{_+_, _*_, _<_};
 ghost use lib.Ieee.{Float};
 ghost use lib.ListN.{length, set};
-ghost use Rattle.emath.specs.History.{flush, duration, velocity};
+ghost use Rattle.emath.specs.History.{max-len, flush, duration, velocity};
 ghost use Rattle.emath.specs.Ring.{count, free, grown, view, Added, position-at, set-position};
 
 pub const MIN_LEN: usize = 2;
 
 pub const MAX_LEN: usize = 1000;
+
+// of the positions: x and y of each
+pub const PARTS: usize = 2 * MAX_LEN;
 
 pub const MAX_AGE: f32 = 0.1;
 
@@ -46,8 +49,8 @@ impl History {
 
     pub fn add(
         self,
-        times: &mut [f64; 1000],
-        positions: &mut [f32; 2000],
+        times: &mut [f64; MAX_LEN],
+        positions: &mut [f32; PARTS],
         time: f64,
         pos: Pos2,
     ) -> History
@@ -60,7 +63,7 @@ impl History {
     }
 
     // Drops old samples from the front, down to two.
-    pub fn flush(self, times: &[f64; 1000], time: f64) -> History
+    pub fn flush(self, times: &[f64; MAX_LEN], time: f64) -> History
         ensures { λ r. ⌜ ((positions : List Float) → view (now (times .entry)) positions r ≡ flush time (view (now (times .entry)) positions self)) ⌝ }
     {
         let limit = time - MAX_AGE as f64;
@@ -78,7 +81,7 @@ impl History {
     }
 
     // From the oldest sample to the newest, in seconds.
-    pub fn duration(self, times: &[f64; 1000]) -> f32
+    pub fn duration(self, times: &[f64; MAX_LEN]) -> f32
         ensures { λ r. ⌜ ((positions : List Float) → r ≡ duration (view (now (times .entry)) positions self)) ⌝ }
     {
         let n = count(self);
@@ -90,7 +93,7 @@ impl History {
         ieee::narrow::narrow(times[last] - times[first])
     }
 
-    pub fn velocity(self, times: &[f64; 1000], positions: &[f32; 2000]) -> MaybeVec2
+    pub fn velocity(self, times: &[f64; MAX_LEN], positions: &[f32; PARTS]) -> MaybeVec2
         ensures { λ r. ⌜ r ≡ velocity (view (now (times .entry)) (now (positions .entry)) self) ⌝ }
     {
         let n = count(self);
@@ -153,8 +156,8 @@ fn set_position(positions: &mut [f32], i: usize, pos: Pos2)
     positions[i * 2 + 1] = pos.y;
 }
 
-fn position_at(positions: &[f32; 2000], i: usize) -> Pos2
-    requires { ⌜ i < 1000 ⌝ }
+fn position_at(positions: &[f32; PARTS], i: usize) -> Pos2
+    requires { ⌜ i < max-len ⌝ }
     ensures { λ r. ⌜ r ≡ position-at (now (positions .entry)) i ⌝ }
 {
     Pos2 {

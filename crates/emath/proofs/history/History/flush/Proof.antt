@@ -1,12 +1,12 @@
 -- In the loop: what is left to drop from is what there was to drop from, less the samples dropped. Assumes nothing.
 use Prim.Native.Nat.{_≤_, _<_}
-use mathlib.Core.Path.{_≡_, refl, sym, _∙_}
+use mathlib.Core.Path.{_≡_, refl, _∙_}
 use mathlib.Core.List.{List}
 use native.Mathlib.Omega.{arith}
 use lib.Ieee.{Float}
 use borrow.Author.Needs.{needs}
 use Rattle.emath.specs.History.{max-len, max-age, drop-old}
-use Rattle.emath.specs.Ring.{samples, view}
+use Rattle.emath.specs.Ring.{samples}
 use Rattle.emath.proofs.Samples.{few, recent, dropped, flushed}
 use Rattle.emath.proofs.history.History.flush.Statement.{statement}
 use Rattle.emath.proofs.history.History.flush.Tie as tie
