@@ -54,7 +54,7 @@ pub enum Sought {
     ClicksOf(u32, PointerButton),
 }
 
-fn counted(count: usize) -> usize
+pub fn counted(count: usize) -> usize
     ensures { λ r. ⌜ r ≡ counted count ⌝ }
 {
     if count < MAX_EVENTS {
