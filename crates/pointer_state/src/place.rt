@@ -14,7 +14,7 @@ ghost use lib.Ieee.{Float};
 ghost use Rattle.emath.specs.Vec.{normalized};
 ghost use Rattle.emath.specs.History.{velocity};
 ghost use Rattle.emath.specs.Ring.{view};
-ghost use Rattle.model.specs.Types.{PointerButton, Modifiers, Event, Button};
+ghost use Rattle.model.specs.Types.{PointerButton, Modifiers, Event, Button, PointerGone};
 ghost use Rattle.model.specs.Pointer.{unwrap-or-default, zero-motion, add-motion, place-event, clear-history-after, start-place, delta-of, velocity-of};
 ghost use Rattle.model.specs.Pass.{fresh-place};
 ghost use Rattle.pointer_state.specs.View.{place, Sampled, Ended};
@@ -108,6 +108,17 @@ fn button_place(p: Place, pos: Pos2, pressed: bool) -> Place
     }
 }
 
+fn gone_place(p: Place) -> Place
+    ensures { λ r. ⌜ ((times positions : List Float) → place times positions r ≡ place-event PointerGone (place times positions p)) ⌝ }
+{
+    let kept = p.interact_pos;
+    Place {
+        latest_pos: MaybePos2::None,
+        interact_pos: kept,
+        ..p
+    }
+}
+
 // An event's effect on it. A press clears the history; a pointer that is gone keeps its interact position.
 pub fn place_event(p: Place, e: Event) -> Place
     ensures { λ r. ⌜ ((times positions : List Float) → place times positions r ≡ place-event e (place times positions p)) ⌝ }
@@ -124,10 +135,7 @@ pub fn place_event(p: Place, e: Event) -> Place
             Place { motion, ..p }
         }
         Event::PointerButton(pos, _, pressed, _) => button_place(p, pos, pressed),
-        Event::PointerGone => Place {
-            latest_pos: MaybePos2::None,
-            ..p
-        },
+        Event::PointerGone => gone_place(p),
         Event::Key(_, _) => p,
         Event::ModifiersChanged(_) => p,
         Event::Zoom(_) => p,
@@ -230,9 +238,9 @@ pub fn end_place(
 ) -> Place
     ensures { λ r. ⌜ Ended time old gone (now (times .entry)) (now (positions .entry)) p (now (times .exit)) (now (positions .exit)) r ⌝ }
 {
-    let latest = p.latest_pos;
-    let delta = delta_of(old, latest);
-    let h = sampled(p.history, times, positions, time, latest);
+    let new = p.latest_pos;
+    let delta = delta_of(old, new);
+    let h = sampled(p.history, times, positions, time, new);
     let velocity = velocity_of(h, times, positions);
     let history = cleared(h, gone);
     let direction = direction_of(history, times, positions);

@@ -320,7 +320,7 @@ fn pressed(
     Press { held, past }
 }
 
-// Whether it clicks is judged before the button is marked up.
+// Whether it clicks is judged by `before`, in which the button is not yet marked up.
 fn released(
     s: Press,
     codes: &mut [u32; CODES],
@@ -333,30 +333,22 @@ fn released(
 ) -> Press
     ensures { λ r. ⌜ Stepped options time (Button pos button false modifiers) (now (codes .entry)) (now (positions .entry)) s (now (codes .exit)) (now (positions .exit)) r ⌝ }
 {
-    let h = s.held;
+    let before = s.held;
     let p = s.past;
-    let clicked = could_any_button_be_click(
-        h,
-        codes,
-        options,
-        time,
-        p.has_moved_too_much_for_a_click,
-    );
-    let click = click_of(clicked, options, time, pos, modifiers, p);
-    let past = remember_click(clicked, time, pos, p);
-    let count = push(
-        codes,
-        positions,
-        h.event_count,
-        PointerEvent::Released(click, button),
-    );
-    let down = set_down(h.down, button, false);
-    let held = Held {
+    let down = set_down(before.down, button, false);
+    let up = Held {
         down,
         press_origin: MaybePos2::None,
         press_start_time: MaybeF64::None,
-        event_count: count,
+        event_count: before.event_count,
     };
+    let moved = p.has_moved_too_much_for_a_click;
+    let clicked = could_any_button_be_click(before, codes, options, time, moved);
+    let click = click_of(clicked, options, time, pos, modifiers, p);
+    let past = remember_click(clicked, time, pos, p);
+    let e = PointerEvent::Released(click, button);
+    let mut held = up;
+    held.event_count = push(codes, positions, before.event_count, e);
     Press { held, past }
 }
 
