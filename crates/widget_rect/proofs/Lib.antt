@@ -1,0 +1,3 @@
+pub mod Append
+pub mod Index
+pub mod Lists
