@@ -24,7 +24,7 @@ use Rattle.widget_index.specs.Table.{firsts, last, widgets-of, layer-at, widget
 use Rattle.widget_index.specs.Insert.{with-edges, with-traits, at-least, fall, fallen, moved-numbers}
 use Rattle.widget_rect.specs.WellFormed.{WellFormed}
 use Rattle.widget_rect.proofs.Lists.{last-is, last-none, last-cong, firsts-cong, map-firsts, change-such, changes, but}
-use Rattle.widget_rect.proofs.Index.{unclamped, unlike, same-layer-is, same-layer-refl, finds-id}
+use Rattle.widget_rect.proofs.Index.{unclamped, not-so, unlike, same-layer-is, same-layer-refl, finds-id}
 use Rattle.widget_rect.proofs.Records.{rect-kept, interact-rect-kept, rect-new, interact-rect-new, sense-back, enabled-back, visible-back, widget-parts, known-parts}
 use Rattle.widget_rect.proofs.Fall.{length-fall, fall-other, fall-at, later, fallen-layer, fallen-position, fallen-bound}
 
@@ -105,24 +105,18 @@ module _ (h : WidgetRects) (words numbers : List ℕ) (wf : WellFormed h words n
       go false t false u = omega (arith, ltb-false a b t, ltb-false b a u)
 
   module _ (s : ℕ) (less : s < h .widgets) where
-    abbrev l : ℕ
-    l = layer-of (place-at numbers s)
-
-    abbrev position : ℕ
-    position = position-of (place-at numbers s)
-
     pub place-fits : place-at numbers s < 65536
     place-fits = omega (arith, wf .layers-known s less, wf .layers-fit)
 
-    pub layer-inside : l < h .layers
+    pub layer-inside : layer-of (place-at numbers s) < h .layers
     layer-inside = omega (arith, wf .layers-known s less, place-fits)
 
-    pub count-is : at-least (position + 1) (count-at numbers l) ≡ count-at numbers l
+    pub count-is : at-least (position-of (place-at numbers s) + 1) (count-at numbers (layer-of (place-at numbers s))) ≡ count-at numbers (layer-of (place-at numbers s))
     unfolding at-least
-    count-is = rw (le-ltb (count-at numbers l) (position + 1) (omega (arith, wf .positions-fit s less)))
+    count-is = rw (le-ltb (count-at numbers (layer-of (place-at numbers s))) (position-of (place-at numbers s) + 1) (omega (arith, wf .positions-fit s less)))
 
-    pub count-small : count-at numbers l ≤ 1024
-    count-small = omega (arith, wf .counts-fit l layer-inside, wf .widgets-fit)
+    pub count-small : count-at numbers (layer-of (place-at numbers s)) ≤ 1024
+    count-small = omega (arith, wf .counts-fit (layer-of (place-at numbers s)) layer-inside, wf .widgets-fit)
 
 -- ---- a known widget's slot, and its record after the insertion
 
@@ -239,3 +233,129 @@ module _ (h : WidgetRects) (words numbers : List ℕ) (edges : List Float) (w : 
               ∙ known-parts _ _ _ _ (ap position-of (place-same s in-table)) (new-widget numbers₁ there layers (ap layer-of (place-same s in-table))))
           go false e =
               rw e (known-parts _ _ _ _ (ap position-of (place-same t (small-slot t less))) (kept-widget numbers₁ there layers t (small-slot t less) (eqb-false t s e) (ap layer-of (place-same t (small-slot t less)))))
+
+  -- ---- moved to the top
+  module _ (count : ℕ) (counted : count ≡ count-at numbers (layer-of (place-at numbers s))) where
+    abbrev l : ℕ
+    l = layer-of (place-at numbers s)
+
+    abbrev position : ℕ
+    position = position-of (place-at numbers s)
+
+    abbrev numbers₂ : List ℕ
+    numbers₂ = set (fall n (place l position) (place l span) numbers₁) (places + s) (place l (count - 1))
+
+    count-fits : (position < count) × (count ≤ 1024)
+    count-fits = (omega (arith, wf .positions-fit s inside, counted), omega (arith, count-small h words numbers wf s inside, counted))
+
+    l-inside : l < h .layers
+    l-inside = layer-inside h words numbers wf s inside
+
+    l-fits : l < 32
+    l-fits = omega (arith, l-inside, wf .layers-fit)
+
+    fall-fits : places + n ≤ length numbers₁
+    fall-fits = subst (λ (m : ℕ). places + n ≤ m) (sym (length-set numbers (traits + s) (packed (new .sense) (new .enabled) (new .visible)) ∙ ln)) (omega (arith, wf .widgets-fit))
+
+    set-fits : places + s < length (fall n (place l position) (place l span) numbers₁)
+    set-fits = subst (λ (m : ℕ). places + s < m) (sym (length-fall (place l position) (place l span) n numbers₁)) (omega (arith, fall-fits, inside))
+
+    elsewhere : (j : ℕ) → ((k : ℕ) → k < 1024 → j ≡ places + k → ⊥) → getD numbers₂ j 0 ≡ getD numbers₁ j 0
+    elsewhere j other =
+        getD-set-other (fall n (place l position) (place l span) numbers₁) (places + s) j (place l (count - 1)) 0 (other s in-table)
+        ∙ fall-other (place l position) (place l span) n numbers₁ j (λ k less. other k (small-slot k less))
+
+    low₂ : (j : ℕ) → j < places → getD numbers₂ j 0 ≡ getD numbers j 0
+    low₂ j small = elsewhere j (λ k less e. omega arith) ∙ low₁ j small
+
+    high₂ : (j : ℕ) → orders ≤ j → getD numbers₂ j 0 ≡ getD numbers j 0
+    high₂ j large = elsewhere j (λ k less e. omega arith) ∙ high₁ j large
+
+    traits-there : (t : ℕ) → t < 1024 → getD numbers₂ (traits + t) 0 ≡ getD numbers₁ (traits + t) 0
+    traits-there t small = elsewhere (traits + t) (λ k less e. omega arith)
+
+    layer-there : (k : ℕ) → layer-at words numbers₂ k ≡ layer-at words numbers k
+    layer-there = layer-same h words numbers numbers₂ wf low₂ high₂
+
+    place-last : place-at numbers₂ s ≡ place l (count - 1)
+    place-last = getD-set-same (fall n (place l position) (place l span) numbers₁) (places + s) (place l (count - 1)) 0 set-fits
+
+    place-fallen : (t : ℕ) → t < n → (t ≡ s → ⊥) → place-at numbers₂ t ≡ fallen (place l position) (place l span) (place-at numbers t)
+    place-fallen t less other =
+        getD-set-other (fall n (place l position) (place l span) numbers₁) (places + s) (places + t) (place l (count - 1)) 0 (λ e. other (omega arith))
+        ∙ fall-at (place l position) (place l span) n numbers₁ t less fall-fits
+        ∙ ap (fallen (place l position) (place l span)) (place-same t (small-slot t less))
+
+    layer-of-last : layer-of (place l (count - 1)) ≡ l
+    layer-of-last = omega (arith, l-fits, count-fits .1)
+
+    position-of-last : position-of (place l (count - 1)) ≡ count - 1
+    position-of-last = omega (arith, count-fits .1)
+
+    position-fits : position < 2048
+    position-fits = omega arith
+
+    -- what is shown of the slot and of the others holds of all
+    by-slot : (P : ℕ → Type 0) → P s → ((t : ℕ) → t < n → (t ≡ s → ⊥) → P t) → (t : ℕ) → t < n → P t
+    by-slot P here others t less = go (eqb t s) refl
+      where
+        go : (b : Bool) → eqb t s ≡ b → P t
+        go true e = subst P (sym (eqb-true t s e)) here
+        go false e = others t less (eqb-false t s e)
+
+    known₂ : (t : ℕ) → t < n → place-at numbers₂ t < h .layers * span
+    known₂ =
+        by-slot (λ t. place-at numbers₂ t < h .layers * span)
+        (rw place-last (omega (arith, l-inside, count-fits .1)))
+        (λ t less other. rw (place-fallen t less other)
+        (omega (arith, wf .layers-known t less, fallen-bound l position (place-at numbers t) l-fits position-fits (place-fits h words numbers wf t less))))
+
+    fit₂ : (t : ℕ) → t < n → position-of (place-at numbers₂ t) < count-at numbers (layer-of (place-at numbers₂ t))
+    fit₂ =
+        by-slot (λ t. position-of (place-at numbers₂ t) < count-at numbers (layer-of (place-at numbers₂ t)))
+        (rw (place-last, layer-of-last, position-of-last) (omega (arith, count-fits .0, counted)))
+        (λ t less other. rw (place-fallen t less other, fallen-layer l position (place-at numbers t) l-fits position-fits (place-fits h words numbers wf t less))
+        (omega (arith, wf .positions-fit t less, smaller (position-of (place-at numbers t)) (later l position (place-at numbers t)), fallen-position l position (place-at numbers t) l-fits position-fits (place-fits h words numbers wf t less))))
+      where
+        smaller : (x : ℕ) (b : Bool) → x - cond b 1 0 ≤ x
+        smaller x b = omega arith
+
+    pub well-formed-move : WellFormed h words numbers₂
+    well-formed-move = well-formed-update h words numbers numbers₂ wf low₂ high₂ known₂ fit₂
+
+    pub by-layer-moved : view h words numbers₂ edges₁ .by-layer ≡ view h words numbers edges .by-layer
+    by-layer-moved = layers-view numbers₂ edges₁ high₂
+
+    -- the model tells layers by their ids, and the places by their numbers
+    layer-number : (t : ℕ) → t < n → same-layer (layer-at words numbers l) (layer-at words numbers (layer-of (place-at numbers t))) ≡ eqb l (layer-of (place-at numbers t))
+    layer-number t less = go (eqb l (layer-of (place-at numbers t))) refl
+      where
+        go : (b : Bool) → eqb l (layer-of (place-at numbers t)) ≡ b → same-layer (layer-at words numbers l) (layer-at words numbers (layer-of (place-at numbers t))) ≡ eqb l (layer-of (place-at numbers t))
+        go true e = rw e (ap (λ (k : ℕ). same-layer (layer-at words numbers l) (layer-at words numbers k)) (sym (eqb-true l (layer-of (place-at numbers t)) e)) ∙ same-layer-refl (layer-at words numbers l))
+        go false e = rw e (not-so _ (λ yes. eqb-false l (layer-of (place-at numbers t)) e (layers-differ h words numbers wf l (layer-of (place-at numbers t)) l-inside (layer-inside h words numbers wf t less) yes)))
+
+    fallen-known : (t : ℕ) → t < n → (t ≡ s → ⊥) → known-at words numbers₂ edges₁ t ≡ M.fall (new .«layer_id») position (known-at words numbers edges t)
+    unfolding M.fall updated
+    fallen-known t less other =
+        known-parts _ _ _ _
+        (ap position-of (place-fallen t less other)
+        ∙ fallen-position l position (place-at numbers t) l-fits position-fits (place-fits h words numbers wf t less)
+        ∙ ap (λ (b : Bool). position-of (place-at numbers t) - cond (b && ltb position (position-of (place-at numbers t))) 1 0) (sym (layer-number t less)))
+        (kept-widget numbers₂ traits-there layer-there t (small-slot t less) other
+        (ap layer-of (place-fallen t less other) ∙ fallen-layer l position (place-at numbers t) l-fits position-fits (place-fits h words numbers wf t less)))
+
+    fall-id : (k : ℕ) → M.fall (new .«layer_id») position (known-at words numbers edges k) .widget .id ≡ id-at words k
+    unfolding M.fall
+    fall-id k = refl
+
+    pub by-id-moved : view h words numbers₂ edges₁ .by-id ≡ with-known (w .id) (record { position = count - 1; widget = new }) (map (M.fall (new .«layer_id») position) (view h words numbers edges .by-id))
+    unfolding view
+    by-id-moved =
+        rw (unclamped max-widgets n (wf .widgets-fit))
+        (firsts-cong (known-at words numbers₂ edges₁) (but s (record { position = count - 1; widget = new }) (λ t. M.fall (new .«layer_id») position (known-at words numbers edges t))) n
+        (by-slot (λ t. known-at words numbers₂ edges₁ t ≡ but s (record { position = count - 1; widget = new }) (λ i. M.fall (new .«layer_id») position (known-at words numbers edges i)) t)
+        (rw (eq-eqb s s refl)
+        (known-parts _ _ _ _ (ap position-of place-last ∙ position-of-last) (new-widget numbers₂ traits-there layer-there (ap layer-of place-last ∙ layer-of-last))))
+        (λ t less other. rw (ne-eqb t s other) (fallen-known t less other)))
+        ∙ sym (entries (λ t. M.fall (new .«layer_id») position (known-at words numbers edges t)) fall-id (record { position = count - 1; widget = new }))
+        ∙ ap (with-known (w .id) (record { position = count - 1; widget = new })) (sym (map-firsts (M.fall (new .«layer_id») position) (known-at words numbers edges) n)))
