@@ -143,6 +143,9 @@ module _ (h : WidgetRects) (words numbers : List ℕ) (edges : List Float) (w : 
   pub inside : s < n
   inside = last-is has-id n s found-last .0
 
+  pub the-id : w .id ≡ id-at words s
+  the-id = eqb-true (w .id) (id-at words s) (last-is has-id n s found-last .1)
+
   in-table : s < 1024
   in-table = omega (arith, inside, wf .widgets-fit)
 
