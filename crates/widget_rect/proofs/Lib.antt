@@ -5,4 +5,6 @@ pub mod Fall
 pub mod Index
 pub mod Lists
 pub mod Records
+pub mod Settle
+pub mod Size
 pub mod Update
