@@ -8,7 +8,7 @@ use mathlib.Core.Option.{Option, none, some}
 use mathlib.Core.List.{List, [], _∷_, _++_, map}
 use lib.Dec.{eqb, leb, ltb, eqb·suc-zero}
 use lib.Ieee.{Float}
-use lib.ListN.{length, take, drop, set, length-take, drop-of-length-le}
+use lib.ListN.{length, take, drop, set, length-set, length-take, drop-of-length-le}
 use lib.Seq.{set-split, length-take-le}
 use borrow.Author.Tests.{eq-eqb, ne-eqb, lt-ltb, le-ltb, le-leb, lt-leb, ltb-true, ltb-false, leb-true, leb-false}
 use Rattle.data.specs.Limits.{max-widgets, max-layers}
@@ -20,17 +20,19 @@ use Rattle.model.specs.Widgets.{Known, Layer, same-layer, updated, record-refus
 use Rattle.model.specs.Widgets as M
 use Rattle.widget_index.specs.declared.table.WidgetRects.{WidgetRects}
 use Rattle.widget_index.specs.declared.insert.Inserted.the-variants.{Refused, Taken}
-use Rattle.widget_index.specs.Layout.{place-at, layer-of, position-of, count-at}
-use Rattle.widget_index.specs.Table.{at-most, firsts, last, widgets-of, layers-of, layer-at, widget-at, known-at, layer-entry-at, view, find, find-layer}
-use Rattle.widget_index.specs.Insert.{Outcome, refuse, unchanged, number-of, count-of, append, insert-new, at-least, replace, move-to-top, moved-numbers, insert-known, insert-checked, decide, settled}
+use Rattle.widget_index.specs.Layout.{span, place, place-at, layer-of, position-of, count-at}
+use Rattle.widget_index.specs.Table.{at-most, firsts, last, widgets-of, layers-of, layer-at, widget-at, known-at, layer-entry-at, view, head, find, find-layer}
+use Rattle.widget_index.specs.declared.insert.Decision.{Decision}
+use Rattle.widget_index.specs.Insert.{Outcome, Gives, refuse, unchanged, number-of, count-of, append, insert-new, at-least, replace, move-to-top, moved-numbers, with-traits, fall, insert-known, insert-checked, decide, settled}
 use Rattle.widget_index.proofs.Cases as C
-use Rattle.widget_rect.specs.WellFormed.{WellFormed}
-use Rattle.widget_rect.specs.Told.{told}
+use Rattle.widget_rect.specs.WellFormed.{Indexed, WellFormed}
+use Rattle.widget_rect.specs.Told.{told, Inserts}
 use Rattle.widget_rect.proofs.Lists.{last-is, last-none, length-firsts, at-entry}
 use Rattle.widget_rect.proofs.Index.{unclamped, unlike, same-layer-is, finds-known, finds-layer}
-use Rattle.widget_rect.proofs.Records.{sense-fits}
+use Rattle.widget_rect.proofs.Records.{sense-fits, length-with-edges, length-appended-words, length-appended-numbers}
 use Rattle.widget_rect.proofs.Append.{Home, well-formed-append}
 use Rattle.widget_rect.proofs.Appended.{home-known, home-new, by-id-appended, by-layer-known, by-layer-new}
+use Rattle.widget_rect.proofs.Fall.{length-fall}
 use Rattle.widget_rect.proofs.Update as U
 
 -- ---- the slice
@@ -61,7 +63,7 @@ set-parts y y′ k k′ e f = rw (e, f)
 
 -- ---- an insertion
 
-module _ (h : WidgetRects) (words numbers : List ℕ) (edges : List Float) (slice : List WidgetRect) (w : WidgetRect) (top : Bool) (wf : WellFormed h words numbers)
+module _ (h : WidgetRects) (words numbers : List ℕ) (edges : List Float) (slice : List WidgetRect) (w : WidgetRect) (top : Bool) (wf : Indexed h words numbers)
     (lw : length words ≡ 2080) (ln : length numbers ≡ 5184) (le : length edges ≡ 8192) where
   abbrev was : M.WidgetRects
   was = view h words numbers edges
@@ -71,7 +73,7 @@ module _ (h : WidgetRects) (words numbers : List ℕ) (edges : List Float) (slic
 
   -- what is to be shown of an outcome
   pub record Right (o : Outcome) : Type 0 where
-    pub well-formed : WellFormed (o .decision .«set») (o .words) (o .numbers)
+    pub well-formed : WellFormed (o .decision .«set») (o .words) (o .numbers) (o .edges)
     pub agrees : told (o .decision .answer) (view (o .decision .«set») (o .words) (o .numbers) (o .edges)) (settled (o .decision .from) (o .decision .to) (o .decision .widget) slice) ≡ M.insert top was slice w
 
   right : {o o′ : Outcome} → o ≡ o′ → Right o′ → Right o
@@ -93,7 +95,7 @@ module _ (h : WidgetRects) (words numbers : List ℕ) (edges : List Float) (slic
 
   refused-right : (why : InsertRefusal) → M.insert top was slice w ≡ M.refused why → Right (unchanged (refuse h w why) words numbers edges)
   unfolding told
-  refused-right why e = record { well-formed = wf; agrees = sym e }
+  refused-right why e = record { well-formed = record { words-long = lw; numbers-long = ln; edges-long = le; indexed = wf }; agrees = sym e }
 
   widgets-count : length (was .by-id) ≡ h .widgets
   unfolding view
@@ -141,7 +143,13 @@ module _ (h : WidgetRects) (words numbers : List ℕ) (edges : List Float) (slic
       unfolding told append M.insert-by M.append
       appended f g short =
           record {
-            well-formed = well-formed-append h words numbers w l count wf lw ln room unknown (home g);
+            well-formed =
+                record {
+                  words-long = length-appended-words (h .widgets) l w words ∙ lw;
+                  numbers-long = length-appended-numbers (h .widgets) l count (head h words numbers (w .id)) w numbers ∙ ln;
+                  edges-long = length-with-edges (h .widgets) w edges ∙ le;
+                  indexed = well-formed-append h words numbers w l count wf lw ln room unknown (home g);
+                };
             agrees =
                 ap M.inserted
                 (insertion-parts _ _ _ _ _ _ _ _
@@ -279,7 +287,8 @@ module _ (h : WidgetRects) (words numbers : List ℕ) (edges : List Float) (slic
     unfolding told replace M.insert-by M.update M.replace
     replaced e t f =
         record {
-          well-formed = U.well-formed-replace h words numbers edges w s wf ln le known;
+          well-formed =
+              record { words-long = lw; numbers-long = length-set numbers _ _ ∙ ln; edges-long = length-with-edges s new edges ∙ le; indexed = U.well-formed-replace h words numbers edges w s wf ln le known };
           agrees =
               ap M.inserted
               (insertion-parts _ _ _ _ _ _ _ _
@@ -295,7 +304,13 @@ module _ (h : WidgetRects) (words numbers : List ℕ) (edges : List Float) (slic
     unfolding told move-to-top moved-numbers M.insert-by M.update M.move-to-top
     moved e t f =
         record {
-          well-formed = rw all-widgets (U.well-formed-move h words numbers edges w s wf ln le known count refl);
+          well-formed =
+              record {
+                words-long = lw;
+                numbers-long = length-set (fall (widgets-of h) (place l position) (place l span) (with-traits s new numbers)) _ _ ∙ length-fall (place l position) (place l span) (widgets-of h) (with-traits s new numbers) ∙ length-set numbers _ _ ∙ ln;
+                edges-long = length-with-edges s new edges ∙ le;
+                indexed = rw all-widgets (U.well-formed-move h words numbers edges w s wf ln le known count refl);
+              };
           agrees =
               ap M.inserted
               (insertion-parts _ _ _ _ _ _ _ _
@@ -343,3 +358,14 @@ module _ (h : WidgetRects) (words numbers : List ℕ) (edges : List Float) (slic
       go : (r : Option InsertRefusal) → record-refusal w ≡ r → Right (decide h words numbers edges lent w top)
       go none e = right (C.checks h words numbers edges lent w top e) (checked-right e)
       go (some why) e = right (C.refuses h words numbers edges lent w top why e) (refused-right why (model-refuses why e))
+
+-- ---- what `insert` ensures, from what its callees do
+pub inserts : (h : WidgetRects) (words numbers : List ℕ) (edges : List Float) (slice : List WidgetRect) (w : WidgetRect) (top : Bool) (r : Decision) (ws ns : List ℕ) (es : List Float) (zs : List WidgetRect)
+    → Gives (decide h words numbers edges (length slice) w top) r ws ns es → zs ≡ settled (r .from) (r .to) (r .widget) slice → Inserts h words numbers edges slice w top r ws ns es zs
+inserts h words numbers edges slice w top r ws ns es zs g e =
+    record {
+      own = g;
+      slice-after = e;
+      model = λ wf. rw (e, g .decision, g .words, g .numbers, g .edges) (decide-right h words numbers edges slice w top (wf .indexed) (wf .words-long) (wf .numbers-long) (wf .edges-long) .agrees);
+      well-formed = λ wf. rw (g .decision, g .words, g .numbers, g .edges) (decide-right h words numbers edges slice w top (wf .indexed) (wf .words-long) (wf .numbers-long) (wf .edges-long) .well-formed);
+    }

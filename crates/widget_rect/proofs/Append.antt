@@ -19,7 +19,7 @@ use Rattle.widget_index.specs.declared.table.WidgetRects.{WidgetRects}
 use Rattle.widget_index.specs.Layout.{parents, layer-ids, links, places, traits, orders, counts, span, id-at, parent-at, link-at, place-at, layer-of, position-of, place, count-at, packed}
 use Rattle.widget_index.specs.Table.{at-most, last, widgets-of, layer-at, bucket, head, find, find-layer}
 use Rattle.widget_index.specs.Insert.{appended-words, appended-numbers, layers-after}
-use Rattle.widget_rect.specs.WellFormed.{WellFormed}
+use Rattle.widget_rect.specs.WellFormed.{Indexed}
 use Rattle.widget_rect.proofs.Lists.{kept, stored, last-here, last-before, last-le, last-cong}
 use Rattle.widget_rect.proofs.Index.{unclamped, not-so, same-layer-is, finds-id}
 
@@ -32,7 +32,7 @@ pub record Home (h : WidgetRects) (words numbers : List ℕ) (layer : LayerId) (
   pub same : l < h .layers → same-layer layer (layer-at words numbers l) ≡ true
   pub fresh : l ≡ h .layers → find-layer words numbers layer (h .layers) ≡ 0
 
-module _ (h : WidgetRects) (words numbers : List ℕ) (w : WidgetRect) (l count : ℕ) (wf : WellFormed h words numbers) (lw : length words ≡ 2080) (ln : length numbers ≡ 5184)
+module _ (h : WidgetRects) (words numbers : List ℕ) (w : WidgetRect) (l count : ℕ) (wf : Indexed h words numbers) (lw : length words ≡ 2080) (ln : length numbers ≡ 5184)
     (room : h .widgets < max-widgets) (unknown : find h words numbers (w .id) ≡ 0) (home : Home h words numbers (w .«layer_id») l count) where
   abbrev n : ℕ
   n = h .widgets
@@ -327,7 +327,7 @@ module _ (h : WidgetRects) (words numbers : List ℕ) (w : WidgetRect) (l count 
   layers-fit′ : h′ .layers ≤ max-layers
   layers-fit′ = ⊎-elim (λ last-one. rw (layers-are .1 last-one) (omega (arith, home-fits))) (λ inside. rw (layers-are .0 inside) (wf .layers-fit)) (eq-or-lt-of-le (home .within))
 
-  pub well-formed-append : WellFormed h′ words′ numbers′
+  pub well-formed-append : Indexed h′ words′ numbers′
   well-formed-append =
       record {
         widgets-fit = omega arith;

@@ -18,7 +18,7 @@ use Rattle.widget_index.specs.declared.table.WidgetRects.{WidgetRects}
 use Rattle.widget_index.specs.Layout.{span, counts, place-at, layer-of, position-of, place, count-at, packed}
 use Rattle.widget_index.specs.Table.{at-most, firsts, last, widgets-of, layers-of, layer-at, widget-at, known-at, layer-entry-at, view, head, find, find-layer}
 use Rattle.widget_index.specs.Insert.{appended-words, appended-numbers, layers-after, with-edges}
-use Rattle.widget_rect.specs.WellFormed.{WellFormed}
+use Rattle.widget_rect.specs.WellFormed.{Indexed}
 use Rattle.widget_rect.proofs.Lists.{last-is, firsts-cong, first-such, change-such, at-entry, finds, changes, but}
 use Rattle.widget_rect.proofs.Index.{unclamped, unlike, same-layer-is, layer-once, layer-plain}
 use Rattle.widget_rect.proofs.Records.{rect-kept, interact-rect-kept, rect-new, interact-rect-new, sense-back, enabled-back, visible-back, widget-parts, known-parts}
@@ -56,7 +56,7 @@ counts-known l (y ∷ ys) z e = go (counts-known l ys z) (same-layer l (y .layer
 
 -- ---- where the widget's layer is
 
-module _ (h : WidgetRects) (words numbers : List ℕ) (wf : WellFormed h words numbers) (layer : LayerId) where
+module _ (h : WidgetRects) (words numbers : List ℕ) (wf : Indexed h words numbers) (layer : LayerId) where
   abbrev is : ℕ → Bool
   is k = same-layer layer (layer-at words numbers k)
 
@@ -85,7 +85,7 @@ module _ (h : WidgetRects) (words numbers : List ℕ) (wf : WellFormed h words n
       never : h .layers < h .layers → ⊥
       never e = omega arith
 
-module _ (h : WidgetRects) (words numbers : List ℕ) (edges : List Float) (w : WidgetRect) (wf : WellFormed h words numbers) (lw : length words ≡ 2080) (ln : length numbers ≡ 5184) (le : length edges ≡ 8192)
+module _ (h : WidgetRects) (words numbers : List ℕ) (edges : List Float) (w : WidgetRect) (wf : Indexed h words numbers) (lw : length words ≡ 2080) (ln : length numbers ≡ 5184) (le : length edges ≡ 8192)
     (room : h .widgets < max-widgets) (unknown : find h words numbers (w .id) ≡ 0) (shaped : w .sense < 8) where
   abbrev n : ℕ
   n = h .widgets

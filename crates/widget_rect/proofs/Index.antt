@@ -16,7 +16,7 @@ use Rattle.widget_index.specs.declared.table.WidgetRects.{WidgetRects}
 use Rattle.widget_index.specs.Layout.{id-at, link-at, count-at}
 use Rattle.widget_index.specs.Table.{at-most, last, firsts, widgets-of, layers-of, layer-at, known-at, layer-entry-at, view, bucket, head, chain, find, find-layer}
 use Rattle.widget_index.proofs.Chain.{enough}
-use Rattle.widget_rect.specs.WellFormed.{WellFormed}
+use Rattle.widget_rect.specs.WellFormed.{Indexed}
 use Rattle.widget_rect.proofs.Lists.{last-here, last-before, last-zero, last-le, first-such, at-entry, finds}
 
 pub unclamped : (limit n : ℕ) → n ≤ limit → at-most limit n ≡ n
@@ -65,7 +65,7 @@ unfolding M.find-layer first-such
 layer-plain l [] = refl
 layer-plain l (y ∷ ys) = ap (λ r. cond (same-layer l (y .layer-id)) (some y) r) (layer-plain l ys)
 
-module _ (h : WidgetRects) (words numbers : List ℕ) (wf : WellFormed h words numbers) where
+module _ (h : WidgetRects) (words numbers : List ℕ) (wf : Indexed h words numbers) where
   -- ---- ids
   module _ (d : ℕ) where
     abbrev in-bucket : ℕ → Bool

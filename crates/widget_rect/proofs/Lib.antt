@@ -2,6 +2,7 @@ pub mod Agree
 pub mod Append
 pub mod Appended
 pub mod Fall
+pub mod Fits
 pub mod Index
 pub mod Lists
 pub mod Records

@@ -7,7 +7,7 @@ use mathlib.Core.Option.{none, some}
 use mathlib.Core.List.{List, [], _∷_, _++_}
 use lib.Dec.{eqb, leb, ltb}
 use lib.Ieee.{Float, nan}
-use lib.ListN.{length, getD}
+use lib.ListN.{length, getD, length-set}
 use borrow.Author.Tests.{eq-eqb, ne-eqb, ltb-true}
 use Rattle.emath.specs.declared.rect.Rect.{Rect}
 use Rattle.data.specs.declared.layers.LayerId.{LayerId}
@@ -19,7 +19,7 @@ use Rattle.data.specs.declared.refusal.InsertRefusal.the-variants.{Malformed}
 use Rattle.model.specs.Widgets.{Known, well-shaped, some-id-zero, edges-ok, record-refusal}
 use Rattle.widget_index.specs.Layout.{bit, packed, sense-of, enabled-of, visible-of, edge-at}
 use Rattle.widget_index.specs.Table.{rect-at}
-use Rattle.widget_index.specs.Insert.{with-edges}
+use Rattle.widget_index.specs.Insert.{with-edges, appended-words, appended-numbers}
 use Rattle.widget_rect.proofs.Lists.{kept, stored}
 use Rattle.widget_rect.proofs.Index.{unlike}
 
@@ -114,3 +114,14 @@ sense-fits w h = go (leb (w .«layer_id» .order) max-order) refl (ltb (w .sense
     go a f true t = ltb-true (w .sense) 8 t
     go true f false t = absurd (no-refusal Malformed (rw (f, t) at h))
     go false f false t = absurd (no-refusal Malformed (rw f at h))
+
+-- ---- stores keep the arrays' lengths
+
+pub length-with-edges : (t : ℕ) (w : WidgetRect) (edges : List Float) → length (with-edges t w edges) ≡ length edges
+length-with-edges t w edges = simp length-set
+
+pub length-appended-words : (s l : ℕ) (w : WidgetRect) (words : List ℕ) → length (appended-words s l w words) ≡ length words
+length-appended-words s l w words = simp length-set
+
+pub length-appended-numbers : (s l count e : ℕ) (w : WidgetRect) (numbers : List ℕ) → length (appended-numbers s l count e w numbers) ≡ length numbers
+length-appended-numbers s l count e w numbers = simp length-set

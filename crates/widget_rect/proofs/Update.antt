@@ -22,7 +22,7 @@ use Rattle.widget_index.specs.declared.table.WidgetRects.{WidgetRects}
 use Rattle.widget_index.specs.Layout.{places, traits, counts, orders, span, id-at, link-at, place-at, layer-of, position-of, place, count-at, packed}
 use Rattle.widget_index.specs.Table.{firsts, last, widgets-of, layer-at, widget-at, known-at, layer-entry-at, view, bucket, head, find, find-layer}
 use Rattle.widget_index.specs.Insert.{with-edges, with-traits, at-least, fall, fallen, moved-numbers}
-use Rattle.widget_rect.specs.WellFormed.{WellFormed}
+use Rattle.widget_rect.specs.WellFormed.{Indexed}
 use Rattle.widget_rect.proofs.Lists.{last-is, last-none, last-cong, firsts-cong, map-firsts, change-such, changes, but}
 use Rattle.widget_rect.proofs.Index.{unclamped, not-so, unlike, same-layer-is, same-layer-refl, finds-id}
 use Rattle.widget_rect.proofs.Records.{rect-kept, interact-rect-kept, rect-new, interact-rect-new, sense-back, enabled-back, visible-back, widget-parts, known-parts}
@@ -47,7 +47,7 @@ with-plain d k (j ∷ js) = ap (λ r. cond (eqb d (j .widget .id)) (k ∷ js) (j
 
 -- ---- numbers that differ in places and traits alone
 
-module _ (h : WidgetRects) (words numbers numbers′ : List ℕ) (wf : WellFormed h words numbers)
+module _ (h : WidgetRects) (words numbers numbers′ : List ℕ) (wf : Indexed h words numbers)
     (low : (j : ℕ) → j < places → getD numbers′ j 0 ≡ getD numbers j 0) (high : (j : ℕ) → orders ≤ j → getD numbers′ j 0 ≡ getD numbers j 0) where
   pub layer-same : (k : ℕ) → layer-at words numbers′ k ≡ layer-at words numbers k
   layer-same k = rw (high (orders + k) (omega arith))
@@ -71,7 +71,7 @@ module _ (h : WidgetRects) (words numbers numbers′ : List ℕ) (wf : WellForme
       ∙ wf .layers-once k less
 
   pub well-formed-update : ((s : ℕ) → s < h .widgets → place-at numbers′ s < h .layers * span)
-      → ((s : ℕ) → s < h .widgets → position-of (place-at numbers′ s) < count-at numbers (layer-of (place-at numbers′ s))) → WellFormed h words numbers′
+      → ((s : ℕ) → s < h .widgets → position-of (place-at numbers′ s) < count-at numbers (layer-of (place-at numbers′ s))) → Indexed h words numbers′
   well-formed-update known fit =
       record {
         widgets-fit = wf .widgets-fit;
@@ -85,7 +85,7 @@ module _ (h : WidgetRects) (words numbers numbers′ : List ℕ) (wf : WellForme
         positions-fit = λ s less. rw (count-same (layer-of (place-at numbers′ s))) (fit s less);
       }
 
-module _ (h : WidgetRects) (words numbers : List ℕ) (wf : WellFormed h words numbers) where
+module _ (h : WidgetRects) (words numbers : List ℕ) (wf : Indexed h words numbers) where
   -- no layer stands twice
   pub layers-differ : (a b : ℕ) → a < h .layers → b < h .layers → same-layer (layer-at words numbers a) (layer-at words numbers b) ≡ true → a ≡ b
   unfolding find-layer
@@ -120,7 +120,7 @@ module _ (h : WidgetRects) (words numbers : List ℕ) (wf : WellFormed h words n
 
 -- ---- a known widget's slot, and its record after the insertion
 
-module _ (h : WidgetRects) (words numbers : List ℕ) (edges : List Float) (w : WidgetRect) (s : ℕ) (wf : WellFormed h words numbers) (ln : length numbers ≡ 5184) (le : length edges ≡ 8192)
+module _ (h : WidgetRects) (words numbers : List ℕ) (edges : List Float) (w : WidgetRect) (s : ℕ) (wf : Indexed h words numbers) (ln : length numbers ≡ 5184) (le : length edges ≡ 8192)
     (found : find h words numbers (w .id) ≡ suc s) where
   abbrev n : ℕ
   n = h .widgets
@@ -190,7 +190,7 @@ module _ (h : WidgetRects) (words numbers : List ℕ) (edges : List Float) (w : 
   small-slot : (t : ℕ) → t < n → t < 1024
   small-slot t less = omega (arith, wf .widgets-fit)
 
-  pub well-formed-replace : WellFormed h words numbers₁
+  pub well-formed-replace : Indexed h words numbers₁
   well-formed-replace =
       well-formed-update h words numbers numbers₁ wf low₁ high₁
       (λ t less. rw (place-same t (small-slot t less)) (wf .layers-known t less))
@@ -323,7 +323,7 @@ module _ (h : WidgetRects) (words numbers : List ℕ) (edges : List Float) (w : 
         smaller : (x : ℕ) (b : Bool) → x - cond b 1 0 ≤ x
         smaller x b = omega arith
 
-    pub well-formed-move : WellFormed h words numbers₂
+    pub well-formed-move : Indexed h words numbers₂
     well-formed-move = well-formed-update h words numbers numbers₂ wf low₂ high₂ known₂ fit₂
 
     pub by-layer-moved : view h words numbers₂ edges₁ .by-layer ≡ view h words numbers edges .by-layer
