@@ -1,3 +1,4 @@
+pub mod Again
 pub mod Agree
 pub mod Append
 pub mod Appended
