@@ -25,9 +25,10 @@ use Rattle.widget_index.specs.Table.{at-most, firsts, last, widgets-of, layers-
 use Rattle.widget_index.specs.declared.insert.Decision.{Decision}
 use Rattle.widget_index.specs.Insert.{Outcome, Gives, refuse, unchanged, number-of, count-of, append, insert-new, at-least, replace, move-to-top, moved-numbers, with-traits, fall, insert-known, insert-checked, decide, settled}
 use Rattle.widget_index.proofs.Cases as C
+use Rattle.widget_rect.specs.Questions.{at-entry}
 use Rattle.widget_rect.specs.WellFormed.{Indexed, WellFormed}
 use Rattle.widget_rect.specs.Told.{told, Inserts}
-use Rattle.widget_rect.proofs.Lists.{last-is, last-none, length-firsts, at-entry}
+use Rattle.widget_rect.proofs.Lists.{last-is, last-none, length-firsts}
 use Rattle.widget_rect.proofs.Index.{unclamped, unlike, same-layer-is, finds-known, finds-layer}
 use Rattle.widget_rect.proofs.Records.{sense-fits, length-with-edges, length-appended-words, length-appended-numbers}
 use Rattle.widget_rect.proofs.Append.{Home, well-formed-append}

@@ -18,8 +18,9 @@ use Rattle.widget_index.specs.declared.table.WidgetRects.{WidgetRects}
 use Rattle.widget_index.specs.Layout.{span, counts, place-at, layer-of, position-of, place, count-at, packed}
 use Rattle.widget_index.specs.Table.{at-most, firsts, last, widgets-of, layers-of, layer-at, widget-at, known-at, layer-entry-at, view, head, find, find-layer}
 use Rattle.widget_index.specs.Insert.{appended-words, appended-numbers, layers-after, with-edges}
+use Rattle.widget_rect.specs.Questions.{at-entry}
 use Rattle.widget_rect.specs.WellFormed.{Indexed}
-use Rattle.widget_rect.proofs.Lists.{last-is, firsts-cong, first-such, change-such, at-entry, finds, changes, but}
+use Rattle.widget_rect.proofs.Lists.{last-is, firsts-cong, first-such, change-such, finds, changes, but}
 use Rattle.widget_rect.proofs.Index.{unclamped, unlike, same-layer-is, layer-once, layer-plain}
 use Rattle.widget_rect.proofs.Records.{rect-kept, interact-rect-kept, rect-new, interact-rect-new, sense-back, enabled-back, visible-back, widget-parts, known-parts}
 use Rattle.widget_rect.proofs.Append as A

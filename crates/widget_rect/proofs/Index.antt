@@ -16,8 +16,9 @@ use Rattle.widget_index.specs.declared.table.WidgetRects.{WidgetRects}
 use Rattle.widget_index.specs.Layout.{id-at, link-at, count-at}
 use Rattle.widget_index.specs.Table.{at-most, last, firsts, widgets-of, layers-of, layer-at, known-at, layer-entry-at, view, bucket, head, chain, find, find-layer}
 use Rattle.widget_index.proofs.Chain.{enough}
+use Rattle.widget_rect.specs.Questions.{at-entry}
 use Rattle.widget_rect.specs.WellFormed.{Indexed}
-use Rattle.widget_rect.proofs.Lists.{last-here, last-before, last-zero, last-le, first-such, at-entry, finds}
+use Rattle.widget_rect.proofs.Lists.{last-here, last-before, last-zero, last-le, first-such, finds}
 
 pub unclamped : (limit n : ℕ) → n ≤ limit → at-most limit n ≡ n
 unfolding at-most

@@ -2,6 +2,7 @@ pub mod Again
 pub mod Agree
 pub mod Append
 pub mod Appended
+pub mod Asked
 pub mod Fall
 pub mod Fits
 pub mod Index

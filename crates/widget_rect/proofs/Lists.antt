@@ -14,6 +14,7 @@ use lib.Seq.{getD-set-same, getD-set-other}
 use borrow.Author.Tests.{eq-eqb, ne-eqb}
 use Rattle.widget_index.specs.Layout.{stores}
 use Rattle.widget_index.specs.Table.{last, firsts}
+use Rattle.widget_rect.specs.Questions.{at-entry}
 
 -- ---- stores
 
@@ -188,11 +189,6 @@ module _ {A : Type 0} (q : A → Bool) where
       go : (first-such xs ≡ some z → change-such g (xs ++ ys) ≡ change-such g xs ++ ys) → (b : Bool) → q x ≡ b → change-such g ((x ∷ xs) ++ ys) ≡ change-such g (x ∷ xs) ++ ys
       go hyp true t = rw t
       go hyp false t = rw t (ap (λ zs. x ∷ zs) (hyp (rw t at e)))
-
--- an entry's value
-abbrev pub at-entry : {A : Type 0} → (ℕ → A) → ℕ → Option A
-at-entry f zero = none
-at-entry f (suc k) = some (f k)
 
 -- where no value before has the property too, the first is the last
 module _ {A : Type 0} (q : A → Bool) (f : ℕ → A) where

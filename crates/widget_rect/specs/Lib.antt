@@ -1,2 +1,3 @@
+pub mod Questions
 pub mod Told
 pub mod WellFormed

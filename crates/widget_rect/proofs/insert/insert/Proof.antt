@@ -153,9 +153,16 @@ module _ {M : Type 1} (𝓤 : URA M) (H : Heap 𝓤) (A : Atoms 𝓤) (W : Given
   decide-args δ₀ δ₁ δ₂ = (h, (at₀ δ₀ words, (at₁ δ₁ numbers, (at₂ δ₂ edges, (length ys, (w, (top, tt)))))))
 
   abbrev to-decide : ℕ → ℕ → ℕ → GName → GName → GName → Decide 𝓤 H A mem run .Ghost
-  to-decide ν₀ ν₁ ν₂ δ₀ δ₁ δ₂ =
-      (((ν₀ ∷ [], (ν₁ ∷ [], (ν₂ ∷ [], tt))), (fullShare, (fullShare, (fullShare, tt))), tt, decide-args δ₀ δ₁ δ₂,
-      (mach-set h ∷ [], (vptr b₀ o₀ ∷ [], (vptr b₁ o₁ ∷ [], (vptr b₂ o₂ ∷ [], (vint w64 (length ys) ∷ [], (mach w ∷ [], (vbool top ∷ [], tt)))))))), tt)
+  to-decide ν₀ ν₁ ν₂ δ₀ δ₁ δ₂ = (
+    (
+      (ν₀ ∷ [], (ν₁ ∷ [], (ν₂ ∷ [], tt))),
+      (fullShare, (fullShare, (fullShare, tt))),
+      tt,
+      decide-args δ₀ δ₁ δ₂,
+      (mach-set h ∷ [], (vptr b₀ o₀ ∷ [], (vptr b₁ o₁ ∷ [], (vptr b₂ o₂ ∷ [], (vint w64 (length ys) ∷ [], (mach w ∷ [], (vbool top ∷ [], tt))))))),
+    ),
+    tt,
+  )
 
   abbrev own₀ : Lft → GName → List ℕ → Fml
   own₀ κ δ l = MutRef (named 0) κ RW .own (at₀ δ l) (vptr b₀ o₀ ∷ [])
