@@ -31,6 +31,7 @@ pub record Home (h : WidgetRects) (words numbers : List ℕ) (layer : LayerId) (
   pub counted : l < h .layers → count ≡ count-at numbers l
   pub same : l < h .layers → same-layer layer (layer-at words numbers l) ≡ true
   pub fresh : l ≡ h .layers → find-layer words numbers layer (h .layers) ≡ 0
+  pub none-counted : l ≡ h .layers → count ≡ 0
 
 module _ (h : WidgetRects) (words numbers : List ℕ) (w : WidgetRect) (l count : ℕ) (wf : Indexed h words numbers) (lw : length words ≡ 2080) (ln : length numbers ≡ 5184)
     (room : h .widgets < max-widgets) (unknown : find h words numbers (w .id) ≡ 0) (home : Home h words numbers (w .«layer_id») l count) where
@@ -324,6 +325,62 @@ module _ (h : WidgetRects) (words numbers : List ℕ) (w : WidgetRect) (l count 
               (rw count-at-new (omega (arith, subst (λ (i : ℕ). position-of (place-at numbers s) < count-at numbers i) here fits, home .counted (subst (λ (i : ℕ). i < h .layers) here inside))))
           go k inside fits false t = subst (λ (c : ℕ). position-of (place-at numbers s) < c % span) (sym (count-kept k (omega (arith, layers-bound)) (eqb-false k l t))) fits
 
+  -- the new place is no other's
+  new-place : (s : ℕ) → s < n → place-at numbers s ≡ place l count → ⊥
+  new-place s less e = ⊎-elim (λ last-one. beyond last-one (layer-known s less) (ap layer-of e ∙ layer-of-new)) (λ inside. above inside) (eq-or-lt-of-le (home .within))
+    where
+      beyond : l ≡ h .layers → layer-of (place-at numbers s) < h .layers → layer-of (place-at numbers s) ≡ l → ⊥
+      beyond last-one known same = omega arith
+
+      fits : position-of (place-at numbers s) < count-at numbers (layer-of (place-at numbers s)) → l < h .layers → count < count
+      fits below inside =
+          subst (λ (c : ℕ). count < c) (sym (home .counted inside))
+          (subst (λ (k : ℕ). count < count-at numbers k) (ap layer-of e ∙ layer-of-new) (subst (λ (q : ℕ). q < count-at numbers (layer-of (place-at numbers s))) (ap position-of e ∙ position-of-new) below))
+
+      above : l < h .layers → ⊥
+      above inside = never (fits (wf .positions-fit s less) inside)
+        where
+          never : count < count → ⊥
+          never x = omega arith
+
+  places-once′ : (s t : ℕ) → s < t → t < n + 1 → place-at numbers′ s ≡ place-at numbers′ t → ⊥
+  places-once′ s t before less =
+      each-slot (λ t. s < t → place-at numbers′ s ≡ place-at numbers′ t → ⊥)
+      (λ t below order e. wf .places-once s t order below (sym (place-kept s (omega arith)) ∙ e ∙ place-kept t below))
+      (λ order e. new-place s order (sym (place-kept s order) ∙ e ∙ place-new)) t less before
+
+  abbrev Taken : ℕ → Type 0
+  Taken k = (p : ℕ) → p < count-at numbers′ k → (s : ℕ) × ((s < n + 1) × (place-at numbers′ s ≡ place k p))
+
+  at-new : (p : ℕ) → p ≡ count → (s : ℕ) × ((s < n + 1) × (place-at numbers′ s ≡ place l p))
+  at-new p e = (n, (omega arith, place-new ∙ ap (place l) (sym e)))
+
+  from-old : (k p : ℕ) → k < h .layers → p < count-at numbers k → (s : ℕ) × ((s < n + 1) × (place-at numbers′ s ≡ place k p))
+  from-old k p inside below = (wf .places-taken k p inside below .0, (omega (arith, wf .places-taken k p inside below .1 .0), place-kept _ (wf .places-taken k p inside below .1 .0) ∙ wf .places-taken k p inside below .1 .1))
+
+  places-taken′ : (k p : ℕ) → k < h′ .layers → p < count-at numbers′ k → (s : ℕ) × ((s < n + 1) × (place-at numbers′ s ≡ place k p))
+  places-taken′ k p inside = each-layer Taken old-layer new-layer k inside p
+    where
+      in-l : l < h .layers → Taken l
+      in-l inside p below =
+          ⊎-elim (λ e. at-new p e) (λ less. from-old l p inside (subst (λ (c : ℕ). p < c) (home .counted inside) less)) (eq-or-lt-of-le (at-most (subst (λ (c : ℕ). p < c) count-at-new below)))
+        where
+          at-most : p < count + 1 → p ≤ count
+          at-most x = omega arith
+
+      old-layer : (k : ℕ) → k < h .layers → Taken k
+      old-layer k inside = go (eqb k l) refl
+        where
+          go : (b : Bool) → eqb k l ≡ b → Taken k
+          go true t = subst Taken (sym (eqb-true k l t)) (in-l (subst (λ (i : ℕ). i < h .layers) (eqb-true k l t) inside))
+          go false t = λ p below. from-old k p inside (subst (λ (c : ℕ). p < c % span) (count-kept k (omega (arith, layers-bound)) (eqb-false k l t)) below)
+
+      new-layer : l ≡ h .layers → Taken l
+      new-layer last-one p below = at-new p (only-one (subst (λ (c : ℕ). p < c) count-at-new below) (home .none-counted last-one))
+        where
+          only-one : p < count + 1 → count ≡ 0 → p ≡ count
+          only-one x y = omega arith
+
   layers-fit′ : h′ .layers ≤ max-layers
   layers-fit′ = ⊎-elim (λ last-one. rw (layers-are .1 last-one) (omega (arith, home-fits))) (λ inside. rw (layers-are .0 inside) (wf .layers-fit)) (eq-or-lt-of-le (home .within))
 
@@ -339,4 +396,6 @@ module _ (h : WidgetRects) (words numbers : List ℕ) (w : WidgetRect) (l count 
         counts-fit = counts-fit′;
         layers-known = layers-known′;
         positions-fit = positions-fit′;
+        places-once = places-once′;
+        places-taken = places-taken′;
       }

@@ -71,6 +71,7 @@ module _ (h : WidgetRects) (words numbers : List ℕ) (wf : Indexed h words numb
         counted = λ less. refl;
         same = λ less. at-l .1;
         fresh = λ e. absurd (never e);
+        none-counted = λ e. absurd (never e);
       }
     where
       at-l : (l < h .layers) × (is l ≡ true)
@@ -81,7 +82,7 @@ module _ (h : WidgetRects) (words numbers : List ℕ) (wf : Indexed h words numb
 
   pub home-new : find-layer words numbers layer (h .layers) ≡ 0 → h .layers < max-layers → Home h words numbers layer (h .layers) 0
   home-new none-there room =
-      record { fits = room; within = omega arith; small = omega arith; counted = λ less. absurd (never less); same = λ less. absurd (never less); fresh = λ e. none-there }
+      record { fits = room; within = omega arith; small = omega arith; counted = λ less. absurd (never less); same = λ less. absurd (never less); fresh = λ e. none-there; none-counted = λ e. refl }
     where
       never : h .layers < h .layers → ⊥
       never e = omega arith

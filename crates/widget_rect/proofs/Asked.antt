@@ -51,6 +51,8 @@ indexed-empty words numbers =
       counts-fit = λ l h. absurd (never l h);
       layers-known = λ s h. absurd (never s h);
       positions-fit = λ s h. absurd (never s h);
+      places-once = λ s t order h. absurd (never t h);
+      places-taken = λ l p h. absurd (never l h);
     }
 
 no-view : (words numbers : List ℕ) (edges : List Float) → view empty words numbers edges ≡ M.no-widgets

@@ -3,13 +3,14 @@ use mathlib.Core.Path.{_≡_, refl, sym, _∙_, ap, subst}
 use Prim.Native.Nat.{ℕ, zero, suc, _+_, _-_, _*_, _<_, _≤_, _/_, _%_}
 use native.Mathlib.Omega.{arith}
 use native.Mathlib.Nat.{eq-or-lt-of-le}
-use mathlib.Core.Bool.{Bool, true, false, _&&_, cond}
+use mathlib.Core.Bool.{Bool, true, false, _&&_, cond, true≢false}
 use mathlib.Core.Logic.{⊎-elim}
 use mathlib.Core.List.{List}
 use lib.Dec.{eqb, ltb}
 use lib.ListN.{length, getD, set, length-set}
 use lib.Seq.{getD-set-same, getD-set-other}
 use borrow.Author.Tests.{eq-eqb, ne-eqb, eqb-true, eqb-false, lt-ltb, le-ltb, ltb-true, ltb-false}
+use Rattle.widget_rect.proofs.Index.{and-left, and-right}
 use Rattle.widget_index.specs.Layout.{places, span, layer-of, position-of, place}
 use Rattle.widget_index.specs.Insert.{fallen, fall}
 
@@ -53,9 +54,19 @@ module _ (after before : ℕ) where
 abbrev pub later : ℕ → ℕ → ℕ → Bool
 later l position p = eqb l (layer-of p) && ltb position (position-of p)
 
+pub is-later : (l position p : ℕ) → later l position p ≡ true → (l ≡ layer-of p) × (position < position-of p)
+is-later l position p h = (eqb-true l (layer-of p) (and-left _ _ h), ltb-true position (position-of p) (and-right (eqb l (layer-of p)) _ h))
+
+pub not-later : (l position p : ℕ) → l ≡ layer-of p → later l position p ≡ false → position-of p ≤ position
+not-later l position p e h = ltb-false position (position-of p) (rw (eq-eqb l (layer-of p) e) at h)
+
 module _ (l position p : ℕ) (l-fits : l < 32) (position-fits : position < 2048) (p-fits : p < 65536) where
   abbrev q : ℕ
   q = fallen (place l position) (place l span) p
+
+  -- a place is its layer and its position
+  pub place-whole : p ≡ place (layer-of p) (position-of p)
+  place-whole = omega arith
 
   pub fallen-layer : layer-of q ≡ layer-of p
   unfolding fallen
@@ -94,3 +105,19 @@ module _ (l position p : ℕ) (l-fits : l < 32) (position-fits : position < 2048
       go true t true u = rw (t, u) (omega arith)
       go true t false u = rw (t, u) (omega arith)
       go false t b u = rw t (omega arith)
+
+  pub fallen-same : later l position p ≡ false → q ≡ p
+  unfolding fallen
+  fallen-same no-later = go (ltb (place l position) p) refl (ltb p (place l span)) refl
+    where
+      go : (a : Bool) → ltb (place l position) p ≡ a → (b : Bool) → ltb p (place l span) ≡ b → q ≡ p
+      go true t true u =
+          let f : l ≡ layer-of p = omega (arith, ltb-true (place l position) p t, ltb-true p (place l span) u) in
+          let g : position < position-of p = omega (arith, ltb-true (place l position) p t, ltb-true p (place l span) u) in
+          absurd (true≢false (sym (rw (eq-eqb l (layer-of p) f, lt-ltb position (position-of p) g)) ∙ no-later))
+      go true t false u = rw (t, u)
+      go false t b u = rw t
+
+  pub fallen-less : l ≡ layer-of p → position < position-of p → q ≡ p - 1
+  unfolding fallen
+  fallen-less f g = rw (lt-ltb (place l position) p (omega arith), lt-ltb p (place l span) (omega arith))

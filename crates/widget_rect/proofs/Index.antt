@@ -34,11 +34,11 @@ unlike h = let z : _≡_ {A = ℕ} 0 1 = cc in omega arith
 
 -- ---- the same layer
 
-and-left : (a b : Bool) → (a && b) ≡ true → a ≡ true
+pub and-left : (a b : Bool) → (a && b) ≡ true → a ≡ true
 and-left true b h = refl
 and-left false b h = absurd (unlike (sym h))
 
-and-right : (a b : Bool) → (a && b) ≡ true → b ≡ true
+pub and-right : (a b : Bool) → (a && b) ≡ true → b ≡ true
 and-right true b h = h
 and-right false b h = absurd (unlike (sym h))
 

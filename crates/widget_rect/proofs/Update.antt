@@ -4,7 +4,7 @@ use Prim.Native.Nat.{ℕ, zero, suc, _+_, _-_, _*_, _<_, _≤_, _/_, _%_}
 use native.Mathlib.Omega.{arith}
 use native.Mathlib.Nat.{eq-or-lt-of-le}
 use mathlib.Core.Bool.{Bool, true, false, _&&_, _||_, cond}
-use mathlib.Core.Logic.{⊎-elim}
+use mathlib.Core.Logic.{_⊎_, inl, inr, ⊎-elim}
 use mathlib.Core.List.{List, [], _∷_, _++_, map}
 use lib.Dec.{eqb, leb, ltb}
 use lib.Ieee.{Float}
@@ -26,7 +26,7 @@ use Rattle.widget_rect.specs.WellFormed.{Indexed}
 use Rattle.widget_rect.proofs.Lists.{last-is, last-none, last-cong, firsts-cong, map-firsts, change-such, changes, but}
 use Rattle.widget_rect.proofs.Index.{unclamped, not-so, unlike, same-layer-is, same-layer-refl, finds-id}
 use Rattle.widget_rect.proofs.Records.{rect-kept, interact-rect-kept, rect-new, interact-rect-new, sense-back, enabled-back, visible-back, widget-parts, known-parts}
-use Rattle.widget_rect.proofs.Fall.{length-fall, fall-other, fall-at, later, fallen-layer, fallen-position, fallen-bound}
+use Rattle.widget_rect.proofs.Fall.{length-fall, fall-other, fall-at, later, place-whole, fallen-layer, fallen-position, fallen-bound, fallen-same, fallen-less, is-later, not-later}
 
 -- ---- the union of two senses is one
 
@@ -71,8 +71,10 @@ module _ (h : WidgetRects) (words numbers numbers′ : List ℕ) (wf : Indexed h
       ∙ wf .layers-once k less
 
   pub well-formed-update : ((s : ℕ) → s < h .widgets → place-at numbers′ s < h .layers * span)
-      → ((s : ℕ) → s < h .widgets → position-of (place-at numbers′ s) < count-at numbers (layer-of (place-at numbers′ s))) → Indexed h words numbers′
-  well-formed-update known fit =
+      → ((s : ℕ) → s < h .widgets → position-of (place-at numbers′ s) < count-at numbers (layer-of (place-at numbers′ s)))
+      → ((s t : ℕ) → s < t → t < h .widgets → place-at numbers′ s ≡ place-at numbers′ t → ⊥)
+      → ((l p : ℕ) → l < h .layers → p < count-at numbers l → (s : ℕ) × ((s < h .widgets) × (place-at numbers′ s ≡ place l p))) → Indexed h words numbers′
+  well-formed-update known fit once taken =
       record {
         widgets-fit = wf .widgets-fit;
         layers-fit = wf .layers-fit;
@@ -83,6 +85,8 @@ module _ (h : WidgetRects) (words numbers numbers′ : List ℕ) (wf : Indexed h
         counts-fit = λ k less. rw (high (counts + k) (omega arith)) (wf .counts-fit k less);
         layers-known = known;
         positions-fit = λ s less. rw (count-same (layer-of (place-at numbers′ s))) (fit s less);
+        places-once = once;
+        places-taken = λ l p less below. taken l p less (subst (λ (c : ℕ). p < c) (count-same l) below);
       }
 
 module _ (h : WidgetRects) (words numbers : List ℕ) (wf : Indexed h words numbers) where
@@ -195,6 +199,8 @@ module _ (h : WidgetRects) (words numbers : List ℕ) (edges : List Float) (w : 
       well-formed-update h words numbers numbers₁ wf low₁ high₁
       (λ t less. rw (place-same t (small-slot t less)) (wf .layers-known t less))
       (λ t less. rw (place-same t (small-slot t less)) (wf .positions-fit t less))
+      (λ t u order less e. wf .places-once t u order less (sym (place-same t (small-slot t (omega arith))) ∙ e ∙ place-same u (small-slot u less)))
+      (λ l p less below. (wf .places-taken l p less below .0, (wf .places-taken l p less below .1 .0, place-same _ (small-slot _ (wf .places-taken l p less below .1 .0)) ∙ wf .places-taken l p less below .1 .1)))
 
   -- the entries that the model has then, by slot
   once : (f : ℕ → Known) → ((k : ℕ) → f k .widget .id ≡ id-at words k) → (k : ℕ) → k < n → eqb (w .id) (f k .widget .id) ≡ true → last (λ t. eqb (w .id) (f t .widget .id)) k ≡ 0
@@ -323,8 +329,193 @@ module _ (h : WidgetRects) (words numbers : List ℕ) (edges : List Float) (w : 
         smaller : (x : ℕ) (b : Bool) → x - cond b 1 0 ≤ x
         smaller x b = omega arith
 
+    -- the slot's own place is no other slot's
+    apart : (t : ℕ) → t < n → (t ≡ s → ⊥) → place-at numbers t ≡ place-at numbers s → ⊥
+    apart t less other e = ⊎-elim (λ below. wf .places-once t s below inside e) (λ above. wf .places-once s t above less (sym e)) (ne-lt t s other)
+      where
+        ne-lt : (x y : ℕ) → (x ≡ y → ⊥) → (x < y) ⊎ (y < x)
+        ne-lt x y ne = go (ltb x y) refl
+          where
+            go : (b : Bool) → ltb x y ≡ b → (x < y) ⊎ (y < x)
+            go true u = inl (ltb-true x y u)
+            go false u = inr (⊎-elim (λ e. absurd (ne (sym e))) (λ less. less) (eq-or-lt-of-le (ltb-false x y u)))
+
+    s-place : place-at numbers s ≡ place l position
+    s-place = omega (arith, place-fits h words numbers wf s inside)
+
+    -- the last place is no fallen one
+    last-apart : (t : ℕ) → t < n → (t ≡ s → ⊥) → fallen (place l position) (place l span) (place-at numbers t) ≡ place l (count - 1) → ⊥
+    last-apart t less other e = go (later l position (place-at numbers t)) refl
+      where
+        p : ℕ
+        p = place-at numbers t
+
+        p-fits : place-at numbers t < 65536
+        p-fits = place-fits h words numbers wf t less
+
+        in-l : l ≡ layer-of (place-at numbers t)
+        in-l = sym (sym (fallen-layer l position (place-at numbers t) l-fits position-fits p-fits) ∙ ap layer-of e ∙ layer-of-last)
+
+        at-last : position-of (place-at numbers t) - cond (later l position (place-at numbers t)) 1 0 ≡ count - 1
+        at-last = sym (fallen-position l position (place-at numbers t) l-fits position-fits p-fits) ∙ ap position-of e ∙ position-of-last
+
+        below : position-of (place-at numbers t) < count
+        below = subst (λ (c : ℕ). position-of (place-at numbers t) < c) (sym counted) (subst (λ (k : ℕ). position-of (place-at numbers t) < count-at numbers k) (sym in-l) (wf .positions-fit t less))
+
+        go : (b : Bool) → later l position (place-at numbers t) ≡ b → ⊥
+        go true u = above (is-later l position (place-at numbers t) u .1) (rw u at at-last) below
+          where
+            above : position < position-of (place-at numbers t) → position-of (place-at numbers t) - 1 ≡ count - 1 → position-of (place-at numbers t) < count → ⊥
+            above x y z = omega (arith, count-fits .0)
+        go false u = apart t less other (equal (not-later l position (place-at numbers t) in-l u) (rw u at at-last))
+          where
+            equal : position-of (place-at numbers t) ≤ position → position-of (place-at numbers t) - 0 ≡ count - 1 → place-at numbers t ≡ place-at numbers s
+            equal x y =
+                place-whole l position (place-at numbers t) l-fits position-fits p-fits
+                ∙ ap (λ (k : ℕ). place k (position-of (place-at numbers t))) (sym in-l) ∙ ap (place l) (same-position x y) ∙ sym s-place
+              where
+                same-position : position-of (place-at numbers t) ≤ position → position-of (place-at numbers t) - 0 ≡ count - 1 → position-of (place-at numbers t) ≡ position
+                same-position x y = omega (arith, count-fits .0)
+
+    -- two that fall to one place were at one place
+    fallen-apart : (t u : ℕ) → t < n → u < n → (t ≡ s → ⊥) → (u ≡ s → ⊥) → fallen (place l position) (place l span) (place-at numbers t) ≡ fallen (place l position) (place l span) (place-at numbers u) → place-at numbers t ≡ place-at numbers u
+    fallen-apart t u less less′ other other′ e = go (later l position (place-at numbers t)) refl (later l position (place-at numbers u)) refl
+      where
+        t-fits : place-at numbers t < 65536
+        t-fits = place-fits h words numbers wf t less
+
+        u-fits : place-at numbers u < 65536
+        u-fits = place-fits h words numbers wf u less′
+
+        same-layers : layer-of (place-at numbers t) ≡ layer-of (place-at numbers u)
+        same-layers = sym (fallen-layer l position (place-at numbers t) l-fits position-fits t-fits) ∙ ap layer-of e ∙ fallen-layer l position (place-at numbers u) l-fits position-fits u-fits
+
+        same-falls : position-of (place-at numbers t) - cond (later l position (place-at numbers t)) 1 0 ≡ position-of (place-at numbers u) - cond (later l position (place-at numbers u)) 1 0
+        same-falls = sym (fallen-position l position (place-at numbers t) l-fits position-fits t-fits) ∙ ap position-of e ∙ fallen-position l position (place-at numbers u) l-fits position-fits u-fits
+
+        by-positions : position-of (place-at numbers t) ≡ position-of (place-at numbers u) → place-at numbers t ≡ place-at numbers u
+        by-positions x =
+            place-whole l position (place-at numbers t) l-fits position-fits t-fits
+            ∙ ap (λ (k : ℕ). place k (position-of (place-at numbers t))) same-layers ∙ ap (place (layer-of (place-at numbers u))) x ∙ sym (place-whole l position (place-at numbers u) l-fits position-fits u-fits)
+
+        -- one that does not fall would be at the slot's own place
+        at-own : (v : ℕ) → v < n → (v ≡ s → ⊥) → l ≡ layer-of (place-at numbers v) → position-of (place-at numbers v) ≡ position → ⊥
+        at-own v below ne in-l x =
+            apart v below ne
+            (place-whole l position (place-at numbers v) l-fits position-fits (place-fits h words numbers wf v below)
+            ∙ ap (λ (k : ℕ). place k (position-of (place-at numbers v))) (sym in-l) ∙ ap (place l) x ∙ sym s-place)
+
+        meet : (x y : ℕ) → position < x → y ≤ position → x - 1 ≡ y - 0 → y ≡ position
+        meet x y a b c = omega arith
+
+        go : (a : Bool) → later l position (place-at numbers t) ≡ a → (b : Bool) → later l position (place-at numbers u) ≡ b → place-at numbers t ≡ place-at numbers u
+        go true a true b = by-positions (both _ _ (is-later l position (place-at numbers t) a .1) (is-later l position (place-at numbers u) b .1) (rw (a, b) at same-falls))
+          where
+            both : (x y : ℕ) → position < x → position < y → x - 1 ≡ y - 1 → x ≡ y
+            both x y f g k = omega arith
+        go false a false b = by-positions (neither _ _ (rw (a, b) at same-falls))
+          where
+            neither : (x y : ℕ) → x - 0 ≡ y - 0 → x ≡ y
+            neither x y k = omega arith
+        go true a false b =
+            let in-u : l ≡ layer-of (place-at numbers u) = is-later l position (place-at numbers t) a .0 ∙ same-layers in
+            absurd (at-own u less′ other′ in-u (meet _ _ (is-later l position (place-at numbers t) a .1) (not-later l position (place-at numbers u) in-u b) (rw (a, b) at same-falls)))
+        go false a true b =
+            let in-t : l ≡ layer-of (place-at numbers t) = is-later l position (place-at numbers u) b .0 ∙ sym same-layers in
+            absurd (at-own t less other in-t (meet _ _ (is-later l position (place-at numbers u) b .1) (not-later l position (place-at numbers t) in-t a) (sym (rw (a, b) at same-falls))))
+
+    once₂ : (t u : ℕ) → t < u → u < n → place-at numbers₂ t ≡ place-at numbers₂ u → ⊥
+    once₂ t u order less e = go (eqb t s) refl (eqb u s) refl
+      where
+        t-less : t < n
+        t-less = omega arith
+
+        apart-slots : t ≡ s → u ≡ s → ⊥
+        apart-slots x y = omega arith
+
+        go : (a : Bool) → eqb t s ≡ a → (b : Bool) → eqb u s ≡ b → ⊥
+        go true a true b = apart-slots (eqb-true t s a) (eqb-true u s b)
+        go true a false b = last-apart u less (eqb-false u s b) (sym (place-fallen u less (eqb-false u s b)) ∙ sym e ∙ ap (place-at numbers₂) (eqb-true t s a) ∙ place-last)
+        go false a true b = last-apart t t-less (eqb-false t s a) (sym (place-fallen t t-less (eqb-false t s a)) ∙ e ∙ ap (place-at numbers₂) (eqb-true u s b) ∙ place-last)
+        go false a false b =
+            wf .places-once t u order less
+            (fallen-apart t u t-less less (eqb-false t s a) (eqb-false u s b) (sym (place-fallen t t-less (eqb-false t s a)) ∙ e ∙ place-fallen u less (eqb-false u s b)))
+
+    taken₂ : (k p : ℕ) → k < h .layers → p < count-at numbers k → (t : ℕ) × ((t < n) × (place-at numbers₂ t ≡ place k p))
+    taken₂ k p less below = go (eqb k l) refl (eqb p (count - 1)) refl (ltb p position) refl
+      where
+        Found : Type 0
+        Found = (t : ℕ) × ((t < n) × (place-at numbers₂ t ≡ place k p))
+
+        -- the slot that was at (k, p′), which is not the slot's own place, and where it is now
+        was-at : (p′ : ℕ) → p′ < count-at numbers k → (place k p′ ≡ place l position → ⊥) → fallen (place l position) (place l span) (place k p′) ≡ place k p → Found
+        was-at p′ less′ other lands =
+            (wf .places-taken k p′ less less′ .0, (wf .places-taken k p′ less less′ .1 .0,
+            place-fallen _ (wf .places-taken k p′ less less′ .1 .0) (λ e. other (sym (wf .places-taken k p′ less less′ .1 .1) ∙ ap (place-at numbers) e ∙ s-place))
+            ∙ ap (fallen (place l position) (place l span)) (wf .places-taken k p′ less less′ .1 .1) ∙ lands))
+
+        k-fits : k < 32
+        k-fits = omega (arith, wf .layers-fit)
+
+        p-small : p < 1024
+        p-small = omega (arith, wf .counts-fit k less, wf .widgets-fit)
+
+        p-fits : place k p < 65536
+        p-fits = omega arith
+
+        k-layer : layer-of (place k p) ≡ k
+        k-layer = omega arith
+
+        p-position : position-of (place k p) ≡ p
+        p-position = omega arith
+
+        go : (a : Bool) → eqb k l ≡ a → (b : Bool) → eqb p (count - 1) ≡ b → (c : Bool) → ltb p position ≡ c → Found
+        go false a b f c g =
+            was-at p below (λ e. eqb-false k l a (sym k-layer ∙ ap layer-of e ∙ own-layer)) (fallen-same l position (place k p) l-fits position-fits p-fits (rw (ne-eqb l (layer-of (place k p)) (λ e. eqb-false k l a (sym (e ∙ k-layer))))))
+          where
+            own-layer : layer-of (place l position) ≡ l
+            own-layer = omega (arith, l-fits, position-fits)
+        go true a true f c g =
+            (s, (inside, place-last ∙ ap (λ (i : ℕ). place i (count - 1)) (sym (eqb-true k l a)) ∙ ap (place k) (sym (eqb-true p (count - 1) f))))
+        go true a false f true g =
+            was-at p below (λ e. lower (ltb-true p position g) (sym p-position ∙ ap position-of e ∙ own-position))
+            (fallen-same l position (place k p) l-fits position-fits p-fits (rw (eq-eqb l (layer-of (place k p)) (sym (eqb-true k l a) ∙ sym k-layer), p-position, le-ltb position p (omega (arith, ltb-true p position g)))))
+          where
+            own-position : position-of (place l position) ≡ position
+            own-position = omega (arith, position-fits)
+
+            lower : p < position → p ≡ position → ⊥
+            lower x y = omega arith
+        go true a false f false g =
+            was-at (p + 1) (subst (λ (i : ℕ). p + 1 < i) (count-there (eqb-true k l a)) next) (λ e. higher (ltb-false p position g) (sym next-position ∙ ap position-of e ∙ own-position))
+            (fallen-less l position (place k (p + 1)) l-fits position-fits next-fits (sym (eqb-true k l a) ∙ sym next-layer) (subst (λ (i : ℕ). position < i) (sym next-position) (omega (arith, ltb-false p position g))) ∙ back)
+          where
+            count-there : k ≡ l → count ≡ count-at numbers k
+            count-there x = counted ∙ ap (count-at numbers) (sym x)
+
+            next : p + 1 < count
+            next = omega (arith, eqb-false p (count - 1) f, subst (λ (i : ℕ). p < i) (sym (count-there (eqb-true k l a))) below)
+
+            next-fits : place k (p + 1) < 65536
+            next-fits = omega arith
+
+            next-layer : layer-of (place k (p + 1)) ≡ k
+            next-layer = omega arith
+
+            next-position : position-of (place k (p + 1)) ≡ p + 1
+            next-position = omega arith
+
+            own-position : position-of (place l position) ≡ position
+            own-position = omega (arith, position-fits)
+
+            higher : position ≤ p → p + 1 ≡ position → ⊥
+            higher x y = omega arith
+
+            back : place k (p + 1) - 1 ≡ place k p
+            back = omega arith
+
     pub well-formed-move : Indexed h words numbers₂
-    well-formed-move = well-formed-update h words numbers numbers₂ wf low₂ high₂ known₂ fit₂
+    well-formed-move = well-formed-update h words numbers numbers₂ wf low₂ high₂ known₂ fit₂ once₂ taken₂
 
     pub by-layer-moved : view h words numbers₂ edges₁ .by-layer ≡ view h words numbers edges .by-layer
     by-layer-moved = layers-view numbers₂ edges₁ high₂

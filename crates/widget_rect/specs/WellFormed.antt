@@ -7,7 +7,7 @@ use lib.Dec.{eqb}
 use lib.ListN.{getD, length}
 use Rattle.data.specs.Limits.{max-widgets, max-layers}
 use Rattle.widget_index.specs.declared.table.WidgetRects.{WidgetRects}
-use Rattle.widget_index.specs.Layout.{counts, span, id-at, link-at, place-at, layer-of, position-of, count-at}
+use Rattle.widget_index.specs.Layout.{counts, span, id-at, link-at, place-at, layer-of, position-of, place, count-at}
 use Rattle.widget_index.specs.Table.{last, layer-at, bucket, head, find-layer}
 
 pub record Indexed (h : WidgetRects) (words numbers : List ℕ) : Type 0 where
@@ -23,6 +23,9 @@ pub record Indexed (h : WidgetRects) (words numbers : List ℕ) : Type 0 where
   pub counts-fit : (l : ℕ) → l < h .layers → getD numbers (counts + l) 0 ≤ h .widgets
   pub layers-known : (s : ℕ) → s < h .widgets → place-at numbers s < h .layers * span
   pub positions-fit : (s : ℕ) → s < h .widgets → position-of (place-at numbers s) < count-at numbers (layer-of (place-at numbers s))
+  -- no two have one place, and each position below a layer's count is some widget's
+  pub places-once : (s t : ℕ) → s < t → t < h .widgets → place-at numbers s ≡ place-at numbers t → ⊥
+  pub places-taken : (l p : ℕ) → l < h .layers → p < count-at numbers l → (s : ℕ) × ((s < h .widgets) × (place-at numbers s ≡ place l p))
 
 -- the same, of arrays that are as long as their types say
 pub record WellFormed (h : WidgetRects) (words numbers : List ℕ) (edges : List Float) : Type 0 where

@@ -1,7 +1,7 @@
 // A layer's widgets, in a slice that the caller lends.
 use data::widget::WidgetRect;
 ghost use mathlib.Core.Path.{_≡_};
-ghost use Prim.Native.Nat.{_≤_};
+ghost use Prim.Native.Nat.{_+_, _≤_};
 ghost use lib.ListN.{length};
 ghost use Rattle.widget_index.specs.Insert.{settled};
 
