@@ -7,6 +7,7 @@ pub mod Fall
 pub mod Fits
 pub mod Index
 pub mod Lists
+pub mod Reach
 pub mod Records
 pub mod Settle
 pub mod Size

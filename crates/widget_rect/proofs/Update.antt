@@ -449,10 +449,14 @@ module _ (h : WidgetRects) (words numbers : List ℕ) (edges : List Float) (w : 
 
         -- the slot that was at (k, p′), which is not the slot's own place, and where it is now
         was-at : (p′ : ℕ) → p′ < count-at numbers k → (place k p′ ≡ place l position → ⊥) → fallen (place l position) (place l span) (place k p′) ≡ place k p → Found
-        was-at p′ less′ other lands =
-            (wf .places-taken k p′ less less′ .0, (wf .places-taken k p′ less less′ .1 .0,
+        was-at p′ less′ other lands = (
+          wf .places-taken k p′ less less′ .0,
+          (
+            wf .places-taken k p′ less less′ .1 .0,
             place-fallen _ (wf .places-taken k p′ less less′ .1 .0) (λ e. other (sym (wf .places-taken k p′ less less′ .1 .1) ∙ ap (place-at numbers) e ∙ s-place))
-            ∙ ap (fallen (place l position) (place l span)) (wf .places-taken k p′ less less′ .1 .1) ∙ lands))
+                ∙ ap (fallen (place l position) (place l span)) (wf .places-taken k p′ less less′ .1 .1) ∙ lands,
+          ),
+        )
 
         k-fits : k < 32
         k-fits = omega (arith, wf .layers-fit)
