@@ -1,0 +1,14 @@
+pub mod Again
+pub mod Agree
+pub mod Append
+pub mod Appended
+pub mod Asked
+pub mod Fall
+pub mod Fits
+pub mod Index
+pub mod Lists
+pub mod Reach
+pub mod Records
+pub mod Settle
+pub mod Size
+pub mod Update

@@ -1,0 +1,4 @@
+pub mod Questions
+pub mod Reached
+pub mod Told
+pub mod WellFormed
