@@ -7,7 +7,8 @@ use lib.ListN.{take}
 use lib.Ieee.{Float, binary32, toBits}
 use Rattle.data.specs.Limits.{key-count}
 use Rattle.data.specs.Numbers.{button-number, phase-number, unit-number, source-number, kind-number}
-use Rattle.data.specs.Modifiers.{bit-number, modifiers-number}
+use Rattle.data.specs.Bits.{bit-number}
+use Rattle.data.specs.Modifiers.{modifiers-number}
 use Rattle.feed.specs.Types.{Pos2, Vec2, MaybeF32, no-force, some-force, EventWords}
 use Rattle.feed.specs.Types.{Event, Key, ModifiersChanged, PointerMoved, MouseMoved, Button, PointerGone, Zoom, Rotate, Touch, MouseWheel, WindowFocused, Other}
 

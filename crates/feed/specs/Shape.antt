@@ -7,7 +7,8 @@ use lib.Dec.{eqb, ltb}
 use lib.ListN.{getD, length}
 use lib.Ieee.{Float, binary32, ofBits}
 use Rattle.data.specs.Limits.{key-count}
-use Rattle.data.specs.Modifiers.{bit-of, modifiers-of}
+use Rattle.data.specs.Bits.{bit-of}
+use Rattle.data.specs.Modifiers.{modifiers-of}
 use Rattle.feed.specs.Types.{Pos2, Vec2, PointerButton, Primary, Secondary, Middle, Extra1, Extra2, MouseWheelUnit, Point, Line, Page}
 use Rattle.feed.specs.Types.{MouseWheelSource, Unknown, Wheel, Trackpad, Momentum, TouchPhase, Start, Move, End, Cancel, MaybeF32, no-force, some-force}
 use Rattle.feed.specs.Types.{Event, Key, ModifiersChanged, PointerMoved, MouseMoved, Button, PointerGone, Zoom, Rotate, Touch, MouseWheel, WindowFocused, Other}
