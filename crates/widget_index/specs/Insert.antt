@@ -1,0 +1,178 @@
+-- One insertion on the set's own arrays: what it answers, the set after it, every place of the three arrays, and what becomes of the lent slice.
+use Prim.Native.Nat.{ℕ, zero, suc, _+_, _-_, _*_}
+use mathlib.Core.Bool.{Bool, true, false, cond}
+use mathlib.Core.Option.{Option, none, some}
+use mathlib.Core.Path.{_≡_}
+use mathlib.Core.List.{List, [], _∷_}
+use lib.Dec.{leb, ltb, eqb}
+use lib.Ieee.{Float}
+use lib.ListN.{getD, set, length}
+use Rattle.data.specs.Limits.{max-widgets, max-layers}
+use Rattle.data.specs.declared.widget.WidgetRect.{WidgetRect}
+use Rattle.data.specs.declared.refusal.InsertRefusal.{InsertRefusal}
+use Rattle.data.specs.declared.refusal.InsertRefusal.the-variants.{Full, OtherLayer, ShortSlice}
+use Rattle.model.specs.Widgets.{same-layer, updated, record-refusal, move-to-end}
+use Rattle.widget_index.specs.declared.table.WidgetRects.{WidgetRects}
+use Rattle.widget_index.specs.declared.insert.Inserted.{Inserted}
+use Rattle.widget_index.specs.declared.insert.Inserted.the-variants.{Refused, Taken}
+use Rattle.widget_index.specs.declared.insert.Decision.{Decision}
+use Rattle.widget_index.specs.Layout.{stores, parents, layer-ids, links, places, traits, orders, counts, span, place-at, layer-of, position-of, place, count-at, packed}
+use Rattle.widget_index.specs.Table.{at-most, widgets-of, layers-of, layer-at, widget-at, bucket, head, find, find-layer}
+
+-- the decision, and the arrays after it
+pub record Outcome : Type 0 where
+  pub decision : Decision
+  pub words : List ℕ
+  pub numbers : List ℕ
+  pub edges : List Float
+
+-- what a function that decides gives
+pub record Gives (o : Outcome) (r : Decision) (ws ns : List ℕ) (es : List Float) : Type 0 where
+  pub decision : r ≡ o .decision
+  pub words : ws ≡ o .words
+  pub numbers : ns ≡ o .numbers
+  pub edges : es ≡ o .edges
+
+-- the lent slice after a decision: `to - from` places from `from` on change
+unfoldable pub settled : ℕ → ℕ → WidgetRect → List WidgetRect → List WidgetRect
+settled from to w slice = cond (ltb from to) (move-to-end from to w slice) slice
+
+-- all as before
+abbrev pub refuse : WidgetRects → WidgetRect → InsertRefusal → Decision
+refuse h w why = record { answer = Refused why; «set» = h; from = 0; to = 0; widget = w }
+
+-- ---- stores of one record
+
+abbrev pub with-edges : ℕ → WidgetRect → List Float → List Float
+with-edges s w edges =
+    stores edges
+    ((s * 8, w .rect .min .x) ∷ (s * 8 + 1, w .rect .min .y) ∷ (s * 8 + 2, w .rect .max .x) ∷ (s * 8 + 3, w .rect .max .y)
+    ∷ (s * 8 + 4, w .«interact_rect» .min .x) ∷ (s * 8 + 5, w .«interact_rect» .min .y) ∷ (s * 8 + 6, w .«interact_rect» .max .x) ∷ (s * 8 + 7, w .«interact_rect» .max .y) ∷ [])
+
+abbrev pub with-traits : ℕ → WidgetRect → List ℕ → List ℕ
+with-traits s w numbers = set numbers (traits + s) (packed (w .sense) (w .enabled) (w .visible))
+
+-- ---- a new widget
+
+-- the layer's number: a new layer comes last
+unfoldable pub number-of : ℕ → ℕ → ℕ
+number-of e n = cond (eqb e 0) n (e - 1)
+
+unfoldable pub count-of : List ℕ → ℕ → ℕ
+count-of numbers e = cond (eqb e 0) 0 (count-at numbers (e - 1))
+
+unfoldable pub layers-after : ℕ → ℕ → ℕ
+layers-after n l = cond (ltb l n) n (l + 1)
+
+abbrev pub appended-words : ℕ → ℕ → WidgetRect → List ℕ → List ℕ
+appended-words s l w words = stores words ((s, w .id) ∷ (parents + s, w .«parent_id») ∷ (layer-ids + l, w .«layer_id» .id) ∷ [])
+
+-- the slot becomes the last of its bucket, and its link is the one that was
+abbrev pub appended-numbers : ℕ → ℕ → ℕ → ℕ → WidgetRect → List ℕ → List ℕ
+appended-numbers s l count e w numbers =
+    stores numbers
+    ((links + s, e) ∷ (bucket (w .id), s + 1) ∷ (places + s, place l count) ∷ (orders + l, w .«layer_id» .order) ∷ (counts + l, count + 1)
+    ∷ (traits + s, packed (w .sense) (w .enabled) (w .visible)) ∷ [])
+
+unfoldable pub append : WidgetRects → List ℕ → List ℕ → List Float → WidgetRect → ℕ → ℕ → Outcome
+append h words numbers edges w l count =
+    record {
+      decision =
+          record {
+            answer = Taken count (count + 1);
+            «set» = record { widgets = h .widgets + 1; layers = layers-after (h .layers) l };
+            from = count;
+            to = count + 1;
+            widget = w;
+          };
+      words = appended-words (h .widgets) l w words;
+      numbers = appended-numbers (h .widgets) l count (head h words numbers (w .id)) w numbers;
+      edges = with-edges (h .widgets) w edges;
+    }
+
+abbrev pub unchanged : Decision → List ℕ → List ℕ → List Float → Outcome
+unchanged d words numbers edges = record { decision = d; words = words; numbers = numbers; edges = edges }
+
+-- 6, then 8
+unfoldable pub insert-new : WidgetRects → List ℕ → List ℕ → List Float → ℕ → WidgetRect → Outcome
+insert-new h words numbers edges lent w =
+    let n = layers-of h in
+    let e = find-layer words numbers (w .«layer_id») n in
+    let l = number-of e n in
+    let count = count-of numbers e in
+    cond (leb max-widgets (h .widgets))
+    (unchanged (refuse h w Full) words numbers edges)
+    (cond (leb max-layers l)
+    (unchanged (refuse h w Full) words numbers edges)
+    (cond (ltb lent (count + 1)) (unchanged (refuse h w ShortSlice) words numbers edges) (append h words numbers edges w l count)))
+
+-- ---- a known widget
+
+-- "every later position falls by one": of the places after this one up to the end of its layer
+unfoldable pub fallen : ℕ → ℕ → ℕ → ℕ
+fallen after before p = cond (ltb after p) (cond (ltb p before) (p - 1) p) p
+
+-- the same of the first n slots
+unfoldable pub fall : ℕ → ℕ → ℕ → List ℕ → List ℕ
+fall zero after before numbers = numbers
+fall (suc n) after before numbers =
+    let ns = fall n after before numbers in
+    set ns (places + n) (fallen after before (getD ns (places + n) 0))
+
+-- how many widgets the layer has, which are more than the position of any of them
+unfoldable pub at-least : ℕ → ℕ → ℕ
+at-least low n = cond (ltb n low) low n
+
+abbrev pub take-update : WidgetRects → ℕ → ℕ → ℕ → ℕ → WidgetRect → Decision
+take-update h position count from to w = record { answer = Taken position count; «set» = h; from = from; to = to; widget = w }
+
+unfoldable pub replace : WidgetRects → List ℕ → List ℕ → List Float → WidgetRect → ℕ → ℕ → ℕ → Outcome
+replace h words numbers edges w s position count =
+    record {
+      decision = take-update h position count position (position + 1) w;
+      words = words;
+      numbers = with-traits s w numbers;
+      edges = with-edges s w edges;
+    }
+
+unfoldable pub moved-numbers : ℕ → ℕ → ℕ → ℕ → ℕ → WidgetRect → List ℕ → List ℕ
+moved-numbers n s l position count w numbers =
+    set (fall n (place l position) (place l span) (with-traits s w numbers)) (places + s) (place l (count - 1))
+
+unfoldable pub move-to-top : WidgetRects → List ℕ → List ℕ → List Float → WidgetRect → ℕ → ℕ → ℕ → ℕ → Outcome
+move-to-top h words numbers edges w s l position count =
+    record {
+      decision = take-update h (count - 1) count position count w;
+      words = words;
+      numbers = moved-numbers (widgets-of h) s l position count w numbers;
+      edges = with-edges s w edges;
+    }
+
+-- 7, then 8
+unfoldable pub insert-known : WidgetRects → List ℕ → List ℕ → List Float → ℕ → WidgetRect → ℕ → Bool → Outcome
+insert-known h words numbers edges lent w s top =
+    let old = widget-at words numbers edges s in
+    let new = updated old w in
+    let l = layer-of (place-at numbers s) in
+    let position = position-of (place-at numbers s) in
+    let count = at-least (position + 1) (count-at numbers l) in
+    cond (same-layer (w .«layer_id») (old .«layer_id»))
+    (cond (ltb lent count)
+    (unchanged (refuse h w ShortSlice) words numbers edges)
+    (cond top (move-to-top h words numbers edges new s l position count) (replace h words numbers edges new s position count)))
+    (unchanged (refuse h w OtherLayer) words numbers edges)
+
+-- ---- an insertion
+
+unfoldable pub insert-checked : WidgetRects → List ℕ → List ℕ → List Float → ℕ → WidgetRect → Bool → Outcome
+insert-checked h words numbers edges lent w top =
+    let e = find h words numbers (w .id) in
+    cond (eqb e 0) (insert-new h words numbers edges lent w) (insert-known h words numbers edges lent w (e - 1) top)
+
+unfoldable pub decide-unless : Option InsertRefusal → WidgetRects → List ℕ → List ℕ → List Float → ℕ → WidgetRect → Bool → Outcome
+decide-unless (some why) h words numbers edges lent w top = unchanged (refuse h w why) words numbers edges
+decide-unless none h words numbers edges lent w top = insert-checked h words numbers edges lent w top
+
+-- with `lent` places in the slice
+unfoldable pub decide : WidgetRects → List ℕ → List ℕ → List Float → ℕ → WidgetRect → Bool → Outcome
+decide h words numbers edges lent w top = decide-unless (record-refusal w) h words numbers edges lent w top

@@ -1,0 +1,4 @@
+pub mod Insert
+pub mod Layout
+pub mod Numbers
+pub mod Table
