@@ -94,8 +94,8 @@ module _ (s : ℕ) (a b : Bool) where
 
 pub widget-parts : (i i′ p p′ : ℕ) (l l′ : LayerId) (r r′ x x′ : Rect) (s s′ : ℕ) (a a′ v v′ : Bool) → i ≡ i′ → p ≡ p′ → l ≡ l′ → r ≡ r′ → x ≡ x′ → s ≡ s′ → a ≡ a′ → v ≡ v′
     → _≡_ {A = WidgetRect}
-        (record { id = i; «parent_id» = p; «layer_id» = l; rect = r; «interact_rect» = x; sense = s; enabled = a; visible = v })
-        (record { id = i′; «parent_id» = p′; «layer_id» = l′; rect = r′; «interact_rect» = x′; sense = s′; enabled = a′; visible = v′ })
+    (record { id = i; «parent_id» = p; «layer_id» = l; rect = r; «interact_rect» = x; sense = s; enabled = a; visible = v })
+    (record { id = i′; «parent_id» = p′; «layer_id» = l′; rect = r′; «interact_rect» = x′; sense = s′; enabled = a′; visible = v′ })
 widget-parts i i′ p p′ l l′ r r′ x x′ s s′ a a′ v v′ e₁ e₂ e₃ e₄ e₅ e₆ e₇ e₈ = rw (e₁, e₂, e₃, e₄, e₅, e₆, e₇, e₈)
 
 pub known-parts : (p p′ : ℕ) (w w′ : WidgetRect) → p ≡ p′ → w ≡ w′ → _≡_ {A = Known} (record { position = p; widget = w }) (record { position = p′; widget = w′ })
