@@ -5,3 +5,4 @@ pub mod Reading
 pub mod RoundTrip
 pub mod Laws
 pub mod Examples
+pub mod Steps

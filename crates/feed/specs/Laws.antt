@@ -13,7 +13,8 @@ use Rattle.data.specs.Modifiers.{no-modifiers}
 use Rattle.feed.specs.Types.{Event, Button, Primary, TooManyEvents}
 use Rattle.feed.specs.Split.{piece-length}
 use Rattle.feed.specs.Shape.{float-of}
-use Rattle.feed.specs.Decode.{Decoded, good, Item, decode, items, items-after, piece-at}
+use Rattle.feed.specs.Types.found as found
+use Rattle.feed.specs.Decode.{Decoded, good, malformed, outside-domain, Item, decode, items, items-after, piece-at, event-at}
 use Rattle.feed.specs.Encode.{encode, fields-ok}
 use Rattle.feed.specs.Feed.{events-of, first-refusal, feed-refusal}
 
@@ -33,6 +34,19 @@ pub record Walk : Type 0 where
   pub past : (ws : List ℕ) (at : ℕ) → length ws ≤ at → items-after ws at ≡ []
   pub next : (ws : List ℕ) (at : ℕ) → at < length ws →
       items-after ws at ≡ record { index = at; what = decode (piece-at ws at) } ∷ items-after ws (at + piece-length (getD ws at 0))
+
+-- what `event_at` answers is the first item from `at` on, and the place after an event is further on, within the feed
+pub record Steps : Type 0 where
+  pub event : (ws : List ℕ) (at next : ℕ) (e : Event) → at < length ws → event-at ws at ≡ found.Event e next →
+      (items-after ws at ≡ record { index = at; what = good e } ∷ items-after ws next) × (at < next) × (next ≤ length ws)
+  pub refused-1 : (ws : List ℕ) (at : ℕ) → at < length ws → event-at ws at ≡ found.Malformed →
+      items-after ws at ≡ record { index = at; what = malformed } ∷ items-after ws (at + piece-length (getD ws at 0))
+  pub refused-2 : (ws : List ℕ) (at : ℕ) → at < length ws → event-at ws at ≡ found.OutsideDomain →
+      items-after ws at ≡ record { index = at; what = outside-domain } ∷ items-after ws (at + piece-length (getD ws at 0))
+
+-- what is decoded is of the domain
+abbrev pub DecodedInDomain : Type 0
+DecodedInDomain = (ws : List ℕ) (e : Event) → decode ws ≡ good e → T (fields-ok e) × T (event-ok e)
 
 abbrev pub good-item : ℕ × Event → Item
 good-item p = record { index = p .0; what = good (p .1) }

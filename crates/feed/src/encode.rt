@@ -16,7 +16,7 @@ pub struct EventWords {
 }
 
 // The f32 bits. A NaN has one form.
-fn float_word(x: f32) -> u32
+pub fn float_word(x: f32) -> u32
     ensures { λ r. ⌜ r ≡ float-word x ⌝ }
 {
     if x != x {
