@@ -49,12 +49,12 @@ fn forget_gone_click(
 {
     let click = s.potential_click_id;
     let drag = s.potential_drag_id;
-    let dragged = s.dragged;
+    let still = s.dragged;
     let kept = known_id(set, words, numbers, click);
     Interaction {
         potential_click_id: kept,
         potential_drag_id: drag,
-        dragged,
+        dragged: still,
     }
 }
 

@@ -1,4 +1,4 @@
--- `drag/could_still_be_clicked` meets its contract. Assumes nothing.
+-- `interaction::drag::could_still_be_clicked` meets its contract. Assumes nothing.
 use Rattle.model.specs.Interact.{could-still-be-clicked}
 use borrow.Author.Needs.{needs}
 use Rattle.interaction.proofs.drag.could_still_be_clicked.Statement.{statement}

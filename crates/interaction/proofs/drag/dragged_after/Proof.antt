@@ -1,4 +1,4 @@
--- `drag/dragged_after` meets its contract. Assumes nothing.
+-- `interaction::drag::dragged_after` meets its contract. Assumes nothing.
 use Rattle.model.specs.Pass.{or-else}
 use Prim.Native.Nat.{ℕ}
 use mathlib.Core.Path.{sym, _∙_, ap}

@@ -1,4 +1,4 @@
--- `drag/interaction_after` meets its contract. Assumes nothing.
+-- `interaction::drag::interaction_after` meets its contract. Assumes nothing.
 use Rattle.interaction.specs.View.{interaction-of}
 use Rattle.interaction.specs.Post.{kept-after}
 use borrow.Author.Needs.{needs}

@@ -1,4 +1,4 @@
--- `events/abort_if` meets its contract. Assumes nothing.
+-- `interaction::events::abort_if` meets its contract. Assumes nothing.
 use mathlib.Core.Path.{refl}
 use Rattle.model.specs.Interact.{abort-if}
 use Rattle.id_lists.specs.Ids.{option-of}

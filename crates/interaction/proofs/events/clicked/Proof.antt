@@ -1,4 +1,4 @@
--- `events/clicked` meets its contract. Assumes nothing.
+-- `interaction::events::clicked` meets its contract. Assumes nothing.
 use Rattle.model.specs.Interact.{has-click, pointer-event}
 use Rattle.interaction.specs.View.{going-of}
 use Rattle.interaction.proofs.Looked.{click-id-of}

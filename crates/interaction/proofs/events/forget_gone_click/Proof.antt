@@ -1,4 +1,4 @@
--- `events/forget_gone_click` meets its contract. Assumes nothing.
+-- `interaction::events::forget_gone_click` meets its contract. Assumes nothing.
 use mathlib.Core.Path.{sym, _∙_}
 use Rattle.model.specs.Interact.{forget-gone-click}
 use Rattle.interaction.specs.View.{interaction-of}

@@ -1,4 +1,4 @@
--- `events/going` meets its contract. Assumes nothing.
+-- `interaction::events::going` meets its contract. Assumes nothing.
 use mathlib.Core.Path.{refl}
 use Rattle.model.specs.Interact.{long-touch-if}
 use Rattle.id_lists.specs.Ids.{option-of}

@@ -1,4 +1,4 @@
--- `events/long_touch_if` meets its contract. Assumes nothing.
+-- `interaction::events::long_touch_if` meets its contract. Assumes nothing.
 use mathlib.Core.Option.{none}
 use mathlib.Core.Path.{sym, _∙_, ap}
 use borrow.Author.Tests.{not-true, not-false}

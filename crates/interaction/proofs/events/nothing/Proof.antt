@@ -1,4 +1,4 @@
--- `events/nothing` meets its contract. Assumes nothing.
+-- `interaction::events::nothing` meets its contract. Assumes nothing.
 use mathlib.Core.Path.{refl}
 use Rattle.model.specs.Pass.{no-interaction}
 use Rattle.id_lists.specs.Ids.{option-of}

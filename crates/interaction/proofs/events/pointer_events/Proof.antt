@@ -1,4 +1,4 @@
--- `events/pointer_events` meets its contract. Assumes nothing.
+-- `interaction::events::pointer_events` meets its contract. Assumes nothing.
 use Prim.Native.Nat.{_≤_, _-_, min}
 use mathlib.Core.Path.{_≡_, refl, sym, _∙_}
 use mathlib.Core.List.{List}

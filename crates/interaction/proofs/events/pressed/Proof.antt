@@ -1,4 +1,4 @@
--- `events/pressed` meets its contract. Assumes nothing.
+-- `interaction::events::pressed` meets its contract. Assumes nothing.
 use Rattle.model.specs.Interact.{pointer-event}
 use Rattle.interaction.specs.View.{interaction-of, going-of}
 use borrow.Author.Needs.{needs}

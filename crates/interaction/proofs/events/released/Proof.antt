@@ -1,4 +1,4 @@
--- `events/released` meets its contract. Assumes nothing.
+-- `interaction::events::released` meets its contract. Assumes nothing.
 use Rattle.model.specs.Interact.{has-click, pointer-event}
 use Rattle.interaction.specs.View.{going-of}
 use borrow.Author.Needs.{needs}

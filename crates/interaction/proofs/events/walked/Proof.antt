@@ -1,4 +1,4 @@
--- `events/walked` meets its contract. Assumes nothing.
+-- `interaction::events::walked` meets its contract. Assumes nothing.
 use Rattle.interaction.specs.View.{seen-of}
 use Rattle.interaction.proofs.Walk.{composed}
 use borrow.Author.Needs.{needs}

@@ -1,4 +1,4 @@
--- `interact/outcome` meets its contract. Assumes nothing.
+-- `interaction::interact::outcome` meets its contract. Assumes nothing.
 use mathlib.Core.Path.{refl}
 use Rattle.interaction.proofs.Taken.{answers}
 use borrow.Author.Needs.{needs}

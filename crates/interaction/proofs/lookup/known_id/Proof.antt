@@ -1,4 +1,4 @@
--- `lookup/known_id` meets its contract. Assumes nothing.
+-- `interaction::lookup::known_id` meets its contract. Assumes nothing.
 use Rattle.model.specs.Interact.{get, widget-id}
 use mathlib.Core.Path.{sym, _∙_, ap}
 use Rattle.id_lists.specs.Ids.{option-of}

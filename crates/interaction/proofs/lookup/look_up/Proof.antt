@@ -1,4 +1,4 @@
--- `lookup/look_up` meets its contract. Assumes nothing.
+-- `interaction::lookup::look_up` meets its contract. Assumes nothing.
 use mathlib.Core.Path.{sym, _∙_}
 use native.Mathlib.Omega.{arith}
 use Rattle.interaction.specs.Lookup.{at-entry, lookup, found-of}

@@ -1,4 +1,4 @@
--- `state/if_changed` meets its contract. Assumes nothing.
+-- `interaction::state::if_changed` meets its contract. Assumes nothing.
 use Rattle.model.specs.Interact.{if-changed}
 use Rattle.id_lists.specs.Ids.{option-of}
 use borrow.Author.Needs.{needs}

@@ -1,4 +1,4 @@
--- `state/kept_if` meets its contract. Assumes nothing.
+-- `interaction::state::kept_if` meets its contract. Assumes nothing.
 use Rattle.model.specs.Interact.{kept-if}
 use Rattle.id_lists.specs.Ids.{option-of}
 use borrow.Author.Needs.{needs}

@@ -1,4 +1,4 @@
--- `state/or_else` meets its contract. Assumes nothing.
+-- `interaction::state::or_else` meets its contract. Assumes nothing.
 use Rattle.model.specs.Pass.{or-else}
 use Rattle.id_lists.specs.Ids.{option-of}
 use borrow.Author.Needs.{needs}

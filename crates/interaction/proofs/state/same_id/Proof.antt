@@ -1,4 +1,4 @@
--- `state/same_id` meets its contract. Assumes nothing.
+-- `interaction::state::same_id` meets its contract. Assumes nothing.
 use borrow.Author.Needs.{needs}
 use Rattle.interaction.proofs.state.same_id.Statement.{statement}
 use Rattle.interaction.proofs.state.same_id.Tie as tie
