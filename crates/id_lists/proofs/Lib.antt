@@ -1,0 +1,4 @@
+pub mod Insert
+pub mod Shift
+pub mod Written
+pub mod Walks

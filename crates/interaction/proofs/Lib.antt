@@ -1,0 +1,4 @@
+pub mod Looked
+pub mod Walk
+pub mod Dragged
+pub mod Taken

@@ -1,0 +1,4 @@
+pub mod Types
+pub mod View
+pub mod Lookup
+pub mod Post
