@@ -2,15 +2,13 @@
 use mathlib.Core.Path.{_≡_, refl, sym, _∙_, ap, subst}
 use Prim.Native.Nat.{ℕ, zero, suc, _+_, _-_, _<_, _≤_}
 use native.Mathlib.Omega.{arith}
-use native.Mathlib.Nat.{eq-or-lt-of-le}
-use mathlib.Core.Bool.{Bool, true, false, cond}
-use mathlib.Core.Logic.{_⊎_, ⊎-elim}
-use mathlib.Core.List.{List, [], _∷_, _++_}
-use lib.Dec.{ltb}
+use native.Mathlib.Numerals.{add-one}
+use mathlib.Core.Bool.{false}
+use mathlib.Core.List.{List, [], _∷_, _++_, append-assoc}
 use lib.Ieee.{nan}
-use lib.ListN.{length, take, drop, set, getD, length-set, length-append, length-take, length-drop, drop-of-length-le, List·getD-append}
-use lib.Seq.{set-split, length-take-le, take-suc, drop-cons, getD-take, set-at, append-snoc}
-use borrow.Author.Tests.{lt-ltb, le-ltb, ltb-true, ltb-false}
+use lib.ListN.{length, take, drop, set, getD, length-append, length-drop, take-append-drop, drop-of-length-le}
+use lib.Seq.{set-split, length-take-le, take-suc, drop-cons, set-at, getD-append-add, getD-drop, drop-append-le}
+use borrow.Author.Tests.{lt-ltb, le-ltb}
 use Rattle.emath.specs.declared.rect.Rect.{Rect}
 use Rattle.data.specs.declared.widget.WidgetRect.{WidgetRect}
 use Rattle.model.specs.Widgets.{move-to-end}
@@ -38,75 +36,63 @@ replaces-one i w ys within =
     let short : length (take (suc i) ys) ≤ suc i = omega (arith, length-take-le (suc i) ys within) in
     ap (λ (r : List WidgetRect). take i ys ++ (r ++ (w ∷ drop (suc i) ys))) (drop-of-length-le (take (suc i) ys) {i = suc i} short) ∙ sym (set-split ys i w within)
 
-module _ (to : ℕ) (w : WidgetRect) (ys : List WidgetRect) (within : to ≤ length ys) where
-  -- the record in hand before place a
-  abbrev pub carried : ℕ → WidgetRect
-  carried a = cond (ltb a to) (getD ys a blank) w
+-- the list once the records from `from` up to place a have fallen by one
+abbrev pub shifted : ℕ → ℕ → List WidgetRect → List WidgetRect
+shifted from a ys = take from ys ++ (drop (suc from) (take (suc a) ys) ++ drop a ys)
 
-  -- one place further down
-  further : (a : ℕ) → suc a < to → set (move-to-end (suc a) to w ys) a (getD ys (suc a) blank) ≡ move-to-end a to w ys
-  unfolding move-to-end
-  further a less =
-      ap (λ (r : List WidgetRect). set (r ++ (drop (suc (suc a)) (take to ys) ++ (w ∷ drop to ys))) a (getD ys (suc a) blank)) (take-suc ys a blank (omega arith))
-      ∙ ap (λ (r : List WidgetRect). set r a (getD ys (suc a) blank)) (append-snoc (take a ys) (getD ys a blank) (drop (suc (suc a)) (take to ys) ++ (w ∷ drop to ys)))
-      ∙ set-at (take a ys) (getD ys a blank) (drop (suc (suc a)) (take to ys) ++ (w ∷ drop to ys)) (getD ys (suc a) blank) a (length-take-le a ys (omega arith))
-      ∙ ap (λ (r : List WidgetRect). take a ys ++ (r ++ (w ∷ drop to ys))) (sym front)
+pub starts : (from : ℕ) (ys : List WidgetRect) → from < length ys → shifted from from ys ≡ ys
+starts from ys within =
+    let short : length (take (suc from) ys) ≤ suc from = omega (arith, length-take-le (suc from) ys within) in
+    ap (λ (r : List WidgetRect). take from ys ++ (r ++ drop from ys)) (drop-of-length-le (take (suc from) ys) {i = suc from} short) ∙ take-append-drop from ys
+
+module _ (from a : ℕ) (ys : List WidgetRect) (order : from ≤ a) (within : a < length ys) where
+  abbrev front : List WidgetRect
+  front = take from ys ++ drop (suc from) (take (suc a) ys)
+
+  front-long : length front ≡ a
+  front-long =
+      length-append (take from ys) (drop (suc from) (take (suc a) ys))
+      ∙ sum (length-take-le from ys (omega arith)) (length-drop (suc from) (take (suc a) ys)) (length-take-le (suc a) ys within)
     where
-      front : drop (suc a) (take to ys) ≡ getD ys (suc a) blank ∷ drop (suc (suc a)) (take to ys)
-      front =
-          drop-cons (take to ys) (suc a) blank (omega (arith, length-take-le to ys within)) ∙ ap (λ (x : WidgetRect). x ∷ drop (suc (suc a)) (take to ys)) (getD-take to ys (suc a) blank less)
+      sum : length (take from ys) ≡ from → length (drop (suc from) (take (suc a) ys)) ≡ length (take (suc a) ys) - suc from → length (take (suc a) ys) ≡ suc a
+          → length (take from ys) + length (drop (suc from) (take (suc a) ys)) ≡ a
+      sum e₁ e₂ e₃ = omega arith
 
-  turn : (a : ℕ) → a < to → set (settled (suc a) to w ys) a (carried (suc a)) ≡ settled a to w ys
-  turn a less = go (ltb (suc a) to) refl
+  in-two : shifted from a ys ≡ front ++ drop a ys
+  in-two = sym (append-assoc (take from ys) (drop (suc from) (take (suc a) ys)) (drop a ys))
+
+  -- a store at place a
+  pub puts : (v : WidgetRect) → set (shifted from a ys) a v ≡ take from ys ++ (drop (suc from) (take (suc a) ys) ++ (v ∷ drop (suc a) ys))
+  puts v =
+      ap (λ (r : List WidgetRect). set r a v) (in-two ∙ ap (λ (r : List WidgetRect). front ++ r) (drop-cons ys a blank within))
+      ∙ set-at front (getD ys a blank) (drop (suc a) ys) v a front-long
+      ∙ append-assoc (take from ys) (drop (suc from) (take (suc a) ys)) (v ∷ drop (suc a) ys)
+
+  pub next-is : getD (shifted from a ys) (a + 1) blank ≡ getD ys (a + 1) blank
+  next-is =
+      ap (λ (r : List WidgetRect). getD r (a + 1) blank) in-two
+      ∙ ap (λ (m : ℕ). getD (front ++ drop a ys) (m + 1) blank) (sym front-long)
+      ∙ getD-append-add front (drop a ys) 1 blank ∙ getD-drop a ys 1 blank
+
+  pub falls : suc a < length ys → set (shifted from a ys) a (getD ys (suc a) blank) ≡ shifted from (suc a) ys
+  falls next-within =
+      puts (getD ys (suc a) blank)
+      ∙ sym (ap (λ (r : List WidgetRect). take from ys ++ (r ++ drop (suc a) ys)) one-more ∙ ap (λ (r : List WidgetRect). take from ys ++ r) (append-assoc (drop (suc from) (take (suc a) ys)) (getD ys (suc a) blank ∷ []) (drop (suc a) ys)))
     where
-      go : (b : Bool) → ltb (suc a) to ≡ b → set (settled (suc a) to w ys) a (carried (suc a)) ≡ settled a to w ys
-      go true t = rw (t, settled-is (suc a) to w ys (ltb-true (suc a) to t), settled-is a to w ys less) (further a (ltb-true (suc a) to t))
-      go false t =
-          let last-one : to ≡ suc a = omega (arith, ltb-false (suc a) to t) in
-          rw (t, nothing-settled (suc a) to w ys (ltb-false (suc a) to t), settled-is a to w ys less) (sym (ap (λ (m : ℕ). move-to-end a m w ys) last-one ∙ replaces-one a w ys (omega arith)))
+      one-more : drop (suc from) (take (suc (suc a)) ys) ≡ drop (suc from) (take (suc a) ys) ++ (getD ys (suc a) blank ∷ [])
+      one-more =
+          ap (drop (suc from)) (take-suc ys (suc a) blank next-within)
+          ∙ drop-append-le (suc from) (take (suc a) ys) (getD ys (suc a) blank ∷ []) (omega (arith, length-take-le (suc a) ys within))
 
-  -- a turn of the loop, which counts down first
-  pub falls : (at : ℕ) → 0 < at → at ≤ to → set (settled at to w ys) (at - 1) (carried at) ≡ settled (at - 1) to w ys
-  falls zero h l = absurd (never h)
+  pub length-shifted : length (shifted from a ys) ≡ length ys
+  length-shifted = ap length in-two ∙ length-append front (drop a ys) ∙ sum front-long (length-drop a ys)
     where
-      never : 0 < 0 → ⊥
-      never x = omega arith
-  falls (suc a) h l = let one : suc a - 1 ≡ a = omega arith in rw one (turn a l)
+      sum : length front ≡ a → length (drop a ys) ≡ length ys - a → length front + length (drop a ys) ≡ length ys
+      sum e f = omega arith
 
-  -- the places before stay
-  pub before : (at a : ℕ) → a < at → at ≤ to → getD (settled at to w ys) a blank ≡ getD ys a blank
-  unfolding move-to-end
-  before at a less l = go (ltb at to) refl
-    where
-      go : (b : Bool) → ltb at to ≡ b → getD (settled at to w ys) a blank ≡ getD ys a blank
-      go true t = rw (settled-is at to w ys (ltb-true at to t)) (start (length-take-le at ys (omega arith)))
-        where
-          start : length (take at ys) ≡ at → getD (move-to-end at to w ys) a blank ≡ getD ys a blank
-          start e = List·getD-append (take at ys) (drop (suc at) (take to ys) ++ (w ∷ drop to ys)) blank a (omega arith) ∙ getD-take at ys a blank less
-      go false t = rw (nothing-settled at to w ys (ltb-false at to t))
-
-  pub next-carried : (at : ℕ) → 0 < at → at ≤ to → getD (settled at to w ys) (at - 1) blank ≡ carried (at - 1)
-  next-carried at h l = before at (at - 1) (omega arith) l ∙ sym (rw (lt-ltb (at - 1) to (omega arith)))
-
-  pub length-settled : (at : ℕ) → length (settled at to w ys) ≡ length ys
-  unfolding move-to-end
-  length-settled at = go (ltb at to) refl
-    where
-      sum : length (take at ys) ≡ at → length (drop (suc at) (take to ys)) ≡ length (take to ys) - suc at → length (take to ys) ≡ to → length (drop to ys) ≡ length ys - to → at < to
-          → length (take at ys) + (length (drop (suc at) (take to ys)) + suc (length (drop to ys))) ≡ length ys
-      sum e₁ e₂ e₃ e₄ less = omega arith
-
-      go : (b : Bool) → ltb at to ≡ b → length (settled at to w ys) ≡ length ys
-      go true t =
-          rw (settled-is at to w ys (ltb-true at to t))
-          (length-append (take at ys) (drop (suc at) (take to ys) ++ (w ∷ drop to ys))
-          ∙ ap (λ (m : ℕ). length (take at ys) + m) (length-append (drop (suc at) (take to ys)) (w ∷ drop to ys))
-          ∙ sum (length-take-le at ys (omega (arith, ltb-true at to t))) (length-drop (suc at) (take to ys)) (length-take-le to ys within) (length-drop to ys) (ltb-true at to t))
-      go false t = rw (nothing-settled at to w ys (ltb-false at to t))
-
-  -- the loop's end
-  pub ends : (from at : ℕ) → at ≤ from → (from ≤ at) ⊎ (at ≡ to) → settled at to w ys ≡ settled from to w ys
-  ends from at l = ⊎-elim (λ m. ap (λ (k : ℕ). settled k to w ys) (same l m)) (λ e. nothing-settled at to w ys (omega arith) ∙ sym (nothing-settled from to w ys (omega arith)))
-    where
-      same : at ≤ from → from ≤ at → at ≡ from
-      same x y = omega arith
+-- the record comes last
+pub ends : (from to : ℕ) (w : WidgetRect) (ys : List WidgetRect) → from < to → to ≤ length ys → (a : ℕ) → from ≤ a → a + 1 ≡ to → set (shifted from a ys) a w ≡ settled from to w ys
+unfolding move-to-end
+ends from to w ys less within a order e =
+    puts from a ys order (omega arith) w
+    ∙ ap (λ (m : ℕ). take from ys ++ (drop (suc from) (take m ys) ++ (w ∷ drop m ys))) (sym (add-one a) ∙ e) ∙ sym (settled-is from to w ys less)

@@ -11,12 +11,13 @@ pub fn settle(s: &mut [WidgetRect], from: usize, to: usize, w: WidgetRect)
     requires { ⌜ to ≤ length (now s) ⌝ }
     ensures { λ _. ⌜ now (s .exit) ≡ settled from to w (now (s .entry)) ⌝ }
 {
-    let mut carried = w;
-    let mut at: usize = to;
-    while from < at {
-        at -= 1;
-        let next = s[at];
-        s[at] = carried;
-        carried = next;
+    if to <= from {
+        return;
     }
+    let mut at: usize = from;
+    while at + 1 < to {
+        s[at] = s[at + 1];
+        at += 1;
+    }
+    s[at] = w;
 }
