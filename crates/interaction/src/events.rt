@@ -9,6 +9,7 @@ use hit_lists::MaybeHit;
 use id_lists::MaybeId;
 use id_lists::hit_id;
 use id_lists::is_some;
+use pointer_state::events::CODES;
 use widget_index::table::Numbers;
 use widget_index::table::WidgetRects;
 use widget_index::table::Words;
@@ -206,7 +207,7 @@ fn counted(count: usize) -> usize
 }
 
 fn pointer_events(
-    codes: &[u32; 256],
+    codes: &[u32; CODES],
     count: usize,
     dragging: bool,
     click: MaybeHit,
@@ -232,7 +233,7 @@ fn pointer_events(
 // All that comes before the drag is decided.
 pub fn walked(
     seen: Seen,
-    codes: &[u32; 256],
+    codes: &[u32; CODES],
     count: usize,
     click: MaybeHit,
     drag: MaybeHit,

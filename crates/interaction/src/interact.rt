@@ -17,6 +17,7 @@ use id_lists::MaybeId;
 use id_lists::contains_pointer;
 use id_lists::hovered;
 use id_lists::is_some;
+use pointer_state::events::CODES;
 use widget_index::table::Numbers;
 use widget_index::table::WidgetRects;
 use widget_index::table::Words;
@@ -41,7 +42,7 @@ ghost use Rattle.interaction.specs.Post.{Answers, Answered, Interacts};
 // The snapshot but for the two id sets.
 fn outcome(
     view: Seen,
-    codes: &[u32; 256],
+    codes: &[u32; CODES],
     count: usize,
     set: WidgetRects,
     words: &Words,
@@ -139,7 +140,7 @@ fn answered(
 // No entry and no buffer is refused: 10, or taken.
 fn unless_full(
     view: Seen,
-    codes: &[u32; 256],
+    codes: &[u32; CODES],
     count: usize,
     set: WidgetRects,
     words: &Words,
@@ -184,7 +185,7 @@ fn unless_full(
 // contain the pointer.
 pub fn interact(
     view: Seen,
-    codes: &[u32; 256],
+    codes: &[u32; CODES],
     count: usize,
     set: WidgetRects,
     words: &Words,
