@@ -1,5 +1,6 @@
 pub mod Types
 pub mod Numbers
+pub mod Bits
 pub mod Modifiers
 pub mod Sense
 pub mod Limits

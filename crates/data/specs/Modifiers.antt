@@ -1,7 +1,7 @@
 -- egui's modifiers.rs, as far as it is ported: or, `matches_any`, and 01's five bits.
-use Prim.Native.Nat.{ℕ, _+_, _*_, _/_, _%_}
-use mathlib.Core.Bool.{Bool, true, false, _&&_, _||_, cond}
-use lib.Dec.{eqb}
+use Prim.Native.Nat.{ℕ, _+_, _*_}
+use mathlib.Core.Bool.{Bool, false, _&&_, _||_}
+use Rattle.data.specs.Bits.{bit-number, bit-of}
 use Rattle.data.specs.Types.{Modifiers}
 
 -- `Modifiers::NONE`
@@ -21,13 +21,6 @@ matches-any self pattern =
     || ((self .shift && pattern .shift)
     || ((self .ctrl && pattern .ctrl)
     || ((self .«mac_cmd» && pattern .«mac_cmd») || ((self .«mac_cmd» || (self .command || self .ctrl)) && pattern .command))))
-
--- one bit as a number, and bit k of a number, 2 ^ k given
-abbrev pub bit-number : Bool → ℕ
-bit-number b = cond b 1 0
-
-abbrev pub bit-of : ℕ → ℕ → Bool
-bit-of weight w = eqb (w / weight % 2) 1
 
 -- "Flags (5 bits, from bit 0): alt, ctrl, shift, mac_cmd, command"
 unfoldable pub modifiers-number : Modifiers → ℕ

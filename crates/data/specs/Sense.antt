@@ -2,7 +2,7 @@
 use Prim.Native.Nat.{ℕ, _+_, _*_}
 use mathlib.Core.Bool.{Bool, _||_}
 use lib.Dec.{ltb}
-use Rattle.data.specs.Modifiers.{bit-number, bit-of}
+use Rattle.data.specs.Bits.{bit-number, bit-of}
 
 -- no "sense bit that `sense.rs` doesn't name"
 unfoldable pub sense-ok : ℕ → Bool
@@ -20,8 +20,9 @@ is-focusable s = bit-of 4 s
 
 -- `interactive`: clicks or drags
 unfoldable pub interactive : ℕ → Bool
-interactive s = bit-of 1 s || bit-of 2 s
+interactive s = senses-click s || senses-drag s
 
 -- "the union of sense": `bitor`, of the bits that sense.rs names
 unfoldable pub sense-or : ℕ → ℕ → ℕ
-sense-or s t = bit-number (bit-of 1 s || bit-of 1 t) + 2 * bit-number (bit-of 2 s || bit-of 2 t) + 4 * bit-number (bit-of 4 s || bit-of 4 t)
+sense-or s t =
+    bit-number (senses-click s || senses-click t) + 2 * bit-number (senses-drag s || senses-drag t) + 4 * bit-number (is-focusable s || is-focusable t)

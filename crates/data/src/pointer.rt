@@ -1,6 +1,9 @@
 // egui's data/input/pointer_button.rs, and the pointer's events of input_state/mod.rs.
 use crate::modifiers::Modifiers;
 use emath::pos2::Pos2;
+ghost use mathlib.Core.Path.{_≡_};
+ghost use Prim.Native.Nat.{_≤_};
+ghost use Rattle.data.specs.Numbers.{button-number};
 
 pub enum PointerButton {
     Primary,
@@ -8,6 +11,21 @@ pub enum PointerButton {
     Middle,
     Extra1,
     Extra2,
+}
+
+impl PointerButton {
+    // Its number in the feed.
+    pub fn number(self) -> u32
+        ensures { λ r. ⌜ (r ≡ button-number self) × (r ≤ 4) ⌝ }
+    {
+        match self {
+            PointerButton::Primary => 0,
+            PointerButton::Secondary => 1,
+            PointerButton::Middle => 2,
+            PointerButton::Extra1 => 3,
+            PointerButton::Extra2 => 4,
+        }
+    }
 }
 
 // Which buttons are down.

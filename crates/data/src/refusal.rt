@@ -1,4 +1,6 @@
 // What a refused call answers. Each carries the word or entry index where 01 returns one.
+ghost use mathlib.Core.Path.{_≡_};
+ghost use Rattle.data.specs.Numbers.{pass-refusal-number, insert-refusal-number, interact-refusal-number};
 
 pub enum PassRefusal {
     // 1: unknown kind, field or stray bit, event cut short
@@ -11,6 +13,21 @@ pub enum PassRefusal {
     TooManyEvents(usize),
     // 5: a fifth device, or Start of an eleventh touch
     NoPlace(usize),
+}
+
+impl PassRefusal {
+    // 01's number of it.
+    pub fn number(self) -> u32
+        ensures { λ r. ⌜ r ≡ pass-refusal-number self ⌝ }
+    {
+        match self {
+            PassRefusal::Malformed(_) => 1,
+            PassRefusal::OutsideDomain(_) => 2,
+            PassRefusal::TimeBelow => 3,
+            PassRefusal::TooManyEvents(_) => 4,
+            PassRefusal::NoPlace(_) => 5,
+        }
+    }
 }
 
 pub enum InsertRefusal {
@@ -28,6 +45,22 @@ pub enum InsertRefusal {
     ZeroId,
 }
 
+impl InsertRefusal {
+    // 01's number of it.
+    pub fn number(self) -> u32
+        ensures { λ r. ⌜ r ≡ insert-refusal-number self ⌝ }
+    {
+        match self {
+            InsertRefusal::Malformed => 1,
+            InsertRefusal::OutsideDomain => 2,
+            InsertRefusal::Full => 6,
+            InsertRefusal::OtherLayer => 7,
+            InsertRefusal::ShortSlice => 8,
+            InsertRefusal::ZeroId => 9,
+        }
+    }
+}
+
 pub enum InteractRefusal {
     // 1: a sense bit that sense.rs doesn't name
     Malformed(usize),
@@ -39,4 +72,19 @@ pub enum InteractRefusal {
     ZeroId,
     // 10: this call would start a drag with the tally at its maximum
     TallyFull,
+}
+
+impl InteractRefusal {
+    // 01's number of it.
+    pub fn number(self) -> u32
+        ensures { λ r. ⌜ r ≡ interact-refusal-number self ⌝ }
+    {
+        match self {
+            InteractRefusal::Malformed(_) => 1,
+            InteractRefusal::TooManyHits(_) => 4,
+            InteractRefusal::ShortBuffer => 8,
+            InteractRefusal::ZeroId => 9,
+            InteractRefusal::TallyFull => 10,
+        }
+    }
 }

@@ -1,12 +1,29 @@
 // egui's data/input/touch.rs, and the parts of the state of input_state/touch_state.rs.
 use emath::pos2::Pos2;
 use emath::vec2::Vec2;
+ghost use mathlib.Core.Path.{_≡_};
+ghost use Prim.Native.Nat.{_≤_};
+ghost use Rattle.data.specs.Numbers.{phase-number, pinch-number};
 
 pub enum TouchPhase {
     Start,
     Move,
     End,
     Cancel,
+}
+
+impl TouchPhase {
+    // Its number in the feed.
+    pub fn number(self) -> u32
+        ensures { λ r. ⌜ (r ≡ phase-number self) × (r ≤ 3) ⌝ }
+    {
+        match self {
+            TouchPhase::Start => 0,
+            TouchPhase::Move => 1,
+            TouchPhase::End => 2,
+            TouchPhase::Cancel => 3,
+        }
+    }
 }
 
 // Option<f32>: a touch's force
@@ -26,6 +43,19 @@ pub enum PinchType {
     Horizontal,
     Vertical,
     Proportional,
+}
+
+impl PinchType {
+    // Its place in the enum.
+    pub fn number(self) -> u32
+        ensures { λ r. ⌜ (r ≡ pinch-number self) × (r ≤ 2) ⌝ }
+    {
+        match self {
+            PinchType::Horizontal => 0,
+            PinchType::Vertical => 1,
+            PinchType::Proportional => 2,
+        }
+    }
 }
 
 // The averages of a gesture. `heading` is the average position less that of the first touch: no angle is taken.

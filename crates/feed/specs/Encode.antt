@@ -1,13 +1,14 @@
 -- The words of an event: what `decode` reads.
 use Prim.Native.Nat.{ℕ, _+_, _*_, _/_, _%_}
-use mathlib.Core.Bool.{Bool, true, false, _&&_}
+use mathlib.Core.Bool.{Bool, true}
 use mathlib.Core.List.{List, [], _∷_, _++_}
 use lib.Dec.{ltb}
 use lib.ListN.{take}
 use lib.Ieee.{Float, binary32, toBits}
 use Rattle.data.specs.Limits.{key-count}
 use Rattle.data.specs.Numbers.{button-number, phase-number, unit-number, source-number, kind-number}
-use Rattle.data.specs.Modifiers.{bit-number, modifiers-number}
+use Rattle.data.specs.Bits.{bit-number}
+use Rattle.data.specs.Modifiers.{modifiers-number}
 use Rattle.feed.specs.Types.{Pos2, Vec2, MaybeF32, no-force, some-force, EventWords}
 use Rattle.feed.specs.Types.{Event, Key, ModifiersChanged, PointerMoved, MouseMoved, Button, PointerGone, Zoom, Rotate, Touch, MouseWheel, WindowFocused, Other}
 
@@ -35,7 +36,7 @@ force-words (some-force x) = float-word x ∷ []
 
 -- the low bits of the first word
 unfoldable pub fields : Event → ℕ
-fields (Key place pressed) = place + 256 * bit-number pressed
+fields (Key place pressed) = place % 256 + 256 * bit-number pressed
 fields (ModifiersChanged m) = modifiers-number m
 fields (PointerMoved pos) = 0
 fields (MouseMoved delta) = 0
@@ -66,7 +67,7 @@ words-after Other = []
 unfoldable pub encode : Event → List ℕ
 encode e = (kind-number e * 0x1000_0000 + fields e) ∷ words-after e
 
--- the event's numbers are those that a feed can hold: a place in egui's Key, ids of 64 bits
+-- a Key's place is one of egui's Key; every other field of an event can be said in a feed
 unfoldable pub fields-ok : Event → Bool
 fields-ok (Key place pressed) = ltb place key-count
 fields-ok (ModifiersChanged m) = true
@@ -76,7 +77,7 @@ fields-ok (Button pos b pressed m) = true
 fields-ok PointerGone = true
 fields-ok (Zoom factor) = true
 fields-ok (Rotate radians) = true
-fields-ok (Touch device id phase pos force) = ltb device 0x1_0000_0000_0000_0000 && ltb id 0x1_0000_0000_0000_0000
+fields-ok (Touch device id phase pos force) = true
 fields-ok (MouseWheel unit delta phase source m) = true
 fields-ok (WindowFocused focused) = true
 fields-ok Other = true

@@ -4,3 +4,4 @@ pub mod Shape
 pub mod Decode
 pub mod Encode
 pub mod Feed
+pub mod Laws

@@ -7,7 +7,8 @@ use lib.Dec.{eqb, ltb}
 use lib.ListN.{getD, length}
 use lib.Ieee.{Float, binary32, ofBits}
 use Rattle.data.specs.Limits.{key-count}
-use Rattle.data.specs.Modifiers.{bit-of, modifiers-of}
+use Rattle.data.specs.Bits.{bit-of}
+use Rattle.data.specs.Modifiers.{modifiers-of}
 use Rattle.feed.specs.Types.{Pos2, Vec2, PointerButton, Primary, Secondary, Middle, Extra1, Extra2, MouseWheelUnit, Point, Line, Page}
 use Rattle.feed.specs.Types.{MouseWheelSource, Unknown, Wheel, Trackpad, Momentum, TouchPhase, Start, Move, End, Cancel, MaybeF32, no-force, some-force}
 use Rattle.feed.specs.Types.{Event, Key, ModifiersChanged, PointerMoved, MouseMoved, Button, PointerGone, Zoom, Rotate, Touch, MouseWheel, WindowFocused, Other}
@@ -60,10 +61,24 @@ key-shape low = clean 512 low (field-below key-count (low % 256) (some-event (Ke
 unfoldable pub modifiers-shape : ℕ → MaybeEvent
 modifiers-shape low = clean 32 low (some-event (ModifiersChanged (modifiers-of low)))
 
+-- 3 pointer moved, 4 relative motion: no low bits
+unfoldable pub moved-shape : ℕ → ℕ → ℕ → MaybeEvent
+moved-shape low x y = clean 1 low (some-event (PointerMoved (pos-of x y)))
+
+unfoldable pub motion-shape : ℕ → ℕ → ℕ → MaybeEvent
+motion-shape low x y = clean 1 low (some-event (MouseMoved (vec-of x y)))
+
 -- 5 button: flags, bits 5–7 button, 8 pressed
 unfoldable pub button-shape : ℕ → ℕ → ℕ → MaybeEvent
 button-shape low x y =
     clean 512 low (field-below 5 (low / 32 % 8) (some-event (Button (pos-of x y) (button-of (low / 32 % 8)) (bit-of 256 low) (modifiers-of low))))
+
+-- 7 zoom, 8 rotate: no low bits
+unfoldable pub zoom-shape : ℕ → ℕ → MaybeEvent
+zoom-shape low x = clean 1 low (some-event (Zoom (float-of x)))
+
+unfoldable pub rotate-shape : ℕ → ℕ → MaybeEvent
+rotate-shape low x = clean 1 low (some-event (Rotate (float-of x)))
 
 -- 9 touch: bits 0–1 phase, 2 force present
 unfoldable pub touch-shape : ℕ → List ℕ → MaybeEvent
@@ -94,12 +109,12 @@ shape-by-kind k low ws =
     cond (eqb k 0) no-event
     (cond (eqb k 1) (key-shape low)
     (cond (eqb k 2) (modifiers-shape low)
-    (cond (eqb k 3) (clean 1 low (some-event (PointerMoved (pos-of (getD ws 0 0) (getD ws 1 0)))))
-    (cond (eqb k 4) (clean 1 low (some-event (MouseMoved (vec-of (getD ws 0 0) (getD ws 1 0)))))
+    (cond (eqb k 3) (moved-shape low (getD ws 0 0) (getD ws 1 0))
+    (cond (eqb k 4) (motion-shape low (getD ws 0 0) (getD ws 1 0))
     (cond (eqb k 5) (button-shape low (getD ws 0 0) (getD ws 1 0))
     (cond (eqb k 6) (clean 1 low (some-event PointerGone))
-    (cond (eqb k 7) (clean 1 low (some-event (Zoom (float-of (getD ws 0 0)))))
-    (cond (eqb k 8) (clean 1 low (some-event (Rotate (float-of (getD ws 0 0)))))
+    (cond (eqb k 7) (zoom-shape low (getD ws 0 0))
+    (cond (eqb k 8) (rotate-shape low (getD ws 0 0))
     (cond (eqb k 9) (touch-shape low ws)
     (cond (eqb k 10) (wheel-shape low (getD ws 0 0) (getD ws 1 0))
     (cond (eqb k 11) (focus-shape low)

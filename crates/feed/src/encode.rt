@@ -1,7 +1,135 @@
 // The words of an event.
+use data::bits::bit_number;
+use data::event::Event;
+use data::touch::MaybeF32;
+use data::touch::TouchPhase;
+use emath::pos2::Pos2;
+ghost use mathlib.Core.Path.{_≡_};
+ghost use mathlib.Core.List.{[], _∷_};
+ghost use Rattle.feed.specs.Types.{Touch};
+ghost use Rattle.feed.specs.Encode.{float-word, words-of, encode};
 
 // The first `count` of `words`.
 pub struct EventWords {
     pub words: [u32; 8],
     pub count: usize,
+}
+
+// The f32 bits. A NaN has one form.
+pub fn float_word(x: f32) -> u32
+    ensures { λ r. ⌜ r ≡ float-word x ⌝ }
+{
+    if x != x {
+        return 0x7fc0_0000;
+    }
+    f32::to_bits(x)
+}
+
+fn one(head: u32) -> EventWords
+    ensures { λ r. ⌜ words-of r ≡ head ∷ [] ⌝ }
+{
+    EventWords {
+        words: [head, 0, 0, 0, 0, 0, 0, 0],
+        count: 1,
+    }
+}
+
+fn two(head: u32, a: u32) -> EventWords
+    ensures { λ r. ⌜ words-of r ≡ head ∷ a ∷ [] ⌝ }
+{
+    EventWords {
+        words: [head, a, 0, 0, 0, 0, 0, 0],
+        count: 2,
+    }
+}
+
+fn three(head: u32, a: u32, b: u32) -> EventWords
+    ensures { λ r. ⌜ words-of r ≡ head ∷ a ∷ b ∷ [] ⌝ }
+{
+    EventWords {
+        words: [head, a, b, 0, 0, 0, 0, 0],
+        count: 3,
+    }
+}
+
+fn touch_words(device: u64, id: u64, phase: TouchPhase, pos: Pos2, force: MaybeF32) -> EventWords
+    ensures { λ r. ⌜ words-of r ≡ encode (Touch device id phase pos force) ⌝ }
+{
+    let a = (device % 0x1_0000_0000) as u32;
+    let b = (device / 0x1_0000_0000) as u32;
+    let c = (id % 0x1_0000_0000) as u32;
+    let d = (id / 0x1_0000_0000) as u32;
+    let p = phase.number();
+    let x = float_word(pos.x);
+    let y = float_word(pos.y);
+    match force {
+        MaybeF32::None => EventWords {
+            words: [0x9000_0000 + (p + 0), a, b, c, d, x, y, 0],
+            count: 7,
+        },
+        MaybeF32::Some(f) => {
+            let z = float_word(f);
+            EventWords {
+                words: [0x9000_0000 + (p + 4), a, b, c, d, x, y, z],
+                count: 8,
+            }
+        }
+    }
+}
+
+pub fn encode(e: Event) -> EventWords
+    ensures { λ r. ⌜ words-of r ≡ encode e ⌝ }
+{
+    match e {
+        Event::Key(place, pressed) => {
+            let p = bit_number(pressed);
+            one(0x1000_0000 + (place % 256 + 256 * p))
+        }
+        Event::ModifiersChanged(modifiers) => {
+            let m = modifiers.number();
+            one(0x2000_0000 + m)
+        }
+        Event::PointerMoved(pos) => {
+            let x = float_word(pos.x);
+            let y = float_word(pos.y);
+            three(0x3000_0000, x, y)
+        }
+        Event::MouseMoved(delta) => {
+            let x = float_word(delta.x);
+            let y = float_word(delta.y);
+            three(0x4000_0000, x, y)
+        }
+        Event::PointerButton(pos, button, pressed, modifiers) => {
+            let m = modifiers.number();
+            let b = button.number();
+            let p = bit_number(pressed);
+            let x = float_word(pos.x);
+            let y = float_word(pos.y);
+            three(0x5000_0000 + (m + 32 * b + 256 * p), x, y)
+        }
+        Event::PointerGone => one(0x6000_0000),
+        Event::Zoom(factor) => {
+            let x = float_word(factor);
+            two(0x7000_0000, x)
+        }
+        Event::Rotate(radians) => {
+            let x = float_word(radians);
+            two(0x8000_0000, x)
+        }
+        Event::Touch(device, id, phase, pos, force) => touch_words(device, id, phase, pos, force),
+        Event::MouseWheel(unit, delta, phase, source, modifiers) => {
+            let m = modifiers.number();
+            let u = unit.number();
+            let p = phase.number();
+            let s = source.number();
+            let x = float_word(delta.x);
+            let y = float_word(delta.y);
+            three(0xa000_0000 + (m + 32 * u + 128 * p + 512 * s), x, y)
+        }
+        Event::WindowFocused(focused) => {
+            let f = bit_number(focused);
+            one(0xb000_0000 + f)
+        }
+        Event::Other => one(0xc000_0000),
+    }
 }

@@ -1,8 +1,180 @@
 // The event that an event's words say, or none: kind, fields and stray bits, whatever the floats are.
+// `low` is the first word's low 28 bits.
+use crate::fields::button_of;
+use crate::fields::float_of;
+use crate::fields::id_of;
+use crate::fields::phase_of;
+use crate::fields::pos_of;
+use crate::fields::source_of;
+use crate::fields::unit_of;
+use crate::fields::vec_of;
 use data::event::Event;
+use data::limits::KEY_COUNT;
+use data::modifiers::Modifiers;
+use data::touch::MaybeF32;
+ghost use mathlib.Core.Path.{_≡_};
+ghost use Prim.Native.Nat.{suc, _+_, _/_, _%_, _<_};
+ghost use lib.ListN.{getD, length, drop};
+ghost use Rattle.feed.specs.Types.{some-event};
+ghost use Rattle.feed.specs.Split.{kind, low-bits, following};
+ghost use Rattle.feed.specs.Shape.{clean, key-shape, modifiers-shape, moved-shape, motion-shape, button-shape, zoom-shape, rotate-shape, touch-shape, wheel-shape, focus-shape, shape-by-kind};
 
 // Option<Event>
 pub enum MaybeEvent {
     None,
     Some(Event),
+}
+
+// An event with no field: no bit is set.
+fn bare(low: u32, e: Event) -> MaybeEvent
+    ensures { λ r. ⌜ r ≡ clean 1 low (some-event e) ⌝ }
+{
+    if low < 1 {
+        return MaybeEvent::Some(e);
+    }
+    MaybeEvent::None
+}
+
+fn key_shape(low: u32) -> MaybeEvent
+    ensures { λ r. ⌜ r ≡ key-shape low ⌝ }
+{
+    if low < 512 {
+        if low % 256 < KEY_COUNT {
+            return MaybeEvent::Some(Event::Key(low % 256, low / 256 % 2 == 1));
+        }
+        return MaybeEvent::None;
+    }
+    MaybeEvent::None
+}
+
+fn modifiers_shape(low: u32) -> MaybeEvent
+    ensures { λ r. ⌜ r ≡ modifiers-shape low ⌝ }
+{
+    if low < 32 {
+        let modifiers = Modifiers::of(low);
+        return MaybeEvent::Some(Event::ModifiersChanged(modifiers));
+    }
+    MaybeEvent::None
+}
+
+fn moved_shape(low: u32, x: u32, y: u32) -> MaybeEvent
+    ensures { λ r. ⌜ r ≡ moved-shape low x y ⌝ }
+{
+    let pos = pos_of(x, y);
+    bare(low, Event::PointerMoved(pos))
+}
+
+fn motion_shape(low: u32, x: u32, y: u32) -> MaybeEvent
+    ensures { λ r. ⌜ r ≡ motion-shape low x y ⌝ }
+{
+    let delta = vec_of(x, y);
+    bare(low, Event::MouseMoved(delta))
+}
+
+fn button_shape(low: u32, x: u32, y: u32) -> MaybeEvent
+    ensures { λ r. ⌜ r ≡ button-shape low x y ⌝ }
+{
+    let number = low / 32 % 8;
+    if low < 512 {
+        if number < 5 {
+            let pos = pos_of(x, y);
+            let button = button_of(number);
+            let modifiers = Modifiers::of(low);
+            return MaybeEvent::Some(Event::PointerButton(
+                pos,
+                button,
+                low / 256 % 2 == 1,
+                modifiers,
+            ));
+        }
+        return MaybeEvent::None;
+    }
+    MaybeEvent::None
+}
+
+fn zoom_shape(low: u32, x: u32) -> MaybeEvent
+    ensures { λ r. ⌜ r ≡ zoom-shape low x ⌝ }
+{
+    let factor = float_of(x);
+    bare(low, Event::Zoom(factor))
+}
+
+fn rotate_shape(low: u32, x: u32) -> MaybeEvent
+    ensures { λ r. ⌜ r ≡ rotate-shape low x ⌝ }
+{
+    let radians = float_of(x);
+    bare(low, Event::Rotate(radians))
+}
+
+// The words after the first are those after `at`; there is one more with force.
+fn touch_shape(feed: &[u32], at: usize, low: u32) -> MaybeEvent
+    requires { ⌜ at + 6 + low / 4 % 2 < length (now feed) ⌝ }
+    ensures { λ r. ⌜ r ≡ touch-shape low (drop (suc at) (now (feed .entry))) ⌝ }
+{
+    if low < 8 {
+        let device = id_of(feed[at + 1], feed[at + 2]);
+        let id = id_of(feed[at + 3], feed[at + 4]);
+        let phase = phase_of(low % 4);
+        let pos = pos_of(feed[at + 5], feed[at + 6]);
+        if low / 4 % 2 == 1 {
+            let force = float_of(feed[at + 7]);
+            return MaybeEvent::Some(Event::Touch(device, id, phase, pos, MaybeF32::Some(force)));
+        }
+        return MaybeEvent::Some(Event::Touch(device, id, phase, pos, MaybeF32::None));
+    }
+    MaybeEvent::None
+}
+
+fn wheel_shape(low: u32, x: u32, y: u32) -> MaybeEvent
+    ensures { λ r. ⌜ r ≡ wheel-shape low x y ⌝ }
+{
+    let number = low / 32 % 4;
+    if low < 2048 {
+        if number < 3 {
+            let unit = unit_of(number);
+            let delta = vec_of(x, y);
+            let phase = phase_of(low / 128 % 4);
+            let source = source_of(low / 512 % 4);
+            let modifiers = Modifiers::of(low);
+            return MaybeEvent::Some(Event::MouseWheel(unit, delta, phase, source, modifiers));
+        }
+        return MaybeEvent::None;
+    }
+    MaybeEvent::None
+}
+
+fn focus_shape(low: u32) -> MaybeEvent
+    ensures { λ r. ⌜ r ≡ focus-shape low ⌝ }
+{
+    if low < 2 {
+        return MaybeEvent::Some(Event::WindowFocused(low / 1 % 2 == 1));
+    }
+    MaybeEvent::None
+}
+
+// The event at `at`, whose words are all there.
+pub fn shape_at(feed: &[u32], at: usize) -> MaybeEvent
+    requires { ⌜ at + following (getD (now feed) at 0) < length (now feed) ⌝ }
+    ensures { λ r. ⌜ r ≡ shape-by-kind (kind (getD (now (feed .entry)) at 0)) (low-bits (getD (now (feed .entry)) at 0)) (drop (suc at) (now (feed .entry))) ⌝ }
+{
+    let head = feed[at];
+    let low = head % 0x1000_0000;
+    match head / 0x1000_0000 {
+        0 => MaybeEvent::None,
+        1 => key_shape(low),
+        2 => modifiers_shape(low),
+        3 => moved_shape(low, feed[at + 1], feed[at + 2]),
+        4 => motion_shape(low, feed[at + 1], feed[at + 2]),
+        5 => button_shape(low, feed[at + 1], feed[at + 2]),
+        6 => bare(low, Event::PointerGone),
+        7 => zoom_shape(low, feed[at + 1]),
+        8 => rotate_shape(low, feed[at + 1]),
+        9 => touch_shape(feed, at, low),
+        10 => wheel_shape(low, feed[at + 1], feed[at + 2]),
+        11 => focus_shape(low),
+        12 => bare(low, Event::Other),
+        13..=15 => MaybeEvent::None,
+        // four bits: there is no more
+        _ => MaybeEvent::None,
+    }
 }

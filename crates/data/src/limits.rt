@@ -1,0 +1,37 @@
+// 01's limits. specs/Limits.antt has the same under the same names.
+
+pub const MAX_EVENTS: usize = 64;
+
+pub const MAX_DEVICES: usize = 4;
+
+pub const MAX_TOUCHES: usize = 10;
+
+pub const MAX_WIDGETS: usize = 1024;
+
+pub const MAX_LAYERS: usize = 32;
+
+pub const MAX_HITS: usize = 64;
+
+pub const ID_PLACES: usize = 66;
+
+pub const KEY_COUNT: u32 = 145;
+
+pub const MAX_ORDER: u32 = 4;
+
+pub const MAX_TALLY: u32 = 4294967295;
+
+pub const MAX_COORDINATE: f32 = 65536.0;
+
+pub const MIN_COORDINATE: f32 = -65536.0;
+
+pub const MAX_ZOOM: f32 = 1024.0;
+
+pub const MAX_RADIANS: f32 = 64.0;
+
+pub const MIN_RADIANS: f32 = -64.0;
+
+pub const MAX_SCALE: f32 = 1024.0;
+
+pub const MAX_TIME: f64 = 4294967296.0;
+
+pub const MAX_DURATION: f64 = 3600.0;

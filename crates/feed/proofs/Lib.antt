@@ -1,0 +1,8 @@
+pub mod Nan
+pub mod Lengths
+pub mod Words
+pub mod Reading
+pub mod RoundTrip
+pub mod Laws
+pub mod Examples
+pub mod Steps

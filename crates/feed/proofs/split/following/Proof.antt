@@ -1,0 +1,35 @@
+-- `feed::split::following` meets its contract. Assumes nothing.
+use native.Mathlib.Omega.{arith}
+use Rattle.feed.specs.Split.{kind, following}
+use Rattle.feed.proofs.Lengths.{length-le}
+use borrow.Author.Tests.{ne-eqb}
+use borrow.Author.Needs.{needs}
+use Rattle.feed.proofs.split.following.Statement.{statement}
+use Rattle.feed.proofs.split.following.Tie as tie
+
+cast-kind : tie.Need-cast-kind
+cast-kind c = search needs
+
+mul-n : tie.Need-mul-n
+mul-n c = search needs
+
+array-read-n : tie.Need-array-read-n
+array-read-n c = search needs
+
+cast-result : tie.Need-cast-result
+cast-result c = search needs
+
+add-result : tie.Need-add-result
+add-result c = omega (arith, length-le (kind (c .before .args .head)))
+
+returns : tie.Need-returns
+unfolding following
+returns c = rw (c .if1 .taken)
+
+returns-2 : tie.Need-returns-2
+unfolding following
+returns-2 c = rw (ne-eqb _ _ (c .if1 .left)) (omega arith)
+
+pub following-spec : {M : Type 1} → statement M
+following-spec =
+    tie.close (tie.spec cast-kind mul-n array-read-n cast-result add-result returns returns-2)
