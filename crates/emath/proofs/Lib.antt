@@ -1,1 +1,2 @@
 pub mod Abs
+pub mod Samples

@@ -7,7 +7,7 @@ use lib.ListN.{length, drop}
 use lib.Ieee.{Float, binary32, binary64, sub, lt, ofBits}
 use Rattle.ieee.specs.Narrow.{narrow}
 use Rattle.emath.specs.Types.{Pos2, MaybeVec2, no-vec, some-vec}
-use Rattle.emath.specs.Vec.{zero, pos-sub, vec-div}
+use Rattle.emath.specs.Vec.{+0, pos-sub, vec-div}
 
 pub record Sample : Type 0 where
   pub time : Float
@@ -43,7 +43,7 @@ last s (t ∷ h) = last t h
 
 -- "Duration is last time - first time, narrowed, or 0 if empty"
 unfoldable pub duration : List Sample → Float
-duration [] = zero
+duration [] = +0
 duration (s ∷ h) = narrow binary32 (sub binary64 (last s h .time) (s .time))
 
 -- "Velocity is the position difference divided by that duration, or none if it is not above 0"
@@ -51,4 +51,4 @@ unfoldable pub velocity : List Sample → MaybeVec2
 velocity [] = no-vec
 velocity (s ∷ h) =
     let d = duration (s ∷ h) in
-    cond (lt zero d) (some-vec (vec-div (pos-sub (last s h .pos) (s .pos)) d)) no-vec
+    cond (lt +0 d) (some-vec (vec-div (pos-sub (last s h .pos) (s .pos)) d)) no-vec

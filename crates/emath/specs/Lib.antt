@@ -1,3 +1,4 @@
 pub mod Types
 pub mod Vec
 pub mod History
+pub mod Ring

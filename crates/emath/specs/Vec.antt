@@ -5,16 +5,16 @@ use lib.Ieee.{Float, nan, inf, fin, binary32, add, sub, mul, div, lt, ne}
 use Rattle.ieee.specs.Sqrt.{sqrt}
 use Rattle.emath.specs.Types.{Pos2, Vec2, Rect}
 
-abbrev pub zero : Float
-zero = fin false 0 (pos 0)
+abbrev pub +0 : Float
++0 = fin false 0 (pos 0)
 
 -- `Vec2::ZERO`
 unfoldable pub vec-zero : Vec2
-vec-zero = record { x = zero; y = zero }
+vec-zero = record { x = +0; y = +0 }
 
 -- `Pos2::ZERO`
 unfoldable pub pos-zero : Pos2
-pos-zero = record { x = zero; y = zero }
+pos-zero = record { x = +0; y = +0 }
 
 -- v + w
 unfoldable pub vec-add : Vec2 → Vec2 → Vec2
@@ -54,7 +54,7 @@ distance-sq p q = length-sq (pos-sub p q)
 
 -- "Normalized divides both parts by the length, or returns the vector if the length is not above 0"
 unfoldable pub normalized : Vec2 → Vec2
-normalized v = cond (lt zero (length v)) (vec-div v (length v)) v
+normalized v = cond (lt +0 (length v)) (vec-div v (length v)) v
 
 -- "Height is the bottom edge less the top edge"
 unfoldable pub height : Rect → Float

@@ -1,0 +1,75 @@
+// The words and floats of a record. A NaN of either side stands for any other.
+use emath::pos2::Pos2;
+use emath::vec2::Vec2;
+ghost use Prim.Native.Nat.{_<_};
+
+fn low(x: u8) -> u32
+    ensures { λ r. ⌜ r < 256 ⌝ }
+{
+    x as u32
+}
+
+pub fn word(b: &[u8; 64], i: usize) -> u32
+    requires { ⌜ i < 16 ⌝ }
+{
+    let j = i * 4;
+    low(b[j]) + low(b[j + 1]) * 0x100 + low(b[j + 2]) * 0x1_0000 + low(b[j + 3]) * 0x100_0000
+}
+
+pub fn f32_at(b: &[u8; 64], i: usize) -> f32
+    requires { ⌜ i < 16 ⌝ }
+{
+    let w = word(b, i);
+    if w % 0x8000_0000 > 0x7f80_0000 {
+        return 0.0 / 0.0;
+    }
+    f32::from_bits(w)
+}
+
+// Two words, the low one first.
+pub fn f64_at(b: &[u8; 64], i: usize) -> f64
+    requires { ⌜ i < 15 ⌝ }
+{
+    let w = word(b, i) as u64 + word(b, i + 1) as u64 * 0x1_0000_0000;
+    if w % 0x8000_0000_0000_0000 > 0x7ff0_0000_0000_0000 {
+        return 0.0 / 0.0;
+    }
+    f64::from_bits(w)
+}
+
+pub fn vec_at(b: &[u8; 64], i: usize) -> Vec2
+    requires { ⌜ i < 15 ⌝ }
+{
+    Vec2 {
+        x: f32_at(b, i),
+        y: f32_at(b, i + 1),
+    }
+}
+
+pub fn pos_at(b: &[u8; 64], i: usize) -> Pos2
+    requires { ⌜ i < 15 ⌝ }
+{
+    Pos2 {
+        x: f32_at(b, i),
+        y: f32_at(b, i + 1),
+    }
+}
+
+// Bit for bit, but that one NaN is like another.
+pub fn same(x: f32, y: f32) -> bool {
+    if x != x {
+        return y != y;
+    }
+    if y != y {
+        return false;
+    }
+    f32::to_bits(x) == f32::to_bits(y)
+}
+
+pub fn same_vec(v: Vec2, w: Vec2) -> bool {
+    if same(v.x, w.x) {
+        same(v.y, w.y)
+    } else {
+        false
+    }
+}
