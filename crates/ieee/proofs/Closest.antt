@@ -1,7 +1,8 @@
 -- A fraction over a power of two to the nearest whole number, by a sum and a shift. Assumes nothing.
 use mathlib.Core.Path.{_≡_, refl, sym, ap, _∙_, subst}
 use Prim.Native.Nat.{ℕ, zero, suc, _+_, _-_, _*_, _/_, _%_, _^_, _≤_, _<_, compare, Ordering, Ordering·lt, Ordering·eq, Ordering·gt}
-use native.Mathlib.Nat.{mod-lt, div-add-mod', suc-mul, add-zero}
+use native.Mathlib.Nat.{mod-lt, div-add-mod', suc-mul, add-zero, add-mul, one-mul}
+use mathlib.Core.Logic.{_⊎_, inl, inr}
 use native.Mathlib.Omega.{arith}
 use mathlib.Core.Bool.{not}
 use lib.Dec.{T, isLe, isEq, eqb, leb→le, nleb→lt, eqb→eq, eqb-refl}
@@ -86,3 +87,25 @@ closest-le a b = nearest-le (a / b) (compare (a % b * 2) b)
 
 pub closest-ge : (a b : ℕ) → a / b ≤ closest a b
 closest-ge a b = nearest-ge (a / b) (compare (a % b * 2) b)
+
+-- ---- `closest` is at most a half off, and even where it is a half off
+pub record Within (n u q : ℕ) : Type 0 where
+  pub low : 2 * (q * u) ≤ 2 * n + u
+  pub high : 2 * n ≤ 2 * (q * u) + u
+  pub even : (2 * (q * u) ≡ 2 * n + u) ⊎ (2 * n ≡ 2 * (q * u) + u) → q % 2 ≡ 0
+
+within : (n a u r : ℕ) (o : Ordering) → n ≡ a * u + r → r < u → Cmp o (r * 2) u → Within n u (nearest a o)
+within n a u r Ordering·lt e R c =
+    record { low = omega arith; high = omega arith; even = λ t. elim t [ inl x ↦ absurd (omega arith) | inr x ↦ absurd (omega arith) ] }
+within n a u r Ordering·gt e R c =
+    let w : suc a * u ≡ a * u + u = suc-mul a u in
+    record { low = omega arith; high = omega arith; even = λ t. elim t [ inl x ↦ absurd (omega arith) | inr x ↦ absurd (omega arith) ] }
+within n a u r Ordering·eq e R c = go (a % 2) (omega arith) refl
+  where
+    go : (t : ℕ) → t < 2 → a % 2 ≡ t → Within n u (a + t)
+    go zero h g = let w : (a + 0) * u ≡ a * u = ap (λ (x : ℕ). x * u) (add-zero a) in record { low = omega arith; high = omega arith; even = λ t. omega arith }
+    go (suc zero) h g = let w : (a + 1) * u ≡ a * u + u = add-mul a 1 u ∙ ap (λ (x : ℕ). a * u + x) (one-mul u) in record { low = omega arith; high = omega arith; even = λ t. omega arith }
+    go (suc (suc t)) h g = absurd (omega arith)
+
+pub closest-within : (n u : ℕ) → 0 < u → Within n u (closest n u)
+closest-within n u U = within n (n / u) u (n % u) (compare (n % u * 2) u) (sym (div-add-mod' n u)) (mod-lt n U) (cmp (n % u * 2) u)

@@ -58,8 +58,8 @@ pub turn-one : (r m v : ℕ) → r * 4 + 1 ≤ m * 4 + v → (2 * r + 1) * (2 * 
 turn-one r m v h = omega arith
 
 -- what is left of d when its two leading digits of 64 are taken
-pub taken : (s d u : ℕ) → s * 2 ^ 64 + d ≡ u → (s * 4 + d / 2 ^ 62) * 2 ^ 64 + d % 2 ^ 62 * 4 ≡ u * 4
-taken s d u e = omega arith
+pub next-digits : (s d u : ℕ) → s * 2 ^ 64 + d ≡ u → (s * 4 + d / 2 ^ 62) * 2 ^ 64 + d % 2 ^ 62 * 4 ≡ u * 4
+next-digits s d u e = omega arith
 
 -- the remainder is what makes the root's square the number
 pub root-rem : (r m : ℕ) → m ≤ 2 * r → IsRoot r (r * r + m)

@@ -3,12 +3,18 @@ mod Packed
 mod Closest
 mod Decode
 mod Narrowing
-mod Isqrt
+pub mod Isqrt
 mod Rooting
 mod Radicands
 mod Special
+mod Units
+mod RoundOrder
+mod RootOrder
+mod Kept
+mod Overflow
+pub mod NearestNarrow
 pub mod NearestRoot
-pub mod Differences
 pub mod Order
+pub mod Exact
 pub mod Monotone
-pub mod NarrowOrder
+pub mod Differences

@@ -3,21 +3,24 @@
 use mathlib.Core.Path.{_≡_, refl, sym, ap, _∙_, subst}
 use mathlib.Core.Logic.{_⊎_, inl, inr}
 use Prim.Native.Nat.{ℕ, zero, suc, _+_, _-_, _*_, _/_, _%_, _^_, _≤_, _<_}
-use native.Mathlib.Nat.{le-trans, le-of-eq, le-of-lt, le-refl, lt-of-lt-of-le, lt-of-le-of-lt, lt-of-not-le, not-le-of-lt, le-of-suc-le-suc, eq-zero-or-pos, mul-one, one-mul, zero-mul, mul-assoc, mul-comm, mul-right-comm, mul-mul-mul-comm, add-mul, mul-le-mul, mul-le-mul-right, mul-lt-mul-of-pos-right, lt-of-mul-lt-mul-right, mul-pos, pow-succ'}
+use native.Mathlib.Nat.{zero-mul, mul-one, add-zero, zero-lt-suc, le-trans, le-of-eq, le-of-lt, le-refl, lt-of-lt-of-le, lt-of-le-of-lt, lt-of-not-le, not-le-of-lt, eq-zero-or-pos, mul-assoc, mul-comm, mul-right-comm, mul-mul-mul-comm, add-mul, mul-le-mul, mul-le-mul-right, mul-lt-mul-of-pos-right, lt-of-mul-lt-mul-right, mul-pos, pow-succ'}
 use native.Mathlib.Omega.{arith}
-use mathlib.Core.Bool.{Bool, true, false, not, _&&_}
-use lib.IntN.{ℤ, pos, negsuc}
-use lib.Dec.{T, leb, ltb, eqb, leb→le, nleb→lt, ltb→lt, lit≤}
+use mathlib.Core.Bool.{Bool, true, false, not}
+use lib.IntN.{ℤ, pos}
+use lib.Dec.{T, lt→ltb, ltb→lt, lit≤}
 use lib.Arith.{lt-of-le-ne}
-use lib.Pow.{pow-add, pow-pos, pow-mono, shl-lt}
+use lib.Pow.{pow-add, pow-pos, shl-lt}
 use lib.Ieee.{Float, nan, inf, fin, Format, binary32, binary64, prec, emax, low, up, down, size, units, fits, lt, hid, ones}
 use lib.Ieee.Digits.{size-lt, size-reaches, size-le}
-use lib.Ieee.Fits.{two, and-l, and-r}
+use lib.Ieee.Fits.{two, up-pos, down-pos}
 use lib.Ieee.Exact.{HasValue, units-val}
-use lib.Ieee.Positive.{num, den, den-pos, positive, value→cross, value-pos, first-pos}
+use lib.Ieee.Scale.{finite}
+use lib.Ieee.Positive.{positive-finite, num, den, den-pos, positive, value→cross, value-pos, first-pos, positive-of-value}
 use Rattle.ieee.specs.Sqrt.{isqrt, rooted, sqrt}
-use Rattle.ieee.specs.Nearest.{plain, sq, NearestRoot}
-use Rattle.ieee.proofs.Packed.{pow-le-back, pow-lt-back, twice-hid, reaches}
+use Rattle.ieee.specs.Nearest.{sq, total, NearestRoot}
+use Rattle.ieee.proofs.Packed.{pow-lt-back, twice-hid, reaches}
+use Rattle.ieee.proofs.Units.{Units, in-units, grid}
+use Rattle.ieee.proofs.Exact.{sqrt-fits}
 use Rattle.ieee.proofs.Isqrt.{IsRoot, isqrt-is}
 use Rattle.ieee.proofs.Rooting.{rooted-units, as-even, as-scaled, root-low, root-high, odd-inexact, far, four-hid, half-le, half-ge, big}
 use Rattle.ieee.proofs.Radicands.{sqrt-of-value}
@@ -64,22 +67,6 @@ above-root n t G D P h l =
 
     times4 : (a b : ℕ) → a < b → 4 * a < 4 * b
     times4 a b h = omega arith
-
--- ---- Y = c * 2 ^ j is a multiple of 2 * G = 2 ^ (g + 1), or it is below 2 ^ p * G
-grid : (p g c j : ℕ) → c < 2 ^ p → ((y : ℕ) × (c * 2 ^ j ≡ y * (2 * 2 ^ g))) ⊎ (c * 2 ^ j < 2 ^ p * 2 ^ g)
-grid p g c j C = go (leb (suc g) j) (leb→le (suc g) j) (λ n. le-of-suc-le-suc (nleb→lt (suc g) j n))
-  where
-    go : (b : Bool) → (T b → suc g ≤ j) → (T (not b) → j ≤ g) → ((y : ℕ) × (c * 2 ^ j ≡ y * (2 * 2 ^ g))) ⊎ (c * 2 ^ j < 2 ^ p * 2 ^ g)
-    go true a b =
-        inl (
-          c * 2 ^ (j - suc g),
-          ap (λ (x : ℕ). c * x) (ap (λ (x : ℕ). 2 ^ x) (sym (back j (suc g) (a tt))) ∙ pow-add 2 (j - suc g) (suc g) ∙ ap (λ (x : ℕ). 2 ^ (j - suc g) * x) (pow-succ' 2 g))
-              ∙ sym (mul-assoc c (2 ^ (j - suc g)) (2 * 2 ^ g)),
-        )
-      where
-        back : (j s : ℕ) → s ≤ j → j - s + s ≡ j
-        back j s h = omega arith
-    go false a b = inr (lt-of-lt-of-le (mul-lt-mul-of-pos-right C (pow-pos j)) (mul-le-mul (le-refl (2 ^ p)) (pow-mono (b tt))))
 
 -- ---- the result is P = (t + 1) / 2 * (2 * G) units
 parity : (t : ℕ) → ((a : ℕ) × (t ≡ 2 * a)) ⊎ ((a : ℕ) × (t ≡ 2 * a + 1))
@@ -207,52 +194,6 @@ module _ (A a B b X c P Y N L : ℕ) (L-pos : 0 < L) (a-pos : 0 < a) (b-pos : 0 
   squares-above : 4 * N < (P + Y) * (P + Y) → 4 * X * sq (a * b) < sq (A * b + B * a) * c
   squares-above h = lt-of-mul-lt-mul-right (L * L) (lt-of-le-of-lt (le-of-eq x-scaled) (lt-of-lt-of-le (mul-lt-mul-of-pos-right h W-pos) (le-of-eq (sym sum-scaled))))
 
--- ---- a value of the format is a whole number of units
-place : (l : ℕ) (e : ℤ) → down e ≤ 2 ^ l → (j : ℕ) × (up e * 2 ^ l ≡ 2 ^ j * down e)
-place l (pos a) h = (a + l, sym (pow-add 2 a l) ∙ sym (mul-one (2 ^ (a + l))))
-place l (negsuc a) h = (l - suc a, one-mul (2 ^ l) ∙ ap (λ (x : ℕ). 2 ^ x) (sym (back l (suc a) (pow-le-back (suc a) l h))) ∙ pow-add 2 (l - suc a) (suc a))
-  where
-    back : (j s : ℕ) → s ≤ j → j - s + s ≡ j
-    back j s h = omega arith
-
-pub record Units (f : Format) (y : Float) : Type 0 where
-  pub count : ℕ
-  pub scale : ℕ
-  pub few : count < 2 ^ prec f
-  pub under : count * 2 ^ scale < 2 ^ (low f + suc (emax f))
-  pub is : num y * 2 ^ low f ≡ count * 2 ^ scale * den y
-
-pub in-units : (f : Format) (y : Float) → T (fits f y) → T (plain y) → Units f y
-unfolding fits
-in-units f nan h p = absurd p
-in-units f (inf s) h p = absurd p
-in-units f (fin true m e) h p = absurd p
-in-units f (fin false zero e) h p = record {
-  count = 0;
-  scale = 0;
-  few = pow-pos (prec f);
-  under = pow-pos (low f + suc (emax f));
-  is = ap (λ (x : ℕ). x * 2 ^ low f) (zero-mul (up e)) ∙ zero-mul (2 ^ low f) ∙ sym (zero-mul (down e));
-}
-in-units f (fin false (suc m) e) h p =
-    let A = eqb (suc m % 2) 1 in
-    let B = ltb (suc m) (2 ^ prec f) in
-    let C = leb (down e) (2 ^ low f) in
-    let D = ltb (suc m * up e) (2 ^ suc (emax f) * down e) in
-    let k = place (low f) e (leb→le (down e) (2 ^ low f) (and-r (A && B) C (and-l (A && B && C) D h))) in
-    let v : suc m * up e * 2 ^ low f ≡ suc m * 2 ^ k .0 * down e = mul-assoc (suc m) (up e) (2 ^ low f) ∙ ap (λ (x : ℕ). suc m * x) (k .1) ∙ sym (mul-assoc (suc m) (2 ^ k .0) (down e)) in
-    record {
-      count = suc m;
-      scale = k .0;
-      few = ltb→lt (suc m) (2 ^ prec f) (and-r A B (and-l (A && B) C (and-l (A && B && C) D h)));
-      under =
-          lt-of-mul-lt-mul-right (down e)
-          (lt-of-le-of-lt (le-of-eq (sym v))
-          (lt-of-lt-of-le (mul-lt-mul-of-pos-right (ltb→lt (suc m * up e) (2 ^ suc (emax f) * down e) (and-r (A && B && C) D h)) (pow-pos (low f)))
-          (le-of-eq (mul-right-comm (2 ^ suc (emax f)) (down e) (2 ^ low f) ∙ ap (λ (x : ℕ). x * down e) (mul-comm (2 ^ suc (emax f)) (2 ^ low f) ∙ sym (pow-add 2 (low f) (suc (emax f))))))));
-      is = v;
-    }
-
 -- ---- the digits of x moved up to `prec`, and the parity of the scale
 room : (f : Format) → (prec f + 4 ≤ emax f) × (2 ≤ prec f)
 room binary32 = (lit≤ tt, lit≤ tt)
@@ -307,6 +248,17 @@ pub record Shape (f : Format) (x : Float) : Type 0 where
   pub value : HasValue (sqrt f x) false ((t + 1) / 2 * 2 ^ suc g) (2 ^ low f)
   pub under : num x * 2 ^ low f * 2 ^ low f ≡ 2 * m * (2 ^ g * 2 ^ g) * den x
 
+-- finite, with the sign clear
+abbrev plain : Float → Bool
+plain nan = false
+plain (inf s) = false
+plain (fin s m e) = not s
+
+plain-finite : (x : Float) → T (plain x) → T (finite x)
+plain-finite nan p = absurd p
+plain-finite (inf s) p = absurd p
+plain-finite (fin s m e) p = tt
+
 positive-plain : (x : Float) → T (positive x) → T (plain x)
 positive-plain nan p = absurd p
 positive-plain (inf s) p = absurd p
@@ -341,7 +293,7 @@ shaped f x h p =
     let r = room f in
     let P = prec f in
     let l = low f in
-    let u = in-units f x h (positive-plain x p) in
+    let u = in-units f x h (positive-finite x p) in
     let c = u .count in
     let s = u .scale in
     let N = c * 2 ^ s in
@@ -378,7 +330,7 @@ shaped f x h p =
       under = ap (λ (y : ℕ). y * 2 ^ l) (u .is) ∙ mul-right-comm N (den x) (2 ^ l) ∙ ap (λ (y : ℕ). y * den x) (sym S);
     }
 
--- ---- the theorem
+-- ---- the theorem, for a y with the sign clear
 value-plain : (x : Float) (a c : ℕ) → HasValue x false a c → T (plain x)
 value-plain nan a c h = absurd h
 value-plain (inf s) a c h = absurd h
@@ -394,35 +346,100 @@ lt-cross (fin false m e) (inf t) p q h = absurd q
 lt-cross (fin false m e) (fin true n d) p q h = absurd q
 lt-cross (fin false m e) (fin false n d) p q h = ltb→lt (m * up e * down d) (n * up d * down e) h
 
+abbrev middle : Float → Float → ℕ
+middle r y = num r * den y + num y * den r
+
+module _ (f : Format) (x : Float) (h : T (fits f x)) (p : T (positive x)) (s : Shape f x) where
+  abbrev r : Float
+  r = sqrt f x
+
+  abbrev Q : ℕ
+  Q = (s .t + 1) / 2 * (2 * 2 ^ s .g)
+
+  abbrev N : ℕ
+  N = 2 * s .m * (2 ^ s .g * 2 ^ s .g)
+
+  r-plain : T (plain r)
+  r-plain = value-plain r ((s .t + 1) / 2 * 2 ^ suc (s .g)) (2 ^ low f) (s .value)
+
+  r-positive : T (positive r)
+  r-positive = positive-of-value r ((s .t + 1) / 2 * 2 ^ suc (s .g)) (2 ^ low f) (s .value) (mul-pos (half (s .t) (lt-of-lt-of-le (pow-pos (prec f)) (s .top))) (pow-pos (suc (s .g))))
+    where
+      half : (t : ℕ) → 0 < t → 0 < (t + 1) / 2
+      half t l = omega arith
+
+  r-is : num r * 2 ^ low f ≡ Q * den r
+  r-is = value→cross r ((s .t + 1) / 2 * 2 ^ suc (s .g)) (2 ^ low f) (s .value) ∙ ap (λ (y : ℕ). (s .t + 1) / 2 * y * den r) (pow-succ' 2 (s .g))
+
+  module _ (y : Float) (fy : T (fits f y)) (py : T (plain y)) where
+    abbrev u : Units f y
+    u = in-units f y fy (plain-finite y py)
+
+    near : Near (prec f) (s .g) (s .m) (u .count) (u .scale) (omega (arith, two f)) (u .few) Q
+    near = near-units (prec f) (s .g) (s .m) (u .count) (u .scale) (omega (arith, two f)) (u .few) (s .t) (s .is) (s .top)
+
+    plain-below : T (lt y r) → sq (middle r y) * den x < 4 * num x * sq (den r * den y)
+    plain-below l =
+        squares-below (num r) (den r) (num y) (den y) (num x) (den x) Q (u .count * 2 ^ u .scale) N (2 ^ low f) (pow-pos (low f)) (den-pos r) (den-pos y) (den-pos x) r-is (u .is) (s .under)
+        (near .0 (order-below (num r) (den r) (num y) (den y) (num x) (den x) Q (u .count * 2 ^ u .scale) N (2 ^ low f) (pow-pos (low f)) (den-pos r) (den-pos y) (den-pos x) r-is (u .is) (s .under) (lt-cross y r py r-plain l)))
+
+    plain-above : T (lt r y) → 4 * num x * sq (den r * den y) < sq (middle r y) * den x
+    plain-above l =
+        squares-above (num r) (den r) (num y) (den y) (num x) (den x) Q (u .count * 2 ^ u .scale) N (2 ^ low f) (pow-pos (low f)) (den-pos r) (den-pos y) (den-pos x) r-is (u .is) (s .under)
+        (near .1 (order-above (num r) (den r) (num y) (den y) (num x) (den x) Q (u .count * 2 ^ u .scale) N (2 ^ low f) (pow-pos (low f)) (den-pos r) (den-pos y) (den-pos x) r-is (u .is) (s .under) (lt-cross r y r-plain py l)))
+
+-- ---- and for a y below 0, which is further off than 0 is
+zero-fits : (f : Format) → T (fits f (fin false 0 (pos 0)))
+unfolding fits
+zero-fits f = tt
+
+zero-lt : (r : Float) → T (positive r) → T (lt (fin false 0 (pos 0)) r)
+unfolding lt
+zero-lt nan p = absurd p
+zero-lt (inf s) p = absurd p
+zero-lt (fin true m e) p = absurd p
+zero-lt (fin false zero e) p = absurd p
+zero-lt (fin false (suc m) e) p =
+    lt→ltb (0 * 2 ^ 0 * down e) (suc m * up e * 1)
+    (lt-of-le-of-lt (le-of-eq (ap (λ (z : ℕ). z * down e) (zero-mul (2 ^ 0)) ∙ zero-mul (down e))) (mul-pos (mul-pos (zero-lt-suc m) (up-pos e)) (zero-lt-suc 0)))
+
+not-under : (r : Float) (n : ℕ) (d : ℤ) → T (positive r) → T (lt r (fin true n d)) → ⊥
+unfolding lt
+not-under nan n d p l = p
+not-under (inf s) n d p l = p
+not-under (fin true m e) n d p l = p
+not-under (fin false m e) n d p l = l
+
+-- A / a is below twice the root of X / c, so less of it is
+further : (A a X c B b : ℕ) → 0 < b → sq (A * 1 + 0 * 2 ^ 0 * a) * c < 4 * X * sq (a * 1) → sq (A * b - B * a) * c < 4 * X * sq (a * b)
+further A a X c B b b-pos h =
+    lt-of-le-of-lt (mul-le-mul-right c (sq-le (A * b - B * a) (A * b) (less (A * b) (B * a))))
+    (lt-of-le-of-lt (le-of-eq (ap (λ (z : ℕ). z * c) (mul-mul-mul-comm A b A b) ∙ mul-right-comm (A * A) (b * b) c))
+    (lt-of-lt-of-le (mul-lt-mul-of-pos-right (subst (λ (z : ℕ). sq z * c < 4 * X * sq a) (plus-zero A a) (subst (λ (z : ℕ). sq (A * 1 + 0 * 2 ^ 0 * a) * c < 4 * X * sq z) (mul-one a) h)) (mul-pos b-pos b-pos))
+    (le-of-eq (mul-assoc (4 * X) (a * a) (b * b) ∙ ap (λ (z : ℕ). 4 * X * z) (mul-mul-mul-comm a a b b)))))
+  where
+    less : (x y : ℕ) → x - y ≤ x
+    less x y = omega arith
+
+    plus-zero : (A a : ℕ) → A * 1 + 0 * 2 ^ 0 * a ≡ A
+    plus-zero A a = ap (λ (z : ℕ). A * 1 + z) (ap (λ (z : ℕ). z * a) (zero-mul (2 ^ 0)) ∙ zero-mul a) ∙ add-zero (A * 1) ∙ mul-one A
+
 pub nearest-root : (f : Format) (x : Float) → T (fits f x) → T (positive x) → NearestRoot f x (sqrt f x)
-nearest-root f x h p = record {
-  finite = pl;
-  below = λ y fy py l.
-      let u = in-units f y fy py in
-      let k = near-units (prec f) (s .g) (s .m) (u .count) (u .scale) (omega (arith, two f)) (u .few) (s .t) (s .is) (s .top) in
-      squares-below (num r) (den r) (num y) (den y) (num x) (den x) Q (u .count * 2 ^ u .scale) N (2 ^ low f) (pow-pos (low f)) (den-pos r) (den-pos y) (den-pos x) r-is (u .is) (s .under)
-      (k .0 (order-below (num r) (den r) (num y) (den y) (num x) (den x) Q (u .count * 2 ^ u .scale) N (2 ^ low f) (pow-pos (low f)) (den-pos r) (den-pos y) (den-pos x) r-is (u .is) (s .under) (lt-cross y r py pl l)));
-  above = λ y fy py l.
-      let u = in-units f y fy py in
-      let k = near-units (prec f) (s .g) (s .m) (u .count) (u .scale) (omega (arith, two f)) (u .few) (s .t) (s .is) (s .top) in
-      squares-above (num r) (den r) (num y) (den y) (num x) (den x) Q (u .count * 2 ^ u .scale) N (2 ^ low f) (pow-pos (low f)) (den-pos r) (den-pos y) (den-pos x) r-is (u .is) (s .under)
-      (k .1 (order-above (num r) (den r) (num y) (den y) (num x) (den x) Q (u .count * 2 ^ u .scale) N (2 ^ low f) (pow-pos (low f)) (den-pos r) (den-pos y) (den-pos x) r-is (u .is) (s .under) (lt-cross r y pl py l)));
-}
+nearest-root f x h p = record { held = sqrt-fits f x h; above-zero = r-positive f x h p s; below = below; above = above }
   where
     s : Shape f x
     s = shaped f x h p
 
-    r : Float
-    r = sqrt f x
+    below : (y : Float) → T (fits f y) → T (finite y) → T (lt y (sqrt f x)) → sq (total (sqrt f x) y) * den x < 4 * num x * sq (den (sqrt f x) * den y)
+    below nan fy py l = absurd py
+    below (inf t) fy py l = absurd py
+    below (fin false n d) fy py l = plain-below f x h p s (fin false n d) fy tt l
+    below (fin true n d) fy py l =
+        further (num (sqrt f x)) (den (sqrt f x)) (num x) (den x) (n * up d) (down d) (down-pos d)
+        (plain-below f x h p s (fin false 0 (pos 0)) (zero-fits f) tt (zero-lt (sqrt f x) (r-positive f x h p s)))
 
-    Q : ℕ
-    Q = (s .t + 1) / 2 * (2 * 2 ^ s .g)
-
-    N : ℕ
-    N = 2 * s .m * (2 ^ s .g * 2 ^ s .g)
-
-    pl : T (plain r)
-    pl = value-plain r ((s .t + 1) / 2 * 2 ^ suc (s .g)) (2 ^ low f) (s .value)
-
-    r-is : num r * 2 ^ low f ≡ Q * den r
-    r-is = value→cross r ((s .t + 1) / 2 * 2 ^ suc (s .g)) (2 ^ low f) (s .value) ∙ ap (λ (y : ℕ). (s .t + 1) / 2 * y * den r) (pow-succ' 2 (s .g))
+    above : (y : Float) → T (fits f y) → T (finite y) → T (lt (sqrt f x) y) → 4 * num x * sq (den (sqrt f x) * den y) < sq (total (sqrt f x) y) * den x
+    above nan fy py l = absurd py
+    above (inf t) fy py l = absurd py
+    above (fin false n d) fy py l = plain-above f x h p s (fin false n d) fy tt l
+    above (fin true n d) fy py l = absurd (not-under (sqrt f x) n d (r-positive f x h p s) l)

@@ -1,118 +1,125 @@
--- The root where it is not worked out: of the zeros, the infinity and what is negative. For any format, by the bit pattern. Assumes nothing.
+-- The root where it is not worked out, by the tests that `sqrt32` and `sqrt64` make: of what is below zero, of the zeros, the infinity and a NaN. For any format. Assumes nothing.
 use mathlib.Core.Path.{_≡_, refl, sym, ap, _∙_, subst}
-use mathlib.Core.Logic.{_⊎_, inl, inr}
 use Prim.Native.Nat.{ℕ, zero, suc, _+_, _-_, _*_, _/_, _%_, _^_, _≤_, _<_}
-use native.Mathlib.Nat.{le-trans, le-of-eq, lt-of-lt-of-le, lt-irrefl, le-of-suc-le-suc, zero-mul, mul-one, mul-pos, mul-comm, mod-lt, div-lt-iff-lt-mul, div-add-mod', eq-or-lt-of-le, eq-zero-or-pos, dvd-mul-right, mod-mod-of-dvd, zero-lt-suc, le-add-right, mod-le, mod-eq-of-lt, mod-eq-sub-mod, le-of-lt}
+use native.Mathlib.Nat.{le-trans, le-of-lt, le-antisymm, le-of-eq, lt-of-le-of-lt, lt-of-lt-of-le, zero-lt-suc, mul-pos, mod-eq-of-lt, mod-le}
 use native.Mathlib.Omega.{arith}
-use mathlib.Core.Bool.{Bool, true, false, not, false≢true}
-use lib.Dec.{T, leb, leb→le, nleb→lt, le→leb}
-use lib.Pow.{pow-pos}
-use lib.Ieee.{Float, nan, inf, fin, Format, binary32, binary64, prec, low, up, hid, ones, top, fits, isNan, ne, div, ofFields, ofBits, toBits, nanBits}
-use lib.Ieee.Fits.{down-pos}
-use lib.Ieee.Bits.{is-true, ofBits-toBits, toBits-lt}
-use lib.Ieee.Compare.{differs-from-itself}
-use lib.Ieee.Exact.{HasValue}
+use mathlib.Core.Bool.{Bool, true, false, not, cond}
+use lib.IntN.{ℤ, pos}
+use lib.Dec.{T, leb, eqb, ltb→lt, lt→ltb, nleb→lt}
+use lib.Ieee.{Float, nan, inf, fin, Format, binary32, binary64, prec, low, up, down, odd, hid, ones, top, fits, lt, div, isNan, ofFields, ofBits, toBits, nanBits}
+use lib.Ieee.Fits.{up-pos}
+use lib.Ieee.Bits.{ofBits-toBits}
 use Rattle.ieee.specs.Sqrt.{sqrt}
 use Rattle.ieee.specs.Patterns.{RootOf}
-use Rattle.ieee.proofs.Decode.{at-most-infinity, pattern-no-nan}
-use Rattle.ieee.proofs.Narrowing.{low-value, normal-value}
+use Rattle.ieee.proofs.Decode.{ofBits-is, at-most-infinity, pattern-no-nan}
 
--- ---- three patterns whose value is its own root
-at-zero : (f : Format) → sqrt f (ofBits f 0) ≡ ofBits f 0
-unfolding sqrt ofBits
-at-zero binary32 = refl
-at-zero binary64 = refl
+abbrev +0 : Float
++0 = fin false 0 (pos 0)
 
-at-minus-zero : (f : Format) → sqrt f (ofBits f (top f)) ≡ ofBits f (top f)
-unfolding sqrt ofBits
-at-minus-zero binary32 = refl
-at-minus-zero binary64 = refl
-
-at-infinity : (f : Format) → sqrt f (ofBits f (ones f * hid f)) ≡ ofBits f (ones f * hid f)
-unfolding sqrt ofBits
-at-infinity binary32 = refl
-at-infinity binary64 = refl
-
-own : (f : Format) (x : Float) (b : ℕ) → T (fits f x) → toBits f x ≡ b → sqrt f (ofBits f b) ≡ ofBits f b → x ≡ sqrt f x
-own f x b h e s =
-    let p : ofBits f b ≡ x = ap (ofBits f) (sym e) ∙ ofBits-toBits f x h in
-    sym p ∙ sym s ∙ ap (sqrt f) p
-
-pub zero-own : (f : Format) (x : Float) → T (fits f x) → toBits f x ≡ 0 → x ≡ sqrt f x
-zero-own f x h e = own f x 0 h e (at-zero f)
-
-pub minus-zero-own : (f : Format) (x : Float) → T (fits f x) → toBits f x ≡ top f → x ≡ sqrt f x
-minus-zero-own f x h e = own f x (top f) h e (at-minus-zero f)
-
-pub infinity-own : (f : Format) (x : Float) → T (fits f x) → toBits f x ≡ ones f * hid f → x ≡ sqrt f x
-infinity-own f x h e = own f x (ones f * hid f) h e (at-infinity f)
-
--- ---- what is below zero has no root
-negative-value : (f : Format) (x : Float) (a c : ℕ) → HasValue x true a c → 0 < a → sqrt f x ≡ nan
-unfolding sqrt
-negative-value f nan a c h A = refl
-negative-value f (inf s) a c h A = absurd h
-negative-value f (fin false m e) a c h A = absurd (false≢true (h .0))
-negative-value f (fin true zero e) a c h A = absurd (lt-irrefl 0 (subst (λ (x : ℕ). 0 < x) (sym (h .1) ∙ ap (λ (x : ℕ). x * c) (zero-mul (up e)) ∙ zero-mul c) (mul-pos A (down-pos e))))
-negative-value f (fin true (suc m) e) a c h A = refl
-
-minus-infinity : (f : Format) → sqrt f (ofFields f true (ones f) 0) ≡ nan
-unfolding sqrt ofFields
-minus-infinity binary32 = refl
-minus-infinity binary64 = refl
-
--- the two fields x and t of a pattern at most the infinity's, and not 0
-negative-fields : (f : Format) (x t : ℕ) → x < suc (ones f) → 0 < x * hid f + t → x * hid f + t ≤ ones f * hid f → sqrt f (ofFields f true x t) ≡ nan
-negative-fields f x t X P L = go (eq-or-lt-of-le (le-of-suc-le-suc X)) (eq-zero-or-pos x)
-  where
-    no-more : (a b t : ℕ) → a ≡ b → a + t ≤ b → t ≡ 0
-    no-more a b t e h = omega arith
-
-    only : (a t : ℕ) → a ≡ 0 → 0 < a + t → 0 < t
-    only a t e h = omega arith
-
-    go : (x ≡ ones f) ⊎ (x < ones f) → (x ≡ 0) ⊎ (0 < x) → sqrt f (ofFields f true x t) ≡ nan
-    go (inl e) z =
-        ap (λ (y : ℕ). sqrt f (ofFields f true y t)) e
-        ∙ ap (λ (y : ℕ). sqrt f (ofFields f true (ones f) y)) (no-more (x * hid f) (ones f * hid f) t (ap (λ (y : ℕ). y * hid f) e) L)
-        ∙ minus-infinity f
-    go (inr l) (inl z) =
-        ap (λ (y : ℕ). sqrt f (ofFields f true y t)) z
-        ∙ negative-value f (ofFields f true 0 t) (t * 2 ^ 0) (2 ^ low f) (low-value f true t) (lt-of-lt-of-le (only (x * hid f) t (ap (λ (y : ℕ). y * hid f) z ∙ zero-mul (hid f)) P) (le-of-eq (sym (mul-one t))))
-    go (inr l) (inr p) =
-        negative-value f (ofFields f true x t) ((hid f + t) * 2 ^ (x - 1)) (2 ^ low f) (normal-value f true x t p l) (mul-pos (lt-of-lt-of-le (pow-pos (prec f - 1)) (le-add-right (hid f) t)) (pow-pos (x - 1)))
-
-ofBits-is : (f : Format) (b : ℕ) → ofBits f b ≡ ofFields f (leb (top f) b) (b % top f / hid f) (b % hid f)
+-- the constants of the code
+zero-is : (f : Format) → ofBits f 0 ≡ +0
 unfolding ofBits
-ofBits-is f b = refl
+zero-is binary32 = refl
+zero-is binary64 = refl
 
-pub negative-nan : (f : Format) (x : Float) → T (fits f x) → top f ≤ toBits f x → 0 < toBits f x % top f → toBits f x % top f ≤ ones f * hid f → nan ≡ sqrt f x
-negative-nan f x h g p l =
-    let b = toBits f x in
-    let y = b % top f in
-    let two-fields : y / hid f * hid f + y % hid f ≡ y = div-add-mod' y (hid f) in
-    let is : ofFields f true (y / hid f) (y % hid f) ≡ x =
-    ap (λ (t : ℕ). ofFields f true (y / hid f) t) (mod-mod-of-dvd (hid f) b (dvd-mul-right (hid f) (suc (ones f))))
-    ∙ ap (λ (s : Bool). ofFields f s (y / hid f) (b % hid f)) (sym (is-true (leb (top f) b) (le→leb (top f) b g)))
-    ∙ sym (ofBits-is f b)
-    ∙ ofBits-toBits f x h in
-    sym (negative-fields f (y / hid f) (y % hid f)
-    (div-lt-iff-lt-mul (pow-pos (prec f - 1)) .1 (lt-of-lt-of-le (mod-lt b (mul-pos (pow-pos (prec f - 1)) (zero-lt-suc (ones f)))) (le-of-eq (mul-comm (hid f) (suc (ones f))))))
-    (lt-of-lt-of-le p (le-of-eq (sym two-fields)))
-    (le-trans (le-of-eq two-fields) l))
-    ∙ ap (sqrt f) is
+infinity-is : (f : Format) → ofBits f (ones f * hid f) ≡ inf false
+unfolding ofBits
+infinity-is binary32 = refl
+infinity-is binary64 = refl
 
--- ---- what `sqrt32` and `sqrt64` return, for any format
 pub zero-by-zero : (f : Format) → div f (ofBits f 0) (ofBits f 0) ≡ nan
 unfolding div ofBits
 zero-by-zero binary32 = refl
 zero-by-zero binary64 = refl
 
-pub nan-root : (f : Format) (x : Float) → T (ne x x) → div f (ofBits f 0) (ofBits f 0) ≡ sqrt f x
-unfolding sqrt
-nan-root f x t = zero-by-zero f ∙ sym (ap (sqrt f) (differs-from-itself x t))
+-- ---- x < 0
+nothing : (u v : ℕ) → 0 * u * v ≡ 0
+nothing u v = omega arith
 
--- the pattern that `root_bits` returned
+below-zero : (f : Format) (x : Float) → T (lt x +0) → sqrt f x ≡ nan
+unfolding sqrt lt
+below-zero f nan h = refl
+below-zero f (inf true) h = refl
+below-zero f (inf false) h = absurd h
+below-zero f (fin false m e) h = let k : m * up e * 1 < 0 * 2 ^ 0 * down e = ltb→lt (m * up e * 1) (0 * 2 ^ 0 * down e) h in absurd (omega (arith, nothing (2 ^ 0) (down e)))
+below-zero f (fin true zero e) h = let k : 0 < 0 * up e * 1 + 0 * 2 ^ 0 * down e = ltb→lt 0 (0 * up e * 1 + 0 * 2 ^ 0 * down e) h in absurd (omega (arith, nothing (up e) 1, nothing (2 ^ 0) (down e)))
+below-zero f (fin true (suc m) e) h = refl
+
+pub negative-root : (f : Format) (x : Float) → T (lt x (ofBits f 0)) → div f (ofBits f 0) (ofBits f 0) ≡ sqrt f x
+negative-root f x h = zero-by-zero f ∙ sym (below-zero f x (subst (λ (z : Float). T (lt x z)) (zero-is f) h))
+
+-- ---- neither x < 0 nor 0 < x
+some : (m : ℕ) (e : ℤ) → 0 < suc m * up e * 1
+some m e = mul-pos (mul-pos (zero-lt-suc m) (up-pos e)) (zero-lt-suc 0)
+
+neither : (f : Format) (x : Float) → (T (lt x +0) → ⊥) → (T (lt +0 x) → ⊥) → x ≡ sqrt f x
+unfolding sqrt lt
+neither f nan h k = refl
+neither f (inf true) h k = absurd (h tt)
+neither f (inf false) h k = refl
+neither f (fin s zero e) h k = refl
+neither f (fin true (suc m) e) h k = absurd (h (lt→ltb 0 (suc m * up e * 1 + 0 * 2 ^ 0 * down e) (lt-of-lt-of-le (some m e) (omega arith))))
+neither f (fin false (suc m) e) h k = absurd (k (lt→ltb (0 * 2 ^ 0 * down e) (suc m * up e * 1) (lt-of-le-of-lt (le-of-eq (nothing (2 ^ 0) (down e))) (some m e))))
+
+pub own-root : (f : Format) (x : Float) → lt x (ofBits f 0) ≡ false → lt (ofBits f 0) x ≡ false → x ≡ sqrt f x
+own-root f x h k =
+    neither f x (λ t. subst T h (subst (λ (z : Float). T (lt x z)) (sym (zero-is f)) t)) (λ t. subst T k (subst (λ (z : Float). T (lt z x)) (sym (zero-is f)) t))
+
+-- ---- 0 < x
+pub above-zero-number : (f : Format) (x : Float) → T (lt (ofBits f 0) x) → T (not (isNan x))
+unfolding lt isNan
+above-zero-number f x h = go x (subst (λ (z : Float). T (lt z x)) (zero-is f) h)
+  where
+    go : (x : Float) → T (lt +0 x) → T (not (isNan x))
+    go nan t = absurd t
+    go (inf s) t = tt
+    go (fin s m e) t = tt
+
+no : T (lt +0 +0) → ⊥
+unfolding lt
+no h = h
+
+pub some-bits : (f : Format) (x : Float) → T (fits f x) → T (lt (ofBits f 0) x) → 0 < toBits f x
+some-bits f x h t = go (toBits f x) refl
+  where
+    go : (b : ℕ) → toBits f x ≡ b → 0 < b
+    go zero e = absurd (no (subst (λ (z : Float). T (lt z z)) (zero-is f) (subst (λ (z : Float). T (lt (ofBits f 0) z)) (sym (ap (ofBits f) (sym e) ∙ ofBits-toBits f x h)) t)))
+    go (suc b) e = zero-lt-suc b
+
+-- with the sign set a value is not above zero
+odd-signed : (d q k l : ℕ) → T (lt +0 (odd d true q k l)) → ⊥
+unfolding odd lt
+odd-signed d zero k l h = h
+odd-signed d (suc q) k l h = h
+
+signed : (f : Format) (x t : ℕ) → T (lt +0 (ofFields f true x t)) → ⊥
+unfolding ofFields lt
+signed f zero t h = odd-signed (prec f) t 0 (low f) h
+signed f (suc x) t h = go (eqb (suc x) (ones f)) (eqb t 0) h
+  where
+    go : (u v : Bool) → T (lt +0 (cond u (cond v (inf true) nan) (odd (prec f) true (hid f + t) x (low f)))) → ⊥
+    go true true h = h
+    go true false h = h
+    go false v h = odd-signed (prec f) (hid f + t) x (low f) h
+
+-- so what is above zero, with a pattern that is not below the infinity's, is the infinity
+infinite : (f : Format) (x : Float) → T (fits f x) → T (lt (ofBits f 0) x) → ones f * hid f ≤ toBits f x → x ≡ inf false
+infinite f x h t g = go (leb (top f) (toBits f x)) refl (nleb→lt (top f) (toBits f x))
+  where
+    go : (s : Bool) → leb (top f) (toBits f x) ≡ s → (T (not s) → toBits f x < top f) → x ≡ inf false
+    go true e l =
+        absurd (signed f (toBits f x % top f / hid f) (toBits f x % hid f)
+        (subst (λ (z : Float). T (lt z (ofFields f true (toBits f x % top f / hid f) (toBits f x % hid f)))) (zero-is f)
+        (subst (λ (z : Float). T (lt (ofBits f 0) z)) (sym (ofBits-toBits f x h) ∙ ofBits-is f (toBits f x) ∙ ap (λ (s : Bool). ofFields f s (toBits f x % top f / hid f) (toBits f x % hid f)) e) t)))
+    go false e l =
+        let same : toBits f x ≡ ones f * hid f = le-antisymm (le-trans (le-of-eq (sym (mod-eq-of-lt (l tt)))) (at-most-infinity f x h (above-zero-number f x t))) g in
+        sym (ofBits-toBits f x h) ∙ ap (ofBits f) same ∙ infinity-is f
+
+pub infinity-root : (f : Format) (x : Float) → T (fits f x) → T (lt (ofBits f 0) x) → ones f * hid f ≤ toBits f x → x ≡ sqrt f x
+unfolding sqrt
+infinity-root f x h t g = let e = infinite f x h t g in e ∙ sym (ap (sqrt f) e)
+
+-- ---- the pattern that `root_bits` returned
 pub rooted-at : (f : Format) (x : Float) (r : ℕ) → T (fits f x) → toBits f x < ones f * hid f → RootOf (prec f) (low f) (toBits f x) r → (r < ones f * hid f) × (ofBits f r ≡ sqrt f x)
 rooted-at f x r h l k =
     let v = k .value f refl refl l in
@@ -120,31 +127,3 @@ rooted-at f x r h l k =
 
 pub rooted-no-nan : (f : Format) (r : ℕ) → r < ones f * hid f → T (not (nanBits f r))
 rooted-no-nan f r h = pattern-no-nan f r (le-trans (mod-le r (top f)) (le-of-lt h))
-
--- a pattern above the infinity's that is no NaN's has the sign set
-pub negative-root : (f : Format) (x : Float) → T (fits f x) → T (not (isNan x)) → (toBits f x < ones f * hid f → ⊥) → (toBits f x ≡ ones f * hid f → ⊥) → (toBits f x ≡ top f → ⊥) → div f (ofBits f 0) (ofBits f 0) ≡ sqrt f x
-negative-root f x h n a b c = zero-by-zero f ∙ negative-nan f x h (g .0) (g .1) m
-  where
-    m : toBits f x % top f ≤ ones f * hid f
-    m = at-most-infinity f x h n
-
-    set : (b i t y : ℕ) → (b < i → ⊥) → (b ≡ i → ⊥) → (b ≡ t → ⊥) → b < 2 * t → y ≤ i → (b < t → y ≡ b) → (t ≤ b → y ≡ b - t) → (t ≤ b) × (0 < y)
-    set b i t y p q r u v w z = go (leb t b) (leb→le t b) (nleb→lt t b)
-      where
-        over : t ≤ b → 0 < y
-        over l = let e = z l in omega arith
-
-        no : b < t → ⊥
-        no l = let e = w l in omega arith
-
-        go : (s : Bool) → (T s → t ≤ b) → (T (not s) → b < t) → (t ≤ b) × (0 < y)
-        go true l k = (l tt, over (l tt))
-        go false l k = absurd (no (k tt))
-
-    g : (top f ≤ toBits f x) × (0 < toBits f x % top f)
-    g =
-        set (toBits f x) (ones f * hid f) (top f) (toBits f x % top f) a b c (toBits-lt f x h) m (λ l. mod-eq-of-lt l)
-        (λ l. mod-eq-sub-mod l ∙ mod-eq-of-lt (under (toBits f x) (top f) (toBits-lt f x h) l))
-      where
-        under : (n t : ℕ) → n < 2 * t → t ≤ n → n - t < t
-        under n t h l = omega arith

@@ -1,4 +1,5 @@
 pub mod Narrow
 pub mod Sqrt
 pub mod Nearest
+pub mod Recurrence
 pub mod Patterns

@@ -15,7 +15,7 @@ pub record Narrowed (b r : ℕ) : Type 0 where
 
 -- ---- src/sqrt.rt, for a format that its functions know by `prec` and `low` alone
 
--- q * 2 ^ j is a square in units of a format that keeps p digits, and q has p digits
+-- q * 2 ^ j stands under the root, in squared units of a format that keeps p digits, and q has p digits
 pub record Radicand (p q j : ℕ) : Type 0 where
   pub format : Format
   pub keeps : p ≡ prec format

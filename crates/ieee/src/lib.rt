@@ -1,4 +1,6 @@
-// IEEE 754 operations that the language has not: an f64 narrowed to an f32, the square root of each, and an f32 widened.
+// IEEE 754 operations that the language lacks: an f64 narrowed to an f32, square roots, and widening and bit patterns that
+// take a NaN too.
+pub mod bits;
 pub mod narrow;
 pub mod sqrt;
 pub mod widen;

@@ -1,4 +1,4 @@
-// An f64 rounded to an f32, as Rust's `as` does, by way of the bit patterns.
+// An f64 rounded to an f32, as Rust's `as` does it, by way of the bit patterns.
 ghost use mathlib.Core.Path.{_≡_};
 ghost use Prim.Native.Nat.{_≤_, _<_, _^_};
 ghost use lib.Ieee.{binary32};
@@ -25,26 +25,28 @@ fn narrow_pattern(b: u64) -> u64
     let field = b >> 52;
     let digits = 0x10_0000_0000_0000 + b % 0x10_0000_0000_0000;
     if field < 873 {
-        0
-    } else if field < 897 {
-        shift_nearest(digits, 926 - field)
-    } else if field < 1151 {
-        (field - 897) * 0x80_0000 + shift_nearest(digits, 29)
-    } else {
-        0x7f80_0000
+        return 0;
     }
+    if field < 897 {
+        // a subnormal, or the least normal value
+        return shift_nearest(digits, 926 - field);
+    }
+    if field < 1151 {
+        // a sum that carries into the field may reach the infinity's pattern
+        return (field - 897) * 0x80_0000 + shift_nearest(digits, 29);
+    }
+    0x7f80_0000
 }
 
-// x as an f32: the nearest, a tie to the even one, an infinity from 2^128 less half a step on.
+// The nearest f32, of two as near the even one; an infinity from 2^128 less half a step on.
 pub fn narrow(x: f64) -> f32
     ensures { λ r. ⌜ r ≡ narrow binary32 x ⌝ }
 {
     if x != x {
-        0.0 / 0.0
-    } else {
-        let bits: u64 = f64::to_bits(x);
-        let sign: u64 = bits >> 63;
-        let rest: u64 = narrow_pattern(bits % 0x8000_0000_0000_0000);
-        f32::from_bits((sign * 0x8000_0000 + rest) as u32)
+        return 0.0 / 0.0;
     }
+    let bits: u64 = f64::to_bits(x);
+    let sign: u64 = bits >> 63;
+    let rest: u64 = narrow_pattern(bits % 0x8000_0000_0000_0000);
+    f32::from_bits((sign * 0x8000_0000 + rest) as u32)
 }

@@ -1,16 +1,30 @@
-// Square roots, rounded to the nearest. One code serves both formats: p is how many digits the
-// format keeps, and low says that its least value is 2^-low.
+// Square roots, correctly rounded. One code serves both formats: p is how many digits the format
+// keeps, and 2^-low is its least value.
 ghost use mathlib.Core.Path.{_≡_};
-ghost use Prim.Native.Nat.{_+_, _*_, _/_, _^_, _≤_, _<_};
+ghost use Prim.Native.Nat.{_≤_};
+ghost use mathlib.Core.Bool.{cond};
+ghost use lib.Dec.{leb};
 ghost use lib.Ieee.{binary32, binary64};
 ghost use Rattle.ieee.specs.Sqrt.{isqrt, sqrt};
+ghost use Rattle.ieee.specs.Recurrence.{taken};
 ghost use Rattle.ieee.specs.Patterns.{Radicand, Rooted, Positive, RootOf};
 
-// The whole part of the root of d * 4^n / 2^64, by digits: each turn takes the next two digits of d
-// into `rem`, and root * root + rem is the part of d taken in so far.
+// The next digit of the root: 1 if t fits into the remainder. (A number and not a branch in the loop:
+// the digits of a root are as good as random, and a branch on them costs more than the rest.)
+fn digit(rem: u64, t: u64) -> u64
+    ensures { λ r. ⌜ r ≡ cond (leb t rem) 1 0 ⌝ }
+{
+    if rem < t {
+        return 0;
+    }
+    1
+}
+
+// The whole root of the leading 2n digits of d, digit by digit: each turn takes the next two digits
+// of d into `rem`, and root * root + rem stays the part of d taken in (specs/Recurrence.antt).
 fn root_digits(d: u64, n: u64) -> u64
     requires { ⌜ n ≤ 54 ⌝ }
-    ensures { λ r. ⌜ r ≡ isqrt (d * 4 ^ n / 2 ^ 64) ⌝ }
+    ensures { λ r. ⌜ r ≡ isqrt (taken d n) ⌝ }
 {
     let mut left = d;
     let mut rem: u64 = 0;
@@ -20,18 +34,16 @@ fn root_digits(d: u64, n: u64) -> u64
         rem = rem * 4 + (left >> 62);
         left = left % 0x4000_0000_0000_0000 * 4;
         let t = root * 4 + 1;
-        if rem < t {
-            root = root * 2;
-        } else {
-            rem = rem - t;
-            root = root * 2 + 1;
-        }
+        let one = digit(rem, t);
+        rem = rem - t * one;
+        root = root * 2 + one;
         i += 1;
     }
     root
 }
 
-// The pattern of the root of q * 2^j / 4^low, for a q of p digits.
+// The pattern of the root of q * 2^j / 4^low, for a q of p digits. The whole root r has p + 1
+// digits, and the last one alone says how to round: a root that ends with 1 there is never exact.
 fn root_pattern(q: u64, j: u64, p: u64) -> u64
     requires { ⌜ Radicand p q j ⌝ }
     ensures { λ r. ⌜ Rooted p q j r ⌝ }
@@ -59,44 +71,33 @@ fn root_bits(b: u64, p: u64, low: u64) -> u64
     }
 }
 
+// A zero, the infinity and a NaN are their own roots. What is below zero has none.
 pub fn sqrt32(x: f32) -> f32
     ensures { λ r. ⌜ r ≡ sqrt binary32 x ⌝ }
 {
-    if x != x {
-        0.0 / 0.0
-    } else {
+    if x < 0.0 {
+        return 0.0 / 0.0;
+    }
+    if x > 0.0 {
         let b: u32 = f32::to_bits(x);
-        if b == 0 {
-            x
-        } else if b < 0x7f80_0000 {
-            f32::from_bits(root_bits(b as u64, 24, 149) as u32)
-        } else if b == 0x7f80_0000 {
-            x
-        } else if b == 0x8000_0000 {
-            x
-        } else {
-            0.0 / 0.0
+        if b < 0x7f80_0000 {
+            return f32::from_bits(root_bits(b as u64, 24, 149) as u32);
         }
     }
+    x
 }
 
 pub fn sqrt64(x: f64) -> f64
     ensures { λ r. ⌜ r ≡ sqrt binary64 x ⌝ }
 {
-    if x != x {
-        0.0 / 0.0
-    } else {
+    if x < 0.0 {
+        return 0.0 / 0.0;
+    }
+    if x > 0.0 {
         let b: u64 = f64::to_bits(x);
-        if b == 0 {
-            x
-        } else if b < 0x7ff0_0000_0000_0000 {
-            f64::from_bits(root_bits(b, 53, 1074))
-        } else if b == 0x7ff0_0000_0000_0000 {
-            x
-        } else if b == 0x8000_0000_0000_0000 {
-            x
-        } else {
-            0.0 / 0.0
+        if b < 0x7ff0_0000_0000_0000 {
+            return f64::from_bits(root_bits(b, 53, 1074));
         }
     }
+    x
 }

@@ -26,6 +26,9 @@ result x r h n =
     ∙ n .value (leb (2 ^ 63) (toBits binary64 x))
     ∙ ap (narrow binary32) (decode binary64 x h)
 
+returns : tie.Need-returns
+returns c = nan-result (c .before .args .x) (differs-from-itself (c .before .args .x) (subst T (sym (c .if1 .taken)) tt))
+
 float-to-bits-bits : tie.Need-float-to-bits-bits
 float-to-bits-bits c = no-nan (c .before .args .x) (c .if1 .left)
 
@@ -48,21 +51,8 @@ float-from-bits-result c =
     low : (s r : ℕ) → r ≤ 0x7f80_0000 → (s * 2 ^ 31 + r) % 2 ^ 31 ≤ 255 * 2 ^ 23
     low s r h = omega arith
 
-returns : tie.Need-returns
-returns c = nan-result (c .before .args .x) (differs-from-itself (c .before .args .x) (subst T (sym (c .if1 .taken)) tt))
-
 returns-2 : tie.Need-returns-2
 returns-2 c = result (c .before .before .args .x) (c .narrow-pattern .result) (held (c .before .before)) (c .narrow-pattern .ensures)
 
 pub narrow-spec : {M : Type 1} → statement M
-narrow-spec =
-    tie.close
-    (tie.spec
-    float-to-bits-bits
-    narrow-pattern-requires
-    mul-result
-    add-result
-    cast-result
-    float-from-bits-result
-    returns
-    returns-2)
+narrow-spec = tie.close (tie.spec returns float-to-bits-bits narrow-pattern-requires mul-result add-result cast-result float-from-bits-result returns-2)

@@ -1,11 +1,8 @@
 -- `ieee::sqrt::sqrt64` meets its contract: each answer is a fact of `proofs/Special.antt`, for any format, at binary64. Assumes nothing.
 use mathlib.Core.Path.{refl, sym, subst}
-use native.Mathlib.Nat.{not-le-of-lt}
-use native.Mathlib.Omega.{arith}
 use lib.Dec.{T}
 use lib.Ieee.{binary64, fits}
-use Rattle.ieee.proofs.Decode.{no-nan}
-use Rattle.ieee.proofs.Special.{zero-own, minus-zero-own, infinity-own, nan-root, rooted-at, rooted-no-nan, negative-root}
+use Rattle.ieee.proofs.Special.{negative-root, own-root, above-zero-number, some-bits, infinity-root, rooted-at, rooted-no-nan}
 use Rattle.ieee.proofs.sqrt.sqrt64.Statement.{statement}
 use Rattle.ieee.proofs.sqrt.sqrt64.Tie as tie
 
@@ -13,42 +10,34 @@ use Rattle.ieee.proofs.sqrt.sqrt64.Tie as tie
 held : (c : tie.Start) → T (fits binary64 (c .args .x))
 held c = subst T (sym (c .good .0 .1)) tt
 
+returns : tie.Need-returns
+returns c = negative-root binary64 (c .before .args .x) (subst T (sym (c .if1 .taken)) tt)
+
 float-to-bits-b : tie.Need-float-to-bits-b
-float-to-bits-b c = no-nan (c .before .args .x) (c .if1 .left)
+float-to-bits-b c = above-zero-number binary64 (c .before .before .args .x) (subst T (sym (c .if2 .taken)) tt)
 
 root-bits-requires : tie.Need-root-bits-requires
-root-bits-requires c κs = record { format = binary64; keeps = refl; least = refl; above = omega arith; below = c .if3 .taken }
+root-bits-requires c κs =
+    let s = c .before .before .before in
+    record { format = binary64; keeps = refl; least = refl; above = some-bits binary64 (s .args .x) (held s) (subst T (sym (c .before .if2 .taken)) tt); below = c .if3 .taken }
 
 float-from-bits-result : tie.Need-float-from-bits-result
 float-from-bits-result c =
     let s = c .before .before .before .before in
     rooted-no-nan binary64 (c .root-bits .result) (rooted-at binary64 (s .args .x) (c .root-bits .result) (held s) (c .before .if3 .taken) (c .root-bits .ensures) .0)
 
-returns : tie.Need-returns
-returns c = nan-root binary64 (c .before .args .x) (subst T (sym (c .if1 .taken)) tt)
-
 returns-2 : tie.Need-returns-2
-returns-2 c = zero-own binary64 (c .before .before .args .x) (held (c .before .before)) (c .if2 .taken)
-
-returns-3 : tie.Need-returns-3
-returns-3 c =
+returns-2 c =
     let s = c .before .before .before .before in
     rooted-at binary64 (s .args .x) (c .root-bits .result) (held s) (c .before .if3 .taken) (c .root-bits .ensures) .1
 
+returns-3 : tie.Need-returns-3
+returns-3 c =
+    let s = c .before .before .before in
+    infinity-root binary64 (s .args .x) (held s) (subst T (sym (c .before .if2 .taken)) tt) (c .if3 .left)
+
 returns-4 : tie.Need-returns-4
-returns-4 c =
-    let s = c .before .before .before .before in
-    infinity-own binary64 (s .args .x) (held s) (c .if4 .taken)
-
-returns-5 : tie.Need-returns-5
-returns-5 c =
-    let s = c .before .before .before .before .before in
-    minus-zero-own binary64 (s .args .x) (held s) (c .if5 .taken)
-
-returns-6 : tie.Need-returns-6
-returns-6 c =
-    let s = c .before .before .before .before .before in
-    negative-root binary64 (s .args .x) (held s) (no-nan (s .args .x) (c .before .before .before .before .if1 .left)) (λ l. not-le-of-lt l (c .before .before .if3 .left)) (c .before .if4 .left) (c .if5 .left)
+returns-4 c = own-root binary64 (c .before .before .args .x) (c .before .if1 .left) (c .if2 .left)
 
 pub sqrt64-spec : {M : Type 1} → statement M
-sqrt64-spec = tie.close (tie.spec float-to-bits-b root-bits-requires float-from-bits-result returns returns-2 returns-3 returns-4 returns-5 returns-6)
+sqrt64-spec = tie.close (tie.spec returns float-to-bits-b root-bits-requires float-from-bits-result returns-2 returns-3 returns-4)
