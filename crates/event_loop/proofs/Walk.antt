@@ -14,6 +14,7 @@ use Rattle.feed.specs.Split.{kind, low-bits, following, piece-length, Piece, pi
 use Rattle.feed.specs.Shape.{shape-by-kind, shape}
 use Rattle.feed.specs.Decode.{piece-at}
 use Rattle.feed.proofs.Reading.{shape-taken}
+use Rattle.event_loop.specs.Loop.{Loop}
 use Rattle.event_loop.specs.Shaped.{event-or-other, shaped, shaped-piece, shaped-events, shaped-after, shaped-at, next-place}
 
 -- ---- the three ways of `shaped_at`
@@ -113,14 +114,17 @@ module _ (ws : List ℕ) (at : ℕ) (here : at < length ws) where
       go true t = omega (arith, ltb-true (following (getD ws at 0)) (length ws - at) t)
       go false t = omega arith
 
--- ---- a loop: `run` steps through a list of events, and the loop through the feed by `step`. `Left` is what is left to do at a place.
+-- the measure of a loop
+pub less : (ws : List ℕ) (at : ℕ) → at < length ws → length ws - next-place ws at < length ws - at
+less ws at here = omega (arith, further ws at here, within ws at here)
+
+-- ---- the law of loops
 module _ {S : Type 0} (run : List Event → S → S) (step : Event → S → S) (run-none : (s : S) → run [] s ≡ s)
     (run-more : (e : Event) (es : List Event) (s : S) → run (e ∷ es) s ≡ run es (step e s)) where
-  pub begins : (ws : List ℕ) (s : S) → run (shaped-after ws 0) s ≡ run (shaped-events ws) s
-  begins ws s = ap (λ (es : List Event). run es s) (first ws)
-
-  pub goes-on : (ws : List ℕ) (at : ℕ) (s : S) → at < length ws → run (shaped-after ws (next-place ws at)) (step (shaped-at ws at) s) ≡ run (shaped-after ws at) s
-  goes-on ws at s here = sym (ap (λ (es : List Event). run es s) (next ws at here) ∙ run-more _ _ s)
-
-  pub ends : (ws : List ℕ) (at : ℕ) (s : S) → length ws ≤ at → run (shaped-after ws at) s ≡ s
-  ends ws at s h = ap (λ (es : List Event). run es s) (past ws at h) ∙ run-none s
+  pub loop : Loop run step
+  loop =
+      record {
+        begins = λ ws s. ap (λ (es : List Event). run es s) (first ws);
+        goes-on = λ ws at s here. sym (ap (λ (es : List Event). run es s) (next ws at here) ∙ run-more _ _ s);
+        ends = λ ws at s h. ap (λ (es : List Event). run es s) (past ws at h) ∙ run-none s;
+      }
