@@ -32,6 +32,13 @@ id-places = 66
 abbrev pub key-count : ℕ
 key-count = 145
 
+-- "button 0–4", "unit (Point, Line, Page)"
+abbrev pub button-count : ℕ
+button-count = 5
+
+abbrev pub unit-count : ℕ
+unit-count = 3
+
 -- "layer order over 4"
 abbrev pub max-order : ℕ
 max-order = 4

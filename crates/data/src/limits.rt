@@ -16,6 +16,10 @@ pub const ID_PLACES: usize = 66;
 
 pub const KEY_COUNT: u32 = 145;
 
+pub const BUTTON_COUNT: u32 = 5;
+
+pub const UNIT_COUNT: u32 = 3;
+
 pub const MAX_ORDER: u32 = 4;
 
 pub const MAX_TALLY: u32 = 4294967295;

@@ -2,6 +2,7 @@
 use mathlib.Core.Path.{_≡_, refl, sym, ap, _∙_, subst}
 use mathlib.Core.Bool.{Bool, true, false, cond}
 use mathlib.Core.List.{List, [], _∷_}
+use mathlib.Core.Option.{none}
 use Prim.Native.Nat.{ℕ, suc, _+_, _-_, _%_, _≤_, _<_}
 use native.Mathlib.Omega.{arith}
 use lib.Dec.{T, eqb, ltb, lt→ltb}
@@ -12,8 +13,9 @@ use Rattle.feed.specs.Types.{Event, MaybeEvent, no-event, some-event, Ev
 use Rattle.feed.specs.Types.found as found
 use Rattle.feed.specs.Split.{kind, low-bits, following, piece-length}
 use Rattle.feed.specs.Shape.{clean, field-below, key-shape, modifiers-shape, moved-shape, motion-shape, button-shape, zoom-shape, rotate-shape, touch-shape, wheel-shape, focus-shape, shape-by-kind, shape}
-use Rattle.feed.specs.Decode.{Decoded, good, malformed, outside-domain, decode, check-floats, Item, items-after, piece-at, found-at, event-at}
+use Rattle.feed.specs.Decode.{Decoded, good, malformed, outside-domain, decode, check-floats, Item, items-after, piece-at, found-at, event-at, found-refusal}
 use Rattle.feed.specs.Encode.{fields-ok}
+use Rattle.feed.specs.Feed.{then-refusal}
 use Rattle.feed.specs.Laws.{Steps, DecodedInDomain}
 use Rattle.feed.proofs.Reading.{items-next, event-at-short}
 
@@ -38,6 +40,13 @@ unfolding found-at
 found-outside (good e) n h = absurd-case (cc)
 found-outside malformed n h = absurd-case (cc)
 found-outside outside-domain n h = refl
+
+-- the refusal of an answer is that of the item
+pub refusal-is : (at n : ℕ) (d : Decoded) → found-refusal at (found-at d n) ≡ then-refusal at d none
+unfolding found-refusal found-at then-refusal
+refusal-is at n (good e) = refl
+refusal-is at n malformed = refl
+refusal-is at n outside-domain = refl
 
 module _ (ws : List ℕ) (at : ℕ) (here : at < length ws) where
   -- a whole event

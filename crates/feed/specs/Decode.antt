@@ -4,7 +4,8 @@ use mathlib.Core.Bool.{cond}
 use mathlib.Core.List.{List, [], _∷_, map}
 use lib.ListN.{getD, take, drop}
 use Rattle.data.specs.Limits.{event-ok}
-use Rattle.feed.specs.Types.{Event, MaybeEvent, no-event, some-event, EventAt}
+use mathlib.Core.Option.{Option, none, some}
+use Rattle.feed.specs.Types.{Event, MaybeEvent, no-event, some-event, EventAt, PassRefusal, Malformed, OutsideDomain}
 use Rattle.feed.specs.Types.found as found
 use Rattle.feed.specs.Split.{Piece, pieces, pieces-from, piece-length}
 use Rattle.feed.specs.Shape.{shape}
@@ -51,3 +52,9 @@ found-at outside-domain next = found.OutsideDomain
 
 unfoldable pub event-at : List ℕ → ℕ → EventAt
 event-at ws at = found-at (decode (piece-at ws at)) (at + piece-length (getD ws at 0))
+
+-- the refusal that an answer at word `at` is: `pass-refusal-number` has its number
+unfoldable pub found-refusal : ℕ → EventAt → Option PassRefusal
+found-refusal at (found.Event e next) = none
+found-refusal at found.Malformed = some (Malformed at)
+found-refusal at found.OutsideDomain = some (OutsideDomain at)

@@ -6,7 +6,7 @@ use mathlib.Core.List.{List, [], _∷_}
 use lib.Dec.{eqb, ltb}
 use lib.ListN.{getD, length}
 use lib.Ieee.{Float, binary32, ofBits}
-use Rattle.data.specs.Limits.{key-count}
+use Rattle.data.specs.Limits.{key-count, button-count, unit-count}
 use Rattle.data.specs.Bits.{bit-of}
 use Rattle.data.specs.Modifiers.{modifiers-of}
 use Rattle.feed.specs.Types.{Pos2, Vec2, PointerButton, Primary, Secondary, Middle, Extra1, Extra2, MouseWheelUnit, Point, Line, Page}
@@ -71,7 +71,7 @@ motion-shape low x y = clean 1 low (some-event (MouseMoved (vec-of x y)))
 -- 5 button: flags, bits 5–7 button, 8 pressed
 unfoldable pub button-shape : ℕ → ℕ → ℕ → MaybeEvent
 button-shape low x y =
-    clean 512 low (field-below 5 (low / 32 % 8) (some-event (Button (pos-of x y) (button-of (low / 32 % 8)) (bit-of 256 low) (modifiers-of low))))
+    clean 512 low (field-below button-count (low / 32 % 8) (some-event (Button (pos-of x y) (button-of (low / 32 % 8)) (bit-of 256 low) (modifiers-of low))))
 
 -- 7 zoom, 8 rotate: no low bits
 unfoldable pub zoom-shape : ℕ → ℕ → MaybeEvent
@@ -96,7 +96,7 @@ touch-shape low ws =
 unfoldable pub wheel-shape : ℕ → ℕ → ℕ → MaybeEvent
 wheel-shape low x y =
     clean 2048 low
-    (field-below 3 (low / 32 % 4)
+    (field-below unit-count (low / 32 % 4)
     (some-event (MouseWheel (unit-of (low / 32 % 4)) (vec-of x y) (phase-of (low / 128 % 4)) (source-of (low / 512 % 4)) (modifiers-of low))))
 
 -- 11 window focus: bit 0 focused

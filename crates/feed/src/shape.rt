@@ -9,7 +9,9 @@ use crate::fields::source_of;
 use crate::fields::unit_of;
 use crate::fields::vec_of;
 use data::event::Event;
+use data::limits::BUTTON_COUNT;
 use data::limits::KEY_COUNT;
+use data::limits::UNIT_COUNT;
 use data::modifiers::Modifiers;
 use data::touch::MaybeF32;
 ghost use mathlib.Core.Path.{_≡_};
@@ -76,7 +78,7 @@ fn button_shape(low: u32, x: u32, y: u32) -> MaybeEvent
 {
     let number = low / 32 % 8;
     if low < 512 {
-        if number < 5 {
+        if number < BUTTON_COUNT {
             let pos = pos_of(x, y);
             let button = button_of(number);
             let modifiers = Modifiers::of(low);
@@ -130,7 +132,7 @@ fn wheel_shape(low: u32, x: u32, y: u32) -> MaybeEvent
 {
     let number = low / 32 % 4;
     if low < 2048 {
-        if number < 3 {
+        if number < UNIT_COUNT {
             let unit = unit_of(number);
             let delta = vec_of(x, y);
             let phase = phase_of(low / 128 % 4);

@@ -1,0 +1,6 @@
+pub mod Places
+pub mod Removal
+pub mod Sums
+pub mod Upsert
+pub mod Averages
+pub mod Known

@@ -1,0 +1,240 @@
+// The devices that are known, by ascending id in the first `count` places: egui's BTreeMap.
+use crate::device::Device;
+use data::limits::MAX_DEVICES;
+use data::touch::ActiveTouch;
+use data::touch::MaybeMultiTouchInfo;
+use data::touch::TouchPhase;
+use emath::pos2::MaybePos2;
+ghost use mathlib.Core.Path.{_≡_};
+ghost use mathlib.Core.List.{[], map};
+ghost use Prim.Native.Nat.{_≤_, _<_};
+ghost use lib.ListN.{length, set};
+ghost use Rattle.data.specs.Limits.{max-devices};
+ghost use Rattle.model.specs.Touch.{no-place, find-device, info-at, multi-touch, any-touches, any-touches-at, has-touch-screen};
+ghost use Rattle.touch_state.specs.View.{known, device-id, place, index, is-at, inserted-at, view, marked, touch-step, end-marked};
+
+pub struct Devices {
+    pub count: usize,
+    pub places: [Device; MAX_DEVICES],
+}
+
+pub fn none() -> Devices
+    ensures { λ r. ⌜ marked r ≡ [] ⌝ }
+{
+    let device = crate::device::new(0);
+    let places = [device; MAX_DEVICES];
+    Devices {
+        count: 0,
+        places: places,
+    }
+}
+
+// The number of devices: a count beyond the places means that all are taken.
+pub fn len(ds: Devices) -> usize
+    ensures { λ r. ⌜ r ≡ length (known ds) ⌝ }
+{
+    let n = ds.count;
+    if n < MAX_DEVICES {
+        return n;
+    }
+    MAX_DEVICES
+}
+
+// The first place with this id or a greater one.
+fn place_of(ds: Devices, id: u64) -> usize
+    ensures { λ r. ⌜ r ≡ place device-id id (known ds) ⌝ }
+{
+    let n = len(ds);
+    let a = ds.places;
+    let mut i: usize = 0;
+    while i < n {
+        let x = a[i];
+        if x.id >= id {
+            return i;
+        }
+        i += 1;
+    }
+    i
+}
+
+// The first place with this id, or the number of devices.
+fn index_of(ds: Devices, id: u64) -> usize
+    ensures { λ r. ⌜ r ≡ index device-id id (known ds) ⌝ }
+{
+    let n = len(ds);
+    let a = ds.places;
+    let mut i: usize = 0;
+    while i < n {
+        let x = a[i];
+        if x.id == id {
+            return i;
+        }
+        i += 1;
+    }
+    i
+}
+
+// Does the device at place i have this id?
+fn is_at(ds: Devices, i: usize, id: u64) -> bool
+    ensures { λ r. ⌜ r ≡ is-at device-id i id (known ds) ⌝ }
+{
+    if i < len(ds) {
+        let a = ds.places;
+        let x = a[i];
+        return id == x.id;
+    }
+    false
+}
+
+// The devices from place i on move up by one.
+fn insert_at(ds: Devices, i: usize, d: Device) -> Devices
+    requires { ⌜ (i ≤ length (known ds)) × (length (known ds) < max-devices) ⌝ }
+    ensures { λ r. ⌜ known r ≡ inserted-at i d (known ds) ⌝ }
+{
+    let n = len(ds);
+    let mut a = ds.places;
+    let mut carry = d;
+    let mut k = i;
+    while k < n {
+        let x = a[k];
+        a[k] = carry;
+        carry = x;
+        k += 1;
+    }
+    a[n] = carry;
+    Devices {
+        count: n + 1,
+        places: a,
+    }
+}
+
+fn put(ds: Devices, i: usize, d: Device) -> Devices
+    requires { ⌜ i < length (known ds) ⌝ }
+    ensures { λ r. ⌜ known r ≡ set (known ds) i d ⌝ }
+{
+    let mut a = ds.places;
+    a[i] = d;
+    Devices {
+        count: ds.count,
+        places: a,
+    }
+}
+
+// A touch event makes its device known and changes the touches that it holds.
+pub fn on_touch(ds: Devices, device_id: u64, phase: TouchPhase, t: ActiveTouch) -> Devices
+    ensures { λ r. ⌜ marked r ≡ touch-step «device_id» phase t (marked ds) ⌝ }
+{
+    let i = place_of(ds, device_id);
+    if is_at(ds, i, device_id) {
+        let a = ds.places;
+        let d = a[i];
+        return put(ds, i, crate::device::on_touch(d, phase, t));
+    }
+    if len(ds) < MAX_DEVICES {
+        let d = crate::device::new(device_id);
+        return insert_at(ds, i, crate::device::on_touch(d, phase, t));
+    }
+    ds
+}
+
+// Is there no place for a touch event: a device too many, or the Start of a touch too many?
+pub fn no_place(ds: Devices, device_id: u64, phase: TouchPhase, id: u64) -> bool
+    ensures { λ r. ⌜ r ≡ no-place phase id (length (view ds)) (find-device «device_id» (view ds)) ⌝ }
+{
+    let n = len(ds);
+    let i = index_of(ds, device_id);
+    if i < n {
+        let a = ds.places;
+        let d = a[i];
+        return crate::device::is_full(d, phase, id);
+    }
+    MAX_DEVICES <= n
+}
+
+// The end of a pass for every device.
+pub fn end_pass(ds: Devices, time: f64, pointer_pos: MaybePos2) -> Devices
+    ensures { λ r. ⌜ marked r ≡ map (end-marked time «pointer_pos») (marked ds) ⌝ }
+{
+    let n = len(ds);
+    let mut a = ds.places;
+    let mut i: usize = 0;
+    while i < n {
+        let d = a[i];
+        let e = crate::device::end_pass(d, time, pointer_pos);
+        a[i] = e;
+        i += 1;
+    }
+    Devices {
+        count: n,
+        places: a,
+    }
+}
+
+// The info of a device: none if it is not known.
+pub fn info(ds: Devices, device_id: u64) -> MaybeMultiTouchInfo
+    ensures { λ r. ⌜ r ≡ info-at (find-device «device_id» (view ds)) ⌝ }
+{
+    let i = index_of(ds, device_id);
+    if i < len(ds) {
+        let a = ds.places;
+        let d = a[i];
+        return crate::info::info(d);
+    }
+    MaybeMultiTouchInfo::None
+}
+
+// The info of the first device that has one.
+pub fn multi_touch(ds: Devices) -> MaybeMultiTouchInfo
+    ensures { λ r. ⌜ r ≡ multi-touch (view ds) ⌝ }
+{
+    let n = len(ds);
+    let a = ds.places;
+    let mut i: usize = 0;
+    while i < n {
+        let d = a[i];
+        let info = crate::info::info(d);
+        match info {
+            MaybeMultiTouchInfo::Some(g) => {
+                return MaybeMultiTouchInfo::Some(g);
+            }
+            MaybeMultiTouchInfo::None => {}
+        }
+        i += 1;
+    }
+    MaybeMultiTouchInfo::None
+}
+
+pub fn any_touches(ds: Devices) -> bool
+    ensures { λ r. ⌜ r ≡ any-touches (view ds) ⌝ }
+{
+    let n = len(ds);
+    let a = ds.places;
+    let mut i: usize = 0;
+    while i < n {
+        let d = a[i];
+        if crate::device::any_touches(d) {
+            return true;
+        }
+        i += 1;
+    }
+    false
+}
+
+// Are there touches on this device?
+pub fn any_touches_of(ds: Devices, device_id: u64) -> bool
+    ensures { λ r. ⌜ r ≡ any-touches-at (find-device «device_id» (view ds)) ⌝ }
+{
+    let i = index_of(ds, device_id);
+    if i < len(ds) {
+        let a = ds.places;
+        let d = a[i];
+        return crate::device::any_touches(d);
+    }
+    false
+}
+
+pub fn has_touch_screen(ds: Devices) -> bool
+    ensures { λ r. ⌜ r ≡ has-touch-screen (view ds) ⌝ }
+{
+    len(ds) > 0
+}
