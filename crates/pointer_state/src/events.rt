@@ -12,12 +12,18 @@ ghost use Prim.Native.Nat.{_+_, _*_, _<_};
 ghost use lib.ListN.{length};
 ghost use lib.Ieee.{Float};
 ghost use Rattle.emath.specs.Ring.{set-position};
+ghost use Rattle.data.specs.Limits.{max-events};
 ghost use Rattle.feed.specs.Shape.{button-of};
 ghost use Rattle.model.specs.Types.{Pos2, Click, Pressed, Released, no-click, some-click};
 ghost use Rattle.model.specs.Pointer.{any};
 ghost use Rattle.model.specs.Questions.{same-button};
 ghost use Rattle.pointer_state.specs.Types.{Entry};
 ghost use Rattle.pointer_state.specs.Events.{event-of, entry-of, entry-at, events, counted, event-or-none, asks, codes-with, Pushed};
+
+// Four codes and two parts of a position for each event.
+pub const CODES: usize = 4 * MAX_EVENTS;
+
+pub const PLACES: usize = 2 * MAX_EVENTS;
 
 // An event in numbers.
 pub struct Entry {
@@ -48,7 +54,7 @@ pub enum Sought {
     ClicksOf(u32, PointerButton),
 }
 
-fn counted(count: usize) -> usize
+pub fn counted(count: usize) -> usize
     ensures { λ r. ⌜ r ≡ counted count ⌝ }
 {
     if count < MAX_EVENTS {
@@ -138,8 +144,8 @@ fn entry_of(e: PointerEvent) -> Entry
     }
 }
 
-fn entry_at(codes: &[u32; 256], positions: &[f32; 128], i: usize) -> Entry
-    requires { ⌜ i < 64 ⌝ }
+fn entry_at(codes: &[u32; CODES], positions: &[f32; PLACES], i: usize) -> Entry
+    requires { ⌜ i < max-events ⌝ }
     ensures { λ r. ⌜ r ≡ entry-at (now (codes .entry)) (now (positions .entry)) i ⌝ }
 {
     let pos = Pos2 {
@@ -157,8 +163,8 @@ fn entry_at(codes: &[u32; 256], positions: &[f32; 128], i: usize) -> Entry
 
 // Event `i` of `count`.
 pub fn event_at(
-    codes: &[u32; 256],
-    positions: &[f32; 128],
+    codes: &[u32; CODES],
+    positions: &[f32; PLACES],
     count: usize,
     i: usize,
 ) -> MaybePointerEvent
@@ -191,8 +197,8 @@ fn set_position(positions: &mut [f32], i: usize, pos: Pos2)
 
 // One event more, and the new count; where there are 64 all stays.
 pub fn push(
-    codes: &mut [u32; 256],
-    positions: &mut [f32; 128],
+    codes: &mut [u32; CODES],
+    positions: &mut [f32; PLACES],
     count: usize,
     e: PointerEvent,
 ) -> usize
@@ -274,7 +280,7 @@ fn matches(sought: Sought, kind: u32, button: u32, count: u32) -> bool
 }
 
 // Is one of the events what is sought.
-pub fn any(codes: &[u32; 256], count: usize, sought: Sought) -> bool
+pub fn any(codes: &[u32; CODES], count: usize, sought: Sought) -> bool
     ensures { λ r. ⌜ ((positions : List Float) → r ≡ any (asks sought) (events (now (codes .entry)) positions count)) ⌝ }
 {
     let n = counted(count);

@@ -1,6 +1,8 @@
 // Where the pointer is and how it moves. The caller lends the places of the history.
 use data::event::Event;
 use emath::history::History;
+use emath::history::MAX_LEN;
+use emath::history::PARTS;
 use emath::pos2::MaybePos2;
 use emath::pos2::Pos2;
 use emath::vec2::MaybeVec2;
@@ -12,8 +14,9 @@ ghost use lib.Ieee.{Float};
 ghost use Rattle.emath.specs.Vec.{normalized};
 ghost use Rattle.emath.specs.History.{velocity};
 ghost use Rattle.emath.specs.Ring.{view};
-ghost use Rattle.model.specs.Types.{PointerButton, Modifiers, Event, Button};
+ghost use Rattle.model.specs.Types.{PointerButton, Modifiers, Event, Button, PointerGone};
 ghost use Rattle.model.specs.Pointer.{unwrap-or-default, zero-motion, add-motion, place-event, clear-history-after, start-place, delta-of, velocity-of};
+ghost use Rattle.model.specs.Pass.{fresh-place};
 ghost use Rattle.pointer_state.specs.View.{place, Sampled, Ended};
 
 pub struct Place {
@@ -24,6 +27,25 @@ pub struct Place {
     pub velocity: Vec2,
     pub direction: Vec2,
     pub history: History,
+}
+
+impl Place {
+    // Default for PointerState
+    pub fn fresh() -> Place
+        ensures { λ r. ⌜ ((times positions : List Float) → place times positions r ≡ fresh-place) ⌝ }
+    {
+        let zero = Vec2::zero();
+        let history = History::new();
+        Place {
+            latest_pos: MaybePos2::None,
+            interact_pos: MaybePos2::None,
+            delta: zero,
+            motion: MaybeVec2::None,
+            velocity: zero,
+            direction: zero,
+            history,
+        }
+    }
 }
 
 fn unwrap_or_default(v: MaybeVec2) -> Vec2
@@ -86,6 +108,17 @@ fn button_place(p: Place, pos: Pos2, pressed: bool) -> Place
     }
 }
 
+fn gone_place(p: Place) -> Place
+    ensures { λ r. ⌜ ((times positions : List Float) → place times positions r ≡ place-event PointerGone (place times positions p)) ⌝ }
+{
+    let kept = p.interact_pos;
+    Place {
+        latest_pos: MaybePos2::None,
+        interact_pos: kept,
+        ..p
+    }
+}
+
 // An event's effect on it. A press clears the history; a pointer that is gone keeps its interact position.
 pub fn place_event(p: Place, e: Event) -> Place
     ensures { λ r. ⌜ ((times positions : List Float) → place times positions r ≡ place-event e (place times positions p)) ⌝ }
@@ -102,10 +135,7 @@ pub fn place_event(p: Place, e: Event) -> Place
             Place { motion, ..p }
         }
         Event::PointerButton(pos, _, pressed, _) => button_place(p, pos, pressed),
-        Event::PointerGone => Place {
-            latest_pos: MaybePos2::None,
-            ..p
-        },
+        Event::PointerGone => gone_place(p),
         Event::Key(_, _) => p,
         Event::ModifiersChanged(_) => p,
         Event::Zoom(_) => p,
@@ -150,7 +180,7 @@ fn delta_of(old: MaybePos2, new: MaybePos2) -> Vec2
 }
 
 // Of at least 3 samples over more than 0.01 s.
-fn velocity_of(h: History, times: &[f64; 1000], positions: &[f32; 2000]) -> Vec2
+fn velocity_of(h: History, times: &[f64; MAX_LEN], positions: &[f32; PARTS]) -> Vec2
     ensures { λ r. ⌜ r ≡ velocity-of (view (now (times .entry)) (now (positions .entry)) h) ⌝ }
 {
     if h.len() < 3 {
@@ -162,7 +192,7 @@ fn velocity_of(h: History, times: &[f64; 1000], positions: &[f32; 2000]) -> Vec2
     Vec2::zero()
 }
 
-fn direction_of(h: History, times: &[f64; 1000], positions: &[f32; 2000]) -> Vec2
+fn direction_of(h: History, times: &[f64; MAX_LEN], positions: &[f32; PARTS]) -> Vec2
     ensures { λ r. ⌜ r ≡ normalized (unwrap-or-default (velocity (view (now (times .entry)) (now (positions .entry)) h))) ⌝ }
 {
     let v = unwrap_or_default(h.velocity(times, positions));
@@ -172,8 +202,8 @@ fn direction_of(h: History, times: &[f64; 1000], positions: &[f32; 2000]) -> Vec
 // The history with the latest position, if there is one.
 fn sampled(
     h: History,
-    times: &mut [f64; 1000],
-    positions: &mut [f32; 2000],
+    times: &mut [f64; MAX_LEN],
+    positions: &mut [f32; PARTS],
     time: f64,
     latest: MaybePos2,
 ) -> History
@@ -200,17 +230,17 @@ fn cleared(h: History, gone: bool) -> History
 // The end of a pass that began with the pointer at `old`: delta, history, velocity, direction.
 pub fn end_place(
     p: Place,
-    times: &mut [f64; 1000],
-    positions: &mut [f32; 2000],
+    times: &mut [f64; MAX_LEN],
+    positions: &mut [f32; PARTS],
     time: f64,
     old: MaybePos2,
     gone: bool,
 ) -> Place
     ensures { λ r. ⌜ Ended time old gone (now (times .entry)) (now (positions .entry)) p (now (times .exit)) (now (positions .exit)) r ⌝ }
 {
-    let latest = p.latest_pos;
-    let delta = delta_of(old, latest);
-    let h = sampled(p.history, times, positions, time, latest);
+    let new = p.latest_pos;
+    let delta = delta_of(old, new);
+    let h = sampled(p.history, times, positions, time, new);
     let velocity = velocity_of(h, times, positions);
     let history = cleared(h, gone);
     let direction = direction_of(history, times, positions);

@@ -1,4 +1,6 @@
 // Which buttons are down, what happened in the pass, and what presses and clicks leave behind.
+use crate::events::CODES;
+use crate::events::PLACES;
 use crate::events::Sought;
 use crate::events::any;
 use crate::events::push;
@@ -14,13 +16,14 @@ use data::pointer::PointerEvent;
 use emath::pos2::MaybePos2;
 use emath::pos2::Pos2;
 ghost use mathlib.Core.Path.{_≡_};
-ghost use mathlib.Core.Bool.{true, false, _||_};
+ghost use mathlib.Core.Bool.{true, false, not, _||_, _&&_};
 ghost use mathlib.Core.List.{List};
 ghost use Prim.Native.Nat.{ℕ};
 ghost use lib.Ieee.{Float};
 ghost use Rattle.model.specs.Types.{PointerMoved, Button};
 ghost use Rattle.model.specs.Pointer.{set-down, button-down, any-down, press-too-long, near, click-count, too-far, click-of, remember-click};
 ghost use Rattle.model.specs.Pointer.{could-any-button-be-click, is-decidedly-dragging, clear-events};
+ghost use Rattle.model.specs.Pass.{fresh-press};
 ghost use Rattle.pointer_state.specs.View.{held, past, press, Stepped};
 
 // The pass's events are the first `event_count` in the lent arrays.
@@ -41,6 +44,34 @@ pub struct ClickPast {
 pub struct Press {
     pub held: Held,
     pub past: ClickPast,
+}
+
+impl Press {
+    // Default for PointerState
+    pub fn fresh() -> Press
+        ensures { λ r. ⌜ ((codes : List ℕ) (positions : List Float) → press codes positions r ≡ fresh-press) ⌝ }
+    {
+        let down = ButtonsDown {
+            primary: false,
+            secondary: false,
+            middle: false,
+            extra1: false,
+            extra2: false,
+        };
+        let held = Held {
+            down,
+            press_origin: MaybePos2::None,
+            press_start_time: MaybeF64::None,
+            event_count: 0,
+        };
+        let past = ClickPast {
+            has_moved_too_much_for_a_click: false,
+            last_click_pos: MaybePos2::None,
+            last_click_time: -1.0 / 0.0,
+            last_last_click_time: -1.0 / 0.0,
+        };
+        Press { held, past }
+    }
 }
 
 fn set_down(down: ButtonsDown, button: PointerButton, pressed: bool) -> ButtonsDown
@@ -101,7 +132,7 @@ pub fn press_too_long(options: InputOptions, time: f64, start: MaybeF64) -> bool
 
 pub fn could_any_button_be_click(
     h: Held,
-    codes: &[u32; 256],
+    codes: &[u32; CODES],
     options: InputOptions,
     time: f64,
     moved: bool,
@@ -124,7 +155,7 @@ pub fn could_any_button_be_click(
 
 pub fn is_decidedly_dragging(
     h: Held,
-    codes: &[u32; 256],
+    codes: &[u32; CODES],
     options: InputOptions,
     time: f64,
     moved: bool,
@@ -234,8 +265,8 @@ fn remember_click(clicked: bool, time: f64, pos: Pos2, p: ClickPast) -> ClickPas
 
 fn moved(
     s: Press,
-    codes: &mut [u32; 256],
-    positions: &mut [f32; 128],
+    codes: &mut [u32; CODES],
+    positions: &mut [f32; PLACES],
     options: InputOptions,
     pos: Pos2,
 ) -> Press
@@ -259,8 +290,8 @@ fn moved(
 
 fn pressed(
     s: Press,
-    codes: &mut [u32; 256],
-    positions: &mut [f32; 128],
+    codes: &mut [u32; CODES],
+    positions: &mut [f32; PLACES],
     time: f64,
     pos: Pos2,
     button: PointerButton,
@@ -289,11 +320,11 @@ fn pressed(
     Press { held, past }
 }
 
-// Whether it clicks is judged before the button is marked up.
+// Whether it clicks is judged by `before`, in which the button is not yet marked up.
 fn released(
     s: Press,
-    codes: &mut [u32; 256],
-    positions: &mut [f32; 128],
+    codes: &mut [u32; CODES],
+    positions: &mut [f32; PLACES],
     options: InputOptions,
     time: f64,
     pos: Pos2,
@@ -302,37 +333,29 @@ fn released(
 ) -> Press
     ensures { λ r. ⌜ Stepped options time (Button pos button false modifiers) (now (codes .entry)) (now (positions .entry)) s (now (codes .exit)) (now (positions .exit)) r ⌝ }
 {
-    let h = s.held;
+    let before = s.held;
     let p = s.past;
-    let clicked = could_any_button_be_click(
-        h,
-        codes,
-        options,
-        time,
-        p.has_moved_too_much_for_a_click,
-    );
-    let click = click_of(clicked, options, time, pos, modifiers, p);
-    let past = remember_click(clicked, time, pos, p);
-    let count = push(
-        codes,
-        positions,
-        h.event_count,
-        PointerEvent::Released(click, button),
-    );
-    let down = set_down(h.down, button, false);
-    let held = Held {
+    let down = set_down(before.down, button, false);
+    let up = Held {
         down,
         press_origin: MaybePos2::None,
         press_start_time: MaybeF64::None,
-        event_count: count,
+        event_count: before.event_count,
     };
+    let moved = p.has_moved_too_much_for_a_click;
+    let clicked = could_any_button_be_click(before, codes, options, time, moved);
+    let click = click_of(clicked, options, time, pos, modifiers, p);
+    let past = remember_click(clicked, time, pos, p);
+    let e = PointerEvent::Released(click, button);
+    let mut held = up;
+    held.event_count = push(codes, positions, before.event_count, e);
     Press { held, past }
 }
 
 fn button_event(
     s: Press,
-    codes: &mut [u32; 256],
-    positions: &mut [f32; 128],
+    codes: &mut [u32; CODES],
+    positions: &mut [f32; PLACES],
     options: InputOptions,
     time: f64,
     pos: Pos2,
@@ -351,8 +374,8 @@ fn button_event(
 // An event's effect on presses and clicks. The events end at 64: a 65th is left out, and the rest goes on.
 pub fn press_event(
     s: Press,
-    codes: &mut [u32; 256],
-    positions: &mut [f32; 128],
+    codes: &mut [u32; CODES],
+    positions: &mut [f32; PLACES],
     options: InputOptions,
     time: f64,
     e: Event,
@@ -385,6 +408,21 @@ pub fn press_event(
         Event::WindowFocused(_) => s,
         Event::Other => s,
     }
+}
+
+// Did is_decidedly_dragging go from false to true in this pass; `was` is its answer before the pass.
+pub fn started_decidedly_dragging(
+    h: Held,
+    codes: &[u32; CODES],
+    options: InputOptions,
+    time: f64,
+    moved: bool,
+    was: bool,
+) -> bool
+    ensures { λ r. ⌜ ((positions : List Float) → r ≡ (is-decidedly-dragging options time (held (now (codes .entry)) positions h) moved && not was)) ⌝ }
+{
+    let is = is_decidedly_dragging(h, codes, options, time, moved);
+    is & !was
 }
 
 // pointer_events.clear()

@@ -24,6 +24,9 @@ button-place-requires c κs = search needs
 enum-told : tie.Need-enum-told
 enum-told c = search needs
 
+gone-place-requires : tie.Need-gone-place-requires
+gone-place-requires c κs = search needs
+
 enum-told-2 : tie.Need-enum-told-2
 enum-told-2 c = search needs
 
@@ -62,7 +65,7 @@ returns-3 c ts ps = rw (c .before .before .e3 .given .1) (c .button-place .ensur
 
 returns-4 : tie.Need-returns-4
 unfolding place-event with-place
-returns-4 c ts ps = rw (c .before .before .before .before .enum-told .given .1)
+returns-4 c ts ps = rw (c .before .enum-told .given .1) (c .gone-place .ensures ts ps)
 
 returns-5 : tie.Need-returns-5
 unfolding place-event with-place
@@ -106,6 +109,7 @@ place-event-spec =
     enum-known-e-3
     button-place-requires
     enum-told
+    gone-place-requires
     enum-told-2
     enum-told-3
     enum-told-4
