@@ -128,9 +128,10 @@ module _ (ws ps : List ℕ) (at : ℕ) (here : at < length ws) (r : Room ws ps a
       let l = one-less in
       omega arith
 
-  pub room-next : (qs : List ℕ) (k k' : Keys) → keys qs k' ≡ key-event (shaped-at ws at) (keys ps k) → Room ws qs (next-place ws at)
-  room-next qs k k' e j =
+  pub room-next : (k : Keys) (new : Pass.Keys) → new ≡ key-event (shaped-at ws at) (keys ps k) →
+      (j : ℕ) → new .presses j + length (shaped-after ws (next-place ws at)) ≤ max-events
+  room-next k new e j =
       let h = r j in
       let l = one-less in
-      let g : presses-of qs j ≤ presses-of ps j + 1 = rw (ap (λ (s : Pass.Keys). s .presses j) e) (grows (shaped-at ws at) (keys ps k) j) in
+      let g : new .presses j ≤ presses-of ps j + 1 = rw (ap (λ (s : Pass.Keys). s .presses j) e) (grows (shaped-at ws at) (keys ps k) j) in
       omega arith

@@ -16,7 +16,7 @@ none-requires-2 : tie.Need-none-requires-2
 none-requires-2 c κs = search needs
 
 returns-2 : tie.Need-returns-2
-returns-2 c presses = unfocused _ _ _ _ _ (c .before .before .if1 .left) (c .before .none .ensures) (c .none2 .ensures)
+returns-2 c presses = unfocused presses _ _ _ _ (c .before .before .if1 .left) (c .before .none .ensures) (c .none2 .ensures)
 
 pub focus-spec : {M : Type 1} → statement M
 focus-spec = tie.close (tie.spec returns none-requires none-requires-2 returns-2)

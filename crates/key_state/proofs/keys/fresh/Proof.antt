@@ -11,7 +11,7 @@ none-requires-2 : tie.Need-none-requires-2
 none-requires-2 c κs = search needs
 
 returns : tie.Need-returns
-returns c presses zeros = fresh-is _ _ _ zeros (c .before .none .ensures) (c .none2 .ensures)
+returns c presses zeros = fresh-is presses _ _ zeros (c .before .none .ensures) (c .none2 .ensures)
 
 pub fresh-spec : {M : Type 1} → statement M
 fresh-spec = tie.close (tie.spec none-requires none-requires-2 returns)

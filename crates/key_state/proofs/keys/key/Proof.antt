@@ -27,7 +27,9 @@ returns c f room =
     (is-pressed (a .presses .now) (a .k) _ (a .place) _ (omega arith) (c .before .before .before .before .set .ensures) small (omega arith) (room (a .place)) (c .before .before .before .if2 .taken))
 
 returns-2 : tie.Need-returns-2
-returns-2 c f room = released _ _ _ _ _ (omega arith) (c .before .before .set .ensures) (c .before .if2 .left)
+returns-2 c f room =
+    let a = c .before .before .before .before .before .args in
+    released (a .presses .now) (a .k) _ (a .place) _ (omega arith) (c .before .before .set .ensures) (c .before .if2 .left)
 
 returns-3 : tie.Need-returns-3
 unfolding fields-ok

@@ -57,7 +57,7 @@ returns-2 c = rw (c .before .before .e2 .given .1) (λ f room. refl)
 
 returns-3 : tie.Need-returns-3
 unfolding key-event
-returns-3 c = rw (c .before .before .e3 .given .1) (λ f room. c .focus .ensures _)
+returns-3 c = rw (c .before .before .e3 .given .1) (λ f room. c .focus .ensures (c .before .before .before .before .args .presses .now))
 
 returns-4 : tie.Need-returns-4
 unfolding key-event

@@ -7,7 +7,7 @@ use Rattle.event_loop.proofs.Walk.{less}
 use Rattle.event_loop.specs.Shaped.{shaped-after, shaped-events}
 use Rattle.model.specs.Pass.{key-events}
 use Rattle.data.specs.Limits.{max-events}
-use lib.ListN.{length}
+use lib.ListN.{length, replicate}
 use Prim.Native.Nat.{_-_, _≤_}
 use mathlib.Core.Path.{_≡_, sym, _∙_}
 use Rattle.key_state.proofs.keys.keys_pass.Statement.{statement}
@@ -21,7 +21,7 @@ abbrev μ-loop : tie.MeasureT-loop
 μ-loop presses₀ feed s₀ at₀ presses s at = length feed - at
 
 loop-holds : tie.Need-loop-holds Inv-loop μ-loop
-loop-holds c h = (room-first _ _ cleared h, key-loop .begins _ _)
+loop-holds c h = (room-first (c .before .before .args .feed .now) (replicate 145 0) cleared h, key-loop .begins _ _)
 
 key-at-requires : tie.Need-key-at-requires Inv-loop μ-loop
 key-at-requires c κs = tt
@@ -30,18 +30,25 @@ next-place-requires : tie.Need-next-place-requires Inv-loop μ-loop
 next-place-requires c κs = tt
 
 loop-less : tie.Need-loop-less Inv-loop μ-loop
-loop-less c = rw (c .next-place .ensures) (less _ _ (c .before .before .before .loop-test .taken))
+loop-less c =
+    let o = c .before .before .before in
+    rw (c .next-place .ensures) (less (o .before .before .before .before .args .feed .now) (o .before .loop .at) (o .loop-test .taken))
 
 loop-again : tie.Need-loop-again Inv-loop μ-loop
 loop-again c h =
     let o = c .before .before .before in
+    let ws = o .before .before .before .before .args .feed .now in
+    let at = o .before .loop .at in
+    let ps = o .before .loop .presses in
     let here = o .loop-test .taken in
     let before = o .before .loop .inv h in
-    let step = c .before .key-at .ensures (fields _ _) (room-now _ _ _ here (before .0)) in
-    rw (c .next-place .ensures) (room-next _ _ _ here (before .0) _ _ _ step, rw step (key-loop .goes-on _ _ _ here ∙ before .1))
+    let step = c .before .key-at .ensures (fields ws at) (room-now ws ps at here (before .0)) in
+    rw (c .next-place .ensures) (room-next ws ps at here (before .0) _ _ step, rw step (key-loop .goes-on ws at _ here ∙ before .1))
 
 returns : tie.Need-returns Inv-loop μ-loop
-returns c h = sym (key-loop .ends _ _ _ (c .loop-test .left)) ∙ c .before .loop .inv h .1 ∙ start _ _ _ _ cleared
+returns c h =
+    let a = c .before .before .before .before .args in
+    sym (key-loop .ends _ _ _ (c .loop-test .left)) ∙ c .before .loop .inv h .1 ∙ start (a .feed .now) (a .presses .now) (replicate 145 0) (a .k) cleared
 
 pub keys-pass-spec : {M : Type 1} → statement M
 keys-pass-spec =

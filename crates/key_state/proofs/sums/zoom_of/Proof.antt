@@ -27,7 +27,9 @@ next-place-requires : tie.Need-next-place-requires Inv-loop μ-loop
 next-place-requires c κs = tt
 
 loop-less : tie.Need-loop-less Inv-loop μ-loop
-loop-less c = rw (c .next-place .ensures) (less _ _ (c .before .before .loop-test .taken))
+loop-less c =
+    let o = c .before .before in
+    rw (c .next-place .ensures) (less (o .before .before .before .args .feed .now) (o .before .loop .at) (o .loop-test .taken))
 
 loop-again : tie.Need-loop-again Inv-loop μ-loop
 loop-again c =
