@@ -18,11 +18,11 @@ use Rattle.input_questions.specs.declared.zoom.Zoom.{Zoom}
 use Rattle.input_questions.specs.declared.zoom.Zoom2d.{Zoom2d}
 
 -- the answers that are structs of this crate
-abbrev pub zoom-reply : Zoom → Reply
-zoom-reply z = zoom (z .factor) (z .exponent)
+abbrev pub zoom-answer : Zoom → Reply
+zoom-answer z = zoom (z .factor) (z .exponent)
 
-abbrev pub zoom-2d-reply : Zoom2d → Reply
-zoom-2d-reply z = zoom-2d (z .factor) (z .exponent)
+abbrev pub zoom-2d-answer : Zoom2d → Reply
+zoom-2d-answer z = zoom-2d (z .factor) (z .exponent)
 
 -- a question that reads the scale
 abbrev pub of-scale : Settled → Float → Reply → Type 0

@@ -1,8 +1,7 @@
 // The keys, and whether the feed was empty.
 use key_state::keys::Keys;
-ghost use Rattle.model.specs.Questions.{bool, count, number};
+ghost use Rattle.model.specs.Questions.{bool, count};
 ghost use Rattle.model.specs.Questions as ask;
-ghost use Rattle.key_state.specs.declared.keys.Keys.{Keys};
 ghost use Rattle.input_questions.specs.Answers.{of-keys, of-presses};
 
 // `key` is its place in egui's Key.

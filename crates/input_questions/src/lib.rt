@@ -4,6 +4,7 @@
 // device id in touch_state::devices.
 pub mod keys;
 pub mod repaint;
+pub mod screen;
 pub mod scrolling;
 pub mod touching;
 pub mod zoom;

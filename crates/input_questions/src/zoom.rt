@@ -9,7 +9,7 @@ use touch_state::devices::multi_touch;
 ghost use mathlib.Core.Path.{_≡_};
 ghost use Rattle.model.specs.Questions.{vector, rotation, zoom-by-axis};
 ghost use Rattle.model.specs.Questions as ask;
-ghost use Rattle.input_questions.specs.Answers.{zoom-reply, zoom-2d-reply, of-zoom, of-zoom-2d, of-rotation, of-translation};
+ghost use Rattle.input_questions.specs.Answers.{zoom-answer, zoom-2d-answer, of-zoom, of-zoom-2d, of-rotation, of-translation};
 
 // The host multiplies the factor by the exponential of the exponent.
 pub struct Zoom {
@@ -24,7 +24,7 @@ pub struct Zoom2d {
 }
 
 pub fn zoom_delta(ds: Devices, factor: f32, exponent: f32) -> Zoom
-    ensures { λ r. ⌜ of-zoom ask.zoom-delta ds factor exponent (zoom-reply r) ⌝ }
+    ensures { λ r. ⌜ of-zoom ask.zoom-delta ds factor exponent (zoom-answer r) ⌝ }
 {
     let gesture = multi_touch(ds);
     match gesture {
@@ -38,7 +38,7 @@ pub fn zoom_delta(ds: Devices, factor: f32, exponent: f32) -> Zoom
 
 // With one of the two scroll modifiers held, only its axis zooms.
 fn zoom_by_axis(is_horizontal: bool, is_vertical: bool, factor: f32, exponent: f32) -> Zoom2d
-    ensures { λ r. ⌜ zoom-2d-reply r ≡ zoom-by-axis «is_horizontal» «is_vertical» factor exponent ⌝ }
+    ensures { λ r. ⌜ zoom-2d-answer r ≡ zoom-by-axis «is_horizontal» «is_vertical» factor exponent ⌝ }
 {
     let mut f = Vec2 {
         x: factor,
@@ -83,7 +83,7 @@ pub fn zoom_delta_2d(
     modifiers: Modifiers,
     options: InputOptions,
 ) -> Zoom2d
-    ensures { λ r. ⌜ of-zoom-2d ask.zoom-delta-2d ds factor exponent modifiers options (zoom-2d-reply r) ⌝ }
+    ensures { λ r. ⌜ of-zoom-2d ask.zoom-delta-2d ds factor exponent modifiers options (zoom-2d-answer r) ⌝ }
 {
     let gesture = multi_touch(ds);
     match gesture {

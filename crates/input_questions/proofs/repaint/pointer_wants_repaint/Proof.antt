@@ -1,14 +1,14 @@
 -- An event is there where the count of events is not 0. Assumes nothing.
-use Rattle.pointer_state.specs.View.{held}
-use Rattle.pointer_state.proofs.Stored.{events-length}
-use Rattle.model.specs.Questions.{some-event}
-use Rattle.model.specs.Types.{PointerEvent}
-use lib.ListN.{length}
-use native.Mathlib.Omega.{arith}
 use Prim.Native.Nat.{_≤_, _<_}
 use mathlib.Core.List.{List, [], _∷_}
 use mathlib.Core.Bool.{true, false}
 use mathlib.Core.Path.{_≡_, refl}
+use native.Mathlib.Omega.{arith}
+use lib.ListN.{length}
+use Rattle.model.specs.Questions.{some-event}
+use Rattle.model.specs.Types.{PointerEvent}
+use Rattle.pointer_state.specs.View.{held}
+use Rattle.pointer_state.proofs.Stored.{events-length}
 use borrow.Author.Needs.{needs}
 use Rattle.input_questions.proofs.repaint.pointer_wants_repaint.Statement.{statement}
 use Rattle.input_questions.proofs.repaint.pointer_wants_repaint.Tie as tie

@@ -15,7 +15,7 @@ wheel-wants-repaint-requires c κs = search needs
 returns : tie.Need-returns
 unfolding reply shown repaint-after ofBits
 returns c ts hs ps p l s w k e o t u =
-    rw (l, s, w, k, ← c .before .before .pointer-wants-repaint .ensures (c .before .before .before .before .before .before .args .codes .now) ps, ← c .before .wheel-wants-repaint .ensures, c .if1 .taken)
+    rw (l, s, w, k, ← c .before .before .pointer-wants-repaint .ensures, ← c .before .wheel-wants-repaint .ensures, c .if1 .taken)
 
 any-touches-requires : tie.Need-any-touches-requires
 any-touches-requires c κs = search needs
@@ -38,11 +38,11 @@ returns-2 c ts hs ps p l s w k e o t u =
       o,
       t,
       u,
-      ← c .before .before .before .before .before .before .pointer-wants-repaint .ensures (c .before .before .before .before .before .before .before .before .before .before .args .codes .now) ps,
+      ← c .before .before .before .before .before .before .pointer-wants-repaint .ensures,
       ← c .before .before .before .before .before .wheel-wants-repaint .ensures,
       c .before .before .before .before .if1 .left,
       ← c .before .before .before .any-touches .ensures,
-      ← c .before .before .is-decidedly-dragging .ensures ps,
+      ← c .before .before .is-decidedly-dragging .ensures,
       c .before .if2 .taken,
       c .until-menu .ensures,
     )
@@ -59,11 +59,11 @@ returns-3 c ts hs ps p l s w k e o t u =
       o,
       t,
       u,
-      ← c .before .before .before .before .before .pointer-wants-repaint .ensures (c .before .before .before .before .before .before .before .before .before .args .codes .now) ps,
+      ← c .before .before .before .before .before .pointer-wants-repaint .ensures,
       ← c .before .before .before .before .wheel-wants-repaint .ensures,
       c .before .before .before .if1 .left,
       ← c .before .before .any-touches .ensures,
-      ← c .before .is-decidedly-dragging .ensures ps,
+      ← c .before .is-decidedly-dragging .ensures,
       c .if2 .left,
     )
 

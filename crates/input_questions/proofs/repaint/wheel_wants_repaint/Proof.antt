@@ -1,6 +1,6 @@
 -- The callees' results, put together. Assumes nothing.
-use Rattle.model.specs.Numbers.{fifth}
 use lib.Ieee.{ofBits}
+use Rattle.model.specs.Numbers.{fifth}
 use borrow.Author.Needs.{needs}
 use Rattle.input_questions.proofs.repaint.wheel_wants_repaint.Statement.{statement}
 use Rattle.input_questions.proofs.repaint.wheel_wants_repaint.Tie as tie

@@ -1,9 +1,9 @@
 -- The callees' results, put together. Assumes nothing.
-use Rattle.touch_state.specs.View.{rotation-of-info}
+use mathlib.Core.Path.{_≡_, refl, ap}
 use Rattle.model.specs.Questions.{rotation, reply, shown, rotation-reply}
 use Rattle.model.specs.Pass.{Sums}
 use Rattle.model.specs.Types.{MaybeMultiTouchInfo, no-info, some-info}
-use mathlib.Core.Path.{_≡_, refl, ap}
+use Rattle.touch_state.specs.View.{rotation-of-info}
 use borrow.Author.Needs.{needs}
 use Rattle.input_questions.proofs.zoom.rotation_delta.Statement.{statement}
 use Rattle.input_questions.proofs.zoom.rotation_delta.Tie as tie

@@ -1,7 +1,7 @@
 -- Each way to a return is the case of the definition that its tests pick. Assumes nothing.
+use lib.Ieee.{ofBits}
 use Rattle.model.specs.Questions.{zoom-by-axis}
 use Rattle.model.specs.Numbers.{one}
-use lib.Ieee.{ofBits}
 use Rattle.input_questions.proofs.zoom.zoom_by_axis.Statement.{statement}
 use Rattle.input_questions.proofs.zoom.zoom_by_axis.Tie as tie
 

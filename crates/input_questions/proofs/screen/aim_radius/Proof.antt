@@ -1,8 +1,8 @@
 -- The two replies are one. Assumes nothing.
 use Rattle.model.specs.Questions.{reply, shown}
 use borrow.Author.Needs.{needs}
-use Rattle.input_questions.proofs.scrolling.aim_radius.Statement.{statement}
-use Rattle.input_questions.proofs.scrolling.aim_radius.Tie as tie
+use Rattle.input_questions.proofs.screen.aim_radius.Statement.{statement}
+use Rattle.input_questions.proofs.screen.aim_radius.Tie as tie
 
 physical-pixel-size-requires : tie.Need-physical-pixel-size-requires
 physical-pixel-size-requires c κs = search needs

@@ -1,9 +1,9 @@
 -- The definition of the reply. Assumes nothing.
+use lib.Ieee.{ofBits}
 use Rattle.model.specs.Questions.{reply, shown}
 use Rattle.model.specs.Numbers.{one}
-use lib.Ieee.{ofBits}
-use Rattle.input_questions.proofs.scrolling.physical_pixel_size.Statement.{statement}
-use Rattle.input_questions.proofs.scrolling.physical_pixel_size.Tie as tie
+use Rattle.input_questions.proofs.screen.physical_pixel_size.Statement.{statement}
+use Rattle.input_questions.proofs.screen.physical_pixel_size.Tie as tie
 
 returns : tie.Need-returns
 unfolding reply shown one ofBits
