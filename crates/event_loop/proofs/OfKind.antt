@@ -1,0 +1,87 @@
+-- An event that is shaped is of its first word's kind, or `Other`; a key's place is one of egui's. Assumes nothing.
+use mathlib.Core.Path.{_≡_, refl, sym, _∙_, subst}
+use mathlib.Core.Bool.{Bool, true, false, cond}
+use mathlib.Core.List.{List, []}
+use mathlib.Core.Logic.{_⊎_, inl, inr, ⊎-elim}
+use Prim.Native.Nat.{ℕ, suc, _-_, _≤_, _<_}
+use native.Mathlib.Omega.{arith}
+use lib.Dec.{T, eqb, ltb}
+use lib.ListN.{getD, length, drop}
+use borrow.Author.Tests.{eqb-true, ltb-true, ltb-false}
+use Rattle.data.specs.Numbers.{kind-number}
+use Rattle.feed.specs.Types.{Event, Other}
+use Rattle.feed.specs.declared.shape.MaybeEvent.{MaybeEvent}
+use Rattle.feed.specs.declared.shape.MaybeEvent.the-variants.{None as no-event, Some as some-event}
+use Rattle.feed.specs.Encode.{fields-ok}
+use Rattle.feed.specs.Split.{kind, low-bits, following}
+use Rattle.feed.specs.Shape.{clean, field-below, key-shape, modifiers-shape, moved-shape, motion-shape, button-shape, zoom-shape, rotate-shape, touch-shape, wheel-shape, focus-shape, shape-by-kind}
+use Rattle.event_loop.specs.Shaped.{event-or-other, shaped-at}
+use Rattle.event_loop.proofs.Walk.{at-past, at-short, at-whole}
+
+abbrev Of-kind : ℕ → Event → Type 0
+Of-kind k e = ((kind-number e ≡ k) ⊎ (e ≡ Other)) × T (fields-ok e)
+
+abbrev Of : ℕ → MaybeEvent → Type 0
+Of k m = Of-kind k (event-or-other m)
+
+none-of : (k : ℕ) → Of k no-event
+unfolding event-or-other fields-ok
+none-of k = (inr refl, tt)
+
+by-cond : (k : ℕ) (b : Bool) (x y : MaybeEvent) → (b ≡ true → Of k x) → Of k y → Of k (cond b x y)
+by-cond k true x y f g = f refl
+by-cond k false x y f g = g
+
+-- an event under the tests of its low bits
+clean-of : (k limit low : ℕ) (m : MaybeEvent) → Of k m → Of k (clean limit low m)
+unfolding clean
+clean-of k limit low m h = by-cond k (ltb low limit) m no-event (λ t. h) (none-of k)
+
+below-of : (k limit field : ℕ) (m : MaybeEvent) → (ltb field limit ≡ true → Of k m) → Of k (field-below limit field m)
+unfolding field-below
+below-of k limit field m h = by-cond k (ltb field limit) m no-event h (none-of k)
+
+some-of : (k n : ℕ) (e : Event) → eqb k n ≡ true → kind-number e ≡ n → T (fields-ok e) → Of k (some-event e)
+unfolding event-or-other
+some-of k n e t h f = (inl (h ∙ sym (eqb-true k n t)), f)
+
+by-kind : (k low : ℕ) (ws : List ℕ) → Of k (shape-by-kind k low ws)
+unfolding shape-by-kind key-shape modifiers-shape moved-shape motion-shape button-shape zoom-shape rotate-shape touch-shape wheel-shape focus-shape fields-ok
+by-kind k low ws =
+    by-cond k (eqb k 0) _ _ (λ t. none-of k)
+    (by-cond k (eqb k 1) _ _ (λ t. clean-of k 512 low _ (below-of k 145 _ _ (λ u. some-of k 1 _ t refl (subst T (sym u) tt))))
+    (by-cond k (eqb k 2) _ _ (λ t. clean-of k 32 low _ (some-of k 2 _ t refl tt))
+    (by-cond k (eqb k 3) _ _ (λ t. clean-of k 1 low _ (some-of k 3 _ t refl tt))
+    (by-cond k (eqb k 4) _ _ (λ t. clean-of k 1 low _ (some-of k 4 _ t refl tt))
+    (by-cond k (eqb k 5) _ _ (λ t. clean-of k 512 low _ (below-of k 5 _ _ (λ u. some-of k 5 _ t refl tt)))
+    (by-cond k (eqb k 6) _ _ (λ t. clean-of k 1 low _ (some-of k 6 _ t refl tt))
+    (by-cond k (eqb k 7) _ _ (λ t. clean-of k 1 low _ (some-of k 7 _ t refl tt))
+    (by-cond k (eqb k 8) _ _ (λ t. clean-of k 1 low _ (some-of k 8 _ t refl tt))
+    (by-cond k (eqb k 9) _ _ (λ t. clean-of k 8 low _ (some-of k 9 _ t refl tt))
+    (by-cond k (eqb k 10) _ _ (λ t. clean-of k 2048 low _ (below-of k 3 _ _ (λ u. some-of k 10 _ t refl tt)))
+    (by-cond k (eqb k 11) _ _ (λ t. clean-of k 2 low _ (some-of k 11 _ t refl tt))
+    (by-cond k (eqb k 12) _ _ (λ t. clean-of k 1 low _ (some-of k 12 _ t refl tt))
+    (none-of k)))))))))))))
+
+other-of : (k : ℕ) → Of-kind k Other
+unfolding fields-ok
+other-of k = (inr refl, tt)
+
+module _ (ws : List ℕ) (at : ℕ) where
+  pub of-kind : Of-kind (kind (getD ws at 0)) (shaped-at ws at)
+  of-kind = go (ltb at (length ws)) refl
+    where
+      go2 : (b : Bool) → ltb (following (getD ws at 0)) (length ws - at) ≡ b → at < length ws → Of-kind (kind (getD ws at 0)) (shaped-at ws at)
+      go2 true t h = rw (at-whole ws at h (ltb-true _ _ t)) (by-kind (kind (getD ws at 0)) (low-bits (getD ws at 0)) (drop (suc at) ws))
+      go2 false t h = rw (at-short ws at h (ltb-false _ _ t)) (other-of _)
+
+      go : (b : Bool) → ltb at (length ws) ≡ b → Of-kind (kind (getD ws at 0)) (shaped-at ws at)
+      go true t = go2 (ltb (following (getD ws at 0)) (length ws - at)) refl (ltb-true _ _ t)
+      go false t = rw (at-past ws at (ltb-false _ _ t)) (other-of _)
+
+  -- what the first word excludes; `Other` is of kind 12
+  pub not-of-kind : (k : ℕ) → (kind (getD ws at 0) ≡ k → ⊥) → (k ≡ 12 → ⊥) → kind-number (shaped-at ws at) ≡ k → ⊥
+  not-of-kind k other not-12 h = ⊎-elim (λ e. other (sym e ∙ h)) (λ e. not-12 (sym h ∙ rw e)) (of-kind .0)
+
+  pub fields : T (fields-ok (shaped-at ws at))
+  fields = of-kind .1

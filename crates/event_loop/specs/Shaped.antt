@@ -1,0 +1,39 @@
+-- The events of a feed by their shapes alone, whatever their floats. Of a feed that a pass takes these are its events.
+use Prim.Native.Nat.{ℕ, _+_, _-_}
+use mathlib.Core.Bool.{cond}
+use mathlib.Core.List.{List, map}
+use lib.Dec.{ltb}
+use lib.ListN.{getD, length, drop}
+use Rattle.feed.specs.Types.{Event, Other}
+use Rattle.feed.specs.declared.shape.MaybeEvent.{MaybeEvent}
+use Rattle.feed.specs.declared.shape.MaybeEvent.the-variants.{None as no-event, Some as some-event}
+use Rattle.feed.specs.Split.{Piece, pieces, pieces-from, following, piece-length}
+use Rattle.feed.specs.Shape.{shape}
+use Rattle.feed.specs.Decode.{piece-at}
+
+-- words that are no event stand for one that no component reads
+unfoldable pub event-or-other : MaybeEvent → Event
+event-or-other no-event = Other
+event-or-other (some-event e) = e
+
+unfoldable pub shaped : List ℕ → Event
+shaped ws = event-or-other (shape ws)
+
+unfoldable pub shaped-piece : Piece → Event
+shaped-piece p = shaped (p .words)
+
+-- the whole feed: an event for each piece
+unfoldable pub shaped-events : List ℕ → List Event
+shaped-events ws = map shaped-piece (pieces ws)
+
+-- those from word `at` on, where a piece begins
+unfoldable pub shaped-after : List ℕ → ℕ → List Event
+shaped-after ws at = map shaped-piece (pieces-from at 0 (drop at ws))
+
+-- the event at word `at`
+unfoldable pub shaped-at : List ℕ → ℕ → Event
+shaped-at ws at = shaped (piece-at ws at)
+
+-- the place after it: the end, where the piece is cut short
+unfoldable pub next-place : List ℕ → ℕ → ℕ
+next-place ws at = cond (ltb (following (getD ws at 0)) (length ws - at)) (at + piece-length (getD ws at 0)) (length ws)

@@ -1,0 +1,65 @@
+-- Events of the kinds that a component does not read leave it as it is; and its loop along the feed. Assumes nothing.
+use mathlib.Core.Path.{_≡_, refl}
+use lib.Ieee.{Float}
+use Rattle.data.specs.Numbers.{kind-number}
+use Rattle.model.specs.Types.{Event, Key, ModifiersChanged, PointerMoved, MouseMoved, Button, PointerGone, Zoom, Rotate, Touch, MouseWheel, WindowFocused, Other}
+use Rattle.model.specs.Pass.{Keys, key-event, key-events, zoom-event, zoom-of, rotation-event, rotation-of}
+use Rattle.event_loop.specs.Loop.{Loop}
+use Rattle.event_loop.proofs.Walk.{loop}
+
+pub zoom-idle : (e : Event) (s : Float) → (kind-number e ≡ 7 → ⊥) → zoom-event e s ≡ s
+unfolding zoom-event
+zoom-idle (Key k b) s h7 = refl
+zoom-idle (ModifiersChanged m) s h7 = refl
+zoom-idle (PointerMoved v) s h7 = refl
+zoom-idle (MouseMoved v) s h7 = refl
+zoom-idle (Button v b d m) s h7 = refl
+zoom-idle PointerGone s h7 = refl
+zoom-idle (Zoom x) s h7 = absurd (h7 refl)
+zoom-idle (Rotate x) s h7 = refl
+zoom-idle (Touch d i ph v f) s h7 = refl
+zoom-idle (MouseWheel u v ph g m) s h7 = refl
+zoom-idle (WindowFocused b) s h7 = refl
+zoom-idle Other s h7 = refl
+
+pub rotation-idle : (e : Event) (s : Float) → (kind-number e ≡ 8 → ⊥) → rotation-event e s ≡ s
+unfolding rotation-event
+rotation-idle (Key k b) s h8 = refl
+rotation-idle (ModifiersChanged m) s h8 = refl
+rotation-idle (PointerMoved v) s h8 = refl
+rotation-idle (MouseMoved v) s h8 = refl
+rotation-idle (Button v b d m) s h8 = refl
+rotation-idle PointerGone s h8 = refl
+rotation-idle (Zoom x) s h8 = refl
+rotation-idle (Rotate x) s h8 = absurd (h8 refl)
+rotation-idle (Touch d i ph v f) s h8 = refl
+rotation-idle (MouseWheel u v ph g m) s h8 = refl
+rotation-idle (WindowFocused b) s h8 = refl
+rotation-idle Other s h8 = refl
+
+pub key-idle : (e : Event) (s : Keys) → (kind-number e ≡ 1 → ⊥) → (kind-number e ≡ 2 → ⊥) → (kind-number e ≡ 11 → ⊥) → key-event e s ≡ s
+unfolding key-event
+key-idle (Key k b) s h1 h2 h11 = absurd (h1 refl)
+key-idle (ModifiersChanged m) s h1 h2 h11 = absurd (h2 refl)
+key-idle (PointerMoved v) s h1 h2 h11 = refl
+key-idle (MouseMoved v) s h1 h2 h11 = refl
+key-idle (Button v b d m) s h1 h2 h11 = refl
+key-idle PointerGone s h1 h2 h11 = refl
+key-idle (Zoom x) s h1 h2 h11 = refl
+key-idle (Rotate x) s h1 h2 h11 = refl
+key-idle (Touch d i ph v f) s h1 h2 h11 = refl
+key-idle (MouseWheel u v ph g m) s h1 h2 h11 = refl
+key-idle (WindowFocused b) s h1 h2 h11 = absurd (h11 refl)
+key-idle Other s h1 h2 h11 = refl
+
+pub zoom-loop : Loop zoom-of zoom-event
+unfolding zoom-of
+zoom-loop = loop zoom-of zoom-event (λ s. refl) (λ e es s. refl)
+
+pub rotation-loop : Loop rotation-of rotation-event
+unfolding rotation-of
+rotation-loop = loop rotation-of rotation-event (λ s. refl) (λ e es s. refl)
+
+pub key-loop : Loop key-events key-event
+unfolding key-events
+key-loop = loop key-events key-event (λ s. refl) (λ e es s. refl)

@@ -1,0 +1,137 @@
+-- The model's steps on what the set and the lent presses mean. Assumes nothing.
+use mathlib.Core.Path.{_≡_, refl, sym, ap, ap₂, fun-ext, _∙_}
+use mathlib.Core.Bool.{Bool, true, false, cond}
+use mathlib.Core.List.{List, [], _∷_, map}
+use Prim.Native.Nat.{ℕ, zero, suc, _+_, _≤_, _<_}
+use native.Mathlib.Omega.{arith}
+use lib.Dec.{T, eqb, ltb}
+use lib.ListN.{getD, set, length, replicate, getD-replicate}
+use lib.Seq.{getD-set-same, getD-set-other}
+use borrow.Author.Tests.{eqb-true, eqb-false, ne-eqb, ltb-true, lt-ltb}
+use Rattle.feed.specs.Split.{pieces, pieces-from}
+use Rattle.data.specs.Limits.{max-events}
+use Rattle.model.specs.Types.{Modifiers, Event, Key, ModifiersChanged, PointerMoved, MouseMoved, Button, PointerGone, Zoom, Rotate, Touch, MouseWheel, WindowFocused, Other}
+use Rattle.model.specs.Pass.{set-key, count-press, no-keys, no-presses, key-event, is-empty, keys-pass, key-events, fresh}
+use Rattle.model.specs.Pass as Pass
+use Rattle.data.specs.Modifiers.{no-modifiers}
+use Rattle.event_loop.specs.Shaped.{shaped-events, shaped-after, shaped-at, next-place}
+use Rattle.event_loop.proofs.Walk.{first, next}
+use Rattle.key_state.specs.declared.bits.Set256.{Set256}
+use Rattle.key_state.specs.declared.keys.Keys.{Keys}
+use Rattle.key_state.specs.Bits.{has, with-member}
+use Rattle.key_state.specs.View.{presses-of, one-more, keys}
+
+-- two records whose functions agree at each key
+pub alike : {f g : ℕ → Bool} {p q : ℕ → ℕ} (m : Modifiers) (b : Bool) → ((j : ℕ) → f j ≡ g j) → ((j : ℕ) → p j ≡ q j) →
+    _≡_ {A = Pass.Keys} (record { keys-down = f; modifiers = m; presses = p; feed-empty = b }) (record { keys-down = g; modifiers = m; presses = q; feed-empty = b })
+alike m b h k = ap₂ (λ (f : ℕ → Bool) (p : ℕ → ℕ). record { keys-down = f; modifiers = m; presses = p; feed-empty = b }) (fun-ext h) (fun-ext k)
+
+-- one press more
+counted : (ps : List ℕ) (k n : ℕ) → k < 145 → k < length ps → n ≡ getD ps k 0 + 1 → (j : ℕ) → presses-of (set ps k n) j ≡ count-press k (presses-of ps) j
+unfolding count-press
+counted ps k n small here e j = go (eqb j k) refl
+  where
+    go : (b : Bool) → eqb j k ≡ b → presses-of (set ps k n) j ≡ cond b 1 0 + presses-of ps j
+    go true t =
+        let q : j ≡ k = eqb-true _ _ t in
+        rw (q, lt-ltb k 145 small, getD-set-same ps k n 0 here, e) (omega arith)
+    go false t = rw (getD-set-other ps k j n 0 (eqb-false _ _ t)) (omega arith)
+
+module _ (ps : List ℕ) (k : Keys) (down : Set256) (place : ℕ) (pressed : Bool) (small : place < 256)
+    (same : (j : ℕ) → has down j ≡ with-member place pressed (k .down) j) where
+  abbrev new : Keys
+  new = record { down = down; modifiers = k .modifiers; «feed_empty» = k .«feed_empty» }
+
+  members : (j : ℕ) → has down j ≡ set-key place pressed (has (k .down)) j
+  unfolding with-member
+  members j = same j ∙ rw (lt-ltb place 256 small)
+
+  pub released : pressed ≡ false → keys ps new ≡ key-event (Key place pressed) (keys ps k)
+  unfolding key-event
+  released e = rw e (alike (k .modifiers) (k .«feed_empty») (rw e at members) (λ j. refl))
+
+  pub is-pressed : place < 145 → place < length ps → presses-of ps place < 255 → pressed ≡ true →
+      keys (set ps place (one-more (getD ps place 0))) new ≡ key-event (Key place pressed) (keys ps k)
+  unfolding key-event one-more
+  is-pressed egui here room e =
+      let more : one-more (getD ps place 0) ≡ getD ps place 0 + 1 = rw (lt-ltb (getD ps place 0) 255 (rw (lt-ltb place 145 egui) at room)) in
+      rw e (alike (k .modifiers) (k .«feed_empty») (rw e at members) (counted ps place (one-more (getD ps place 0)) egui here more))
+
+-- lost focus
+pub unfocused : (ps : List ℕ) (k : Keys) (down : Set256) (m : Modifiers) (focused : Bool) → focused ≡ false → ((j : ℕ) → has down j ≡ false) → m ≡ no-modifiers →
+    keys ps (record { down = down; modifiers = m; «feed_empty» = k .«feed_empty» }) ≡ key-event (WindowFocused focused) (keys ps k)
+unfolding key-event no-keys
+unfocused ps k down m focused e h none = rw (e, none) (alike no-modifiers (k .«feed_empty») h (λ j. refl))
+
+pub fresh-is : (ps : List ℕ) (down : Set256) (m : Modifiers) → ((j : ℕ) → presses-of ps j ≡ 0) → ((j : ℕ) → has down j ≡ false) → m ≡ no-modifiers →
+    keys ps (record { down = down; modifiers = m; «feed_empty» = true }) ≡ fresh .keys
+unfolding fresh no-keys no-presses
+fresh-is ps down m zeros h none = rw none (alike no-modifiers true h zeros)
+
+-- ---- a pass
+pub cleared : (j : ℕ) → presses-of (replicate 145 0) j ≡ 0
+cleared j = go (ltb j 145) refl
+  where
+    go : (b : Bool) → ltb j 145 ≡ b → _≡_ {A = ℕ} (cond b (getD (replicate 145 0) j 0) 0) 0
+    go true t = getD-replicate {A = ℕ} 145 j 0 0 (ltb-true _ _ t)
+    go false t = refl
+
+empty-shaped : (ws : List ℕ) → eqb (length ws) 0 ≡ is-empty (shaped-events ws)
+unfolding shaped-events pieces pieces-from is-empty
+empty-shaped [] = refl
+empty-shaped (w ∷ ws) = ne-eqb (suc (length ws)) 0 (λ (q : suc (length ws) ≡ 0). omega arith)
+
+-- before the first event
+pub start : (ws ps qs : List ℕ) (k : Keys) → ((j : ℕ) → presses-of qs j ≡ 0) →
+    key-events (shaped-events ws) (keys qs (record { down = k .down; modifiers = k .modifiers; «feed_empty» = eqb (length ws) 0 })) ≡ keys-pass (shaped-events ws) (keys ps k)
+unfolding keys-pass no-presses
+start ws ps qs k zeros = rw (empty-shaped ws) (ap (key-events (shaped-events ws)) (alike (k .modifiers) (is-empty (shaped-events ws)) (λ j. refl) zeros))
+
+-- an event counts one press at most
+at-most-one : (b : Bool) (n : ℕ) → cond b 1 0 + n ≤ n + 1
+at-most-one true n = omega arith
+at-most-one false n = omega arith
+
+grows : (e : Event) (s : Pass.Keys) (j : ℕ) → key-event e s .presses j ≤ s .presses j + 1
+unfolding key-event count-press
+grows (Key k true) s j = at-most-one (eqb j k) (s .presses j)
+grows (Key k false) s j = omega arith
+grows (ModifiersChanged m) s j = omega arith
+grows (PointerMoved v) s j = omega arith
+grows (MouseMoved v) s j = omega arith
+grows (Button v b d m) s j = omega arith
+grows PointerGone s j = omega arith
+grows (Zoom x) s j = omega arith
+grows (Rotate x) s j = omega arith
+grows (Touch d i ph v f) s j = omega arith
+grows (MouseWheel u v ph g m) s j = omega arith
+grows (WindowFocused true) s j = omega arith
+grows (WindowFocused false) s j = omega arith
+grows Other s j = omega arith
+
+-- a byte has room for the presses that may still come
+abbrev pub Room : List ℕ → List ℕ → ℕ → Type 0
+Room ws ps at = (j : ℕ) → presses-of ps j + length (shaped-after ws at) ≤ max-events
+
+pub room-first : (ws ps : List ℕ) → ((j : ℕ) → presses-of ps j ≡ 0) → length (shaped-events ws) ≤ max-events → Room ws ps 0
+room-first ws ps zeros h j =
+    let z = zeros j in
+    rw (first ws) (omega arith)
+
+module _ (ws ps : List ℕ) (at : ℕ) (here : at < length ws) (r : Room ws ps at) where
+  one-less : length (shaped-after ws at) ≡ suc (length (shaped-after ws (next-place ws at)))
+  one-less = ap length (next ws at here)
+
+  pub room-now : (j : ℕ) → presses-of ps j < 255
+  room-now j =
+      let h = r j in
+      let l = one-less in
+      omega arith
+
+  pub room-next : (k : Keys) (new : Pass.Keys) → new ≡ key-event (shaped-at ws at) (keys ps k) →
+      (j : ℕ) → new .presses j + length (shaped-after ws (next-place ws at)) ≤ max-events
+  room-next k new e j =
+      let h = r j in
+      let l = one-less in
+      let g : new .presses j ≤ presses-of ps j + 1 = rw (ap (λ (s : Pass.Keys). s .presses j) e) (grows (shaped-at ws at) (keys ps k) j) in
+      omega arith

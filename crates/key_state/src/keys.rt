@@ -1,0 +1,157 @@
+// The keys that are down, the modifiers, and the presses of the pass. The caller lends a place for each key's presses.
+use crate::bits::Set256;
+use data::event::Event;
+use data::limits::KEY_COUNT;
+use data::modifiers::Modifiers;
+use event_loop::kind_at;
+use event_loop::next_place;
+use event_loop::shaped_at;
+ghost use mathlib.Core.Path.{_≡_};
+ghost use mathlib.Core.List.{List};
+ghost use Prim.Native.Nat.{ℕ, _<_};
+ghost use lib.Dec.{ltb};
+ghost use lib.ListN.{getD, set, length};
+ghost use Rattle.model.specs.Types.{Key, WindowFocused};
+ghost use Rattle.model.specs.Pass.{key-event, fresh};
+ghost use Rattle.event_loop.specs.Shaped.{shaped-at};
+ghost use Rattle.key_state.specs.View.{presses-of, one-more, keys, Stepped, Passed};
+ghost use Rattle.key_state.specs.declared.keys.Keys.{Keys};
+
+pub struct Keys {
+    pub down: Set256,
+    pub modifiers: Modifiers,
+    // held the pass's feed no event?
+    pub feed_empty: bool,
+}
+
+// Before any pass.
+pub fn fresh() -> Keys
+    ensures { λ r. ⌜ ((presses : List ℕ) → ((j : ℕ) → presses-of presses j ≡ 0) → keys presses r ≡ fresh .keys) ⌝ }
+{
+    let down = crate::bits::none();
+    let modifiers = Modifiers::none();
+    Keys {
+        down,
+        modifiers,
+        feed_empty: true,
+    }
+}
+
+// One press more. A byte is enough: a pass has at most 64 events.
+fn count_press(presses: &mut [u8], place: usize)
+    requires { ⌜ place < length (now presses) ⌝ }
+    ensures { λ _. ⌜ now (presses .exit) ≡ set (now (presses .entry)) place (one-more (getD (now (presses .entry)) place 0)) ⌝ }
+{
+    let n = presses[place];
+    if n < 255 {
+        presses[place] = n + 1;
+        return;
+    }
+    presses[place] = n;
+}
+
+fn key(k: Keys, presses: &mut [u8; 145], place: u32, pressed: bool) -> Keys
+    ensures { λ r. ⌜ Stepped (Key place pressed) (now (presses .entry)) k (now (presses .exit)) r ⌝ }
+{
+    if place < KEY_COUNT {
+        let old = k.down;
+        let down = crate::bits::set(old, place, pressed);
+        if pressed {
+            count_press(presses, place as usize);
+            return Keys { down, ..k };
+        }
+        return Keys { down, ..k };
+    }
+    k
+}
+
+// Lost focus clears keys and modifiers.
+fn focus(k: Keys, focused: bool) -> Keys
+    ensures { λ r. ⌜ ((presses : List ℕ) → keys presses r ≡ key-event (WindowFocused focused) (keys presses k)) ⌝ }
+{
+    if focused {
+        return k;
+    }
+    let down = crate::bits::none();
+    let modifiers = Modifiers::none();
+    Keys {
+        down,
+        modifiers,
+        ..k
+    }
+}
+
+fn key_event(k: Keys, presses: &mut [u8; 145], e: Event) -> Keys
+    ensures { λ r. ⌜ Stepped e (now (presses .entry)) k (now (presses .exit)) r ⌝ }
+{
+    match e {
+        Event::Key(place, pressed) => key(k, presses, place, pressed),
+        Event::ModifiersChanged(modifiers) => Keys { modifiers, ..k },
+        Event::WindowFocused(focused) => focus(k, focused),
+        Event::PointerMoved(_) => k,
+        Event::MouseMoved(_) => k,
+        Event::PointerButton(_, _, _, _) => k,
+        Event::PointerGone => k,
+        Event::Zoom(_) => k,
+        Event::Rotate(_) => k,
+        Event::Touch(_, _, _, _, _) => k,
+        Event::MouseWheel(_, _, _, _, _) => k,
+        Event::Other => k,
+    }
+}
+
+// Kinds 1, 2 and 11 are read.
+fn key_at(k: Keys, presses: &mut [u8; 145], feed: &[u32], at: usize) -> Keys
+    ensures { λ r. ⌜ Stepped (shaped-at (now (feed .entry)) at) (now (presses .entry)) k (now (presses .exit)) r ⌝ }
+{
+    let kind = kind_at(feed, at);
+    if kind <= 2 {
+        let e = shaped_at(feed, at);
+        return key_event(k, presses, e);
+    }
+    if kind == 11 {
+        let e = shaped_at(feed, at);
+        return key_event(k, presses, e);
+    }
+    k
+}
+
+// The keys' part of a pass.
+pub fn keys_pass(k: Keys, presses: &mut [u8; 145], feed: &[u32]) -> Keys
+    ensures { λ r. ⌜ Passed (now (feed .entry)) (now (presses .entry)) k (now (presses .exit)) r ⌝ }
+{
+    *presses = [0; 145];
+    let mut s = k;
+    s.feed_empty = feed.len() == 0;
+    let mut at: usize = 0;
+    while at < feed.len() {
+        s = key_at(s, presses, feed, at);
+        at = next_place(feed, at);
+    }
+    s
+}
+
+// Is it down? No number over 144 is.
+pub fn key_down(k: Keys, key: u32) -> bool
+    ensures { λ r. ⌜ ((presses : List ℕ) → r ≡ keys presses k .keys-down key) ⌝ }
+{
+    let down = k.down;
+    crate::bits::has(down, key)
+}
+
+// How often it was pressed in the pass.
+pub fn num_presses(presses: &[u8; 145], key: u32) -> u8
+    ensures { λ r. ⌜ ((k : Keys) → r ≡ keys (now (presses .entry)) k .presses key) ⌝ }
+{
+    if key < KEY_COUNT {
+        return presses[key as usize];
+    }
+    0
+}
+
+pub fn key_pressed(presses: &[u8; 145], key: u32) -> bool
+    ensures { λ r. ⌜ ((k : Keys) → r ≡ ltb 0 (keys (now (presses .entry)) k .presses key)) ⌝ }
+{
+    let n = num_presses(presses, key);
+    0 < n
+}

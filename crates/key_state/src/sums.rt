@@ -1,0 +1,93 @@
+// The product of the pass's zoom factors and the sum of its radians.
+use data::event::Event;
+use event_loop::kind_at;
+use event_loop::next_place;
+use event_loop::shaped_at;
+ghost use mathlib.Core.Path.{_≡_};
+ghost use Rattle.model.specs.Numbers.{+0, one};
+ghost use Rattle.model.specs.Pass.{zoom-event, zoom-of, rotation-event, rotation-of};
+ghost use Rattle.event_loop.specs.Shaped.{shaped-at, shaped-events};
+
+fn zoom_event(e: Event, factor: f32) -> f32
+    ensures { λ r. ⌜ r ≡ zoom-event e factor ⌝ }
+{
+    match e {
+        Event::Zoom(x) => factor * x,
+        Event::Key(_, _) => factor,
+        Event::ModifiersChanged(_) => factor,
+        Event::PointerMoved(_) => factor,
+        Event::MouseMoved(_) => factor,
+        Event::PointerButton(_, _, _, _) => factor,
+        Event::PointerGone => factor,
+        Event::Rotate(_) => factor,
+        Event::Touch(_, _, _, _, _) => factor,
+        Event::MouseWheel(_, _, _, _, _) => factor,
+        Event::WindowFocused(_) => factor,
+        Event::Other => factor,
+    }
+}
+
+// Kind 7 is read.
+fn zoom_at(factor: f32, feed: &[u32], at: usize) -> f32
+    ensures { λ r. ⌜ r ≡ zoom-event (shaped-at (now (feed .entry)) at) factor ⌝ }
+{
+    if kind_at(feed, at) == 7 {
+        let e = shaped_at(feed, at);
+        return zoom_event(e, factor);
+    }
+    factor
+}
+
+pub fn zoom_of(feed: &[u32]) -> f32
+    ensures { λ r. ⌜ r ≡ zoom-of (shaped-events (now (feed .entry))) one ⌝ }
+{
+    let mut factor: f32 = 1.0;
+    let mut at: usize = 0;
+    while at < feed.len() {
+        factor = zoom_at(factor, feed, at);
+        at = next_place(feed, at);
+    }
+    factor
+}
+
+fn rotation_event(e: Event, radians: f32) -> f32
+    ensures { λ r. ⌜ r ≡ rotation-event e radians ⌝ }
+{
+    match e {
+        Event::Rotate(x) => radians + x,
+        Event::Key(_, _) => radians,
+        Event::ModifiersChanged(_) => radians,
+        Event::PointerMoved(_) => radians,
+        Event::MouseMoved(_) => radians,
+        Event::PointerButton(_, _, _, _) => radians,
+        Event::PointerGone => radians,
+        Event::Zoom(_) => radians,
+        Event::Touch(_, _, _, _, _) => radians,
+        Event::MouseWheel(_, _, _, _, _) => radians,
+        Event::WindowFocused(_) => radians,
+        Event::Other => radians,
+    }
+}
+
+// Kind 8 is read.
+fn rotation_at(radians: f32, feed: &[u32], at: usize) -> f32
+    ensures { λ r. ⌜ r ≡ rotation-event (shaped-at (now (feed .entry)) at) radians ⌝ }
+{
+    if kind_at(feed, at) == 8 {
+        let e = shaped_at(feed, at);
+        return rotation_event(e, radians);
+    }
+    radians
+}
+
+pub fn rotation_of(feed: &[u32]) -> f32
+    ensures { λ r. ⌜ r ≡ rotation-of (shaped-events (now (feed .entry))) +0 ⌝ }
+{
+    let mut radians: f32 = 0.0;
+    let mut at: usize = 0;
+    while at < feed.len() {
+        radians = rotation_at(radians, feed, at);
+        at = next_place(feed, at);
+    }
+    radians
+}
