@@ -12,8 +12,8 @@ use borrow.Author.Tests.{ltb-true, ltb-false, lt-ltb, le-ltb}
 use Rattle.feed.specs.Types.{Event, Other}
 use Rattle.feed.specs.Split.{kind, low-bits, following, piece-length, Piece, pieces, pieces-from}
 use Rattle.feed.specs.Shape.{shape-by-kind, shape}
-use Rattle.feed.specs.Decode.{piece-at}
-use Rattle.feed.proofs.Reading.{shape-taken}
+use Rattle.feed.specs.Decode.{piece-at, items-after}
+use Rattle.feed.proofs.Reading.{shape-taken, items-none}
 use Rattle.event_loop.specs.Loop.{Loop}
 use Rattle.event_loop.specs.Shaped.{event-or-other, shaped, shaped-piece, shaped-events, shaped-after, shaped-at, next-place}
 
@@ -60,7 +60,7 @@ module _ (ws : List ℕ) (at : ℕ) where
   unfolding shaped-after pieces-from
   past h = rw (drop-of-length-le ws h)
 
-  after-piece : at < length ws → shaped-after ws at ≡ shaped-at ws at ∷ shaped-after ws (at + piece-length (getD ws at 0))
+  pub after-piece : at < length ws → shaped-after ws at ≡ shaped-at ws at ∷ shaped-after ws (at + piece-length (getD ws at 0))
   unfolding shaped-after pieces-from shaped-piece shaped-at piece-at piece-length
   after-piece h = rw (drop-cons ws at 0 h, skipped-after at (following (getD ws at 0)) ws)
 
@@ -86,6 +86,15 @@ module _ (ws : List ℕ) (at : ℕ) (here : at < length ws) where
           shaped-after ws (at + piece-length (getD ws at 0)) ≡ shaped-after ws (cond b (at + piece-length (getD ws at 0)) (length ws))
       go true t = refl
       go false t = past-same ws _ _ (short (ltb-false _ _ t)) (omega arith)
+
+  pub items-after-next : items-after ws (at + piece-length (getD ws at 0)) ≡ items-after ws (next-place ws at)
+  unfolding next-place
+  items-after-next = go (ltb (following (getD ws at 0)) (length ws - at)) refl
+    where
+      go : (b : Bool) → ltb (following (getD ws at 0)) (length ws - at) ≡ b →
+          items-after ws (at + piece-length (getD ws at 0)) ≡ items-after ws (cond b (at + piece-length (getD ws at 0)) (length ws))
+      go true t = refl
+      go false t = items-none ws _ (short (ltb-false _ _ t)) ∙ sym (items-none ws (length ws) (omega arith))
 
   pub next : shaped-after ws at ≡ shaped-at ws at ∷ shaped-after ws (next-place ws at)
   next = after-piece ws at here ∙ rw after-next

@@ -1,0 +1,47 @@
+-- A touch event on devices with marks, seen without the marks. Assumes nothing.
+use mathlib.Core.Path.{_≡_, refl, sym, ap, _∙_}
+use mathlib.Core.Bool.{Bool, true, false, cond}
+use mathlib.Core.List.{List, [], _∷_, map}
+use Prim.Native.Nat.{ℕ}
+use lib.Dec.{leb, ltb, eqb}
+use lib.ListN.{length, length-map}
+use Rattle.data.specs.Limits.{max-devices}
+use Rattle.model.specs.Types.{TouchPhase, ActiveTouch}
+use Rattle.model.specs.Touch.{TouchState, new-device, at-device}
+use Rattle.touch_state.specs.declared.device.Device.{Device}
+use Rattle.touch_state.specs.declared.devices.Devices.{Devices}
+use Rattle.touch_state.specs.View.{Marked, known, view, marked, device-view, marked-view, new-marked, touch-marked, at-marked, touch-step}
+use Rattle.survey.specs.Survey.{fits-device, fits-touch}
+
+abbrev bare : Marked → TouchState
+bare m = m .device
+
+bare-cond : (b : Bool) (x y : List Marked) → map bare (cond b x y) ≡ cond b (map bare x) (map bare y)
+bare-cond true x y = refl
+bare-cond false x y = refl
+
+module _ (d : ℕ) (ph : TouchPhase) (t : ActiveTouch) where
+  cond-same : (b : Bool) {x y u v : List TouchState} → x ≡ u → y ≡ v → cond b x y ≡ cond b u v
+  cond-same true p q = p
+  cond-same false p q = q
+
+  at-bare : (ms : List Marked) → map bare (at-marked d (touch-marked ph t) ms) ≡ at-device d (fits-device ph t) (map bare ms)
+  unfolding at-marked at-device touch-marked fits-device new-marked
+  at-bare [] = refl
+  at-bare (m ∷ ms) =
+      bare-cond (ltb d (m .device .device-id)) _ _
+      ∙ cond-same (ltb d (m .device .device-id)) refl
+      (bare-cond (eqb d (m .device .device-id)) _ _ ∙ cond-same (eqb d (m .device .device-id)) refl (ap (λ (vs : List TouchState). m .device ∷ vs) (at-bare ms)))
+
+  step-bare : (ms : List Marked) → map bare (touch-step d ph t ms) ≡ fits-touch d ph t (map bare ms)
+  unfolding touch-step fits-touch
+  step-bare ms =
+      bare-cond (leb (length (at-marked d (touch-marked ph t) ms)) max-devices) _ _
+      ∙ rw (← length-map (at-marked d (touch-marked ph t) ms) bare, at-bare ms)
+
+bare-view : (ds : List Device) → map bare (map marked-view ds) ≡ map device-view ds
+bare-view [] = refl
+bare-view (d ∷ ds) = ap (λ (vs : List TouchState). device-view d ∷ vs) (bare-view ds)
+
+pub fitted : (d : ℕ) (ph : TouchPhase) (t : ActiveTouch) (old new : Devices) → marked new ≡ touch-step d ph t (marked old) → view new ≡ fits-touch d ph t (view old)
+fitted d ph t old new h = sym (bare-view (known new)) ∙ ap (map bare) h ∙ step-bare d ph t (marked old) ∙ rw (bare-view (known old))

@@ -1,0 +1,114 @@
+// The devices at the end of a pass: their gestures go on, start or end.
+use data::event::Event;
+use data::touch::TouchPhase;
+use emath::pos2::MaybePos2;
+use event_loop::kind_at;
+use event_loop::next_place;
+use event_loop::shaped_at;
+use touch_state::device::Device;
+use touch_state::devices::Devices;
+ghost use mathlib.Core.Path.{_≡_};
+ghost use mathlib.Core.Bool.{_&&_};
+ghost use mathlib.Core.List.{[], _∷_, map};
+ghost use lib.Dec.{eqb};
+ghost use Rattle.model.specs.Touch.{adds-or-removes, added-or-removed-touches, end-touches};
+ghost use Rattle.touch_state.specs.View.{view, marked, marked-view};
+ghost use Rattle.event_loop.specs.Shaped.{shaped-at, shaped-events};
+ghost use Rattle.survey.specs.Ends.{marked-by};
+
+fn adds_or_removes(phase: TouchPhase) -> bool
+    ensures { λ r. ⌜ r ≡ adds-or-removes phase ⌝ }
+{
+    match phase {
+        TouchPhase::Start => true,
+        TouchPhase::Move => false,
+        TouchPhase::End => true,
+        TouchPhase::Cancel => true,
+    }
+}
+
+fn event_adds(device_id: u64, e: Event) -> bool
+    ensures { λ r. ⌜ r ≡ added-or-removed-touches «device_id» (e ∷ []) ⌝ }
+{
+    match e {
+        Event::Touch(device, _, phase, _, _) => {
+            if device == device_id {
+                return adds_or_removes(phase);
+            }
+            false
+        }
+        Event::Key(_, _) => false,
+        Event::ModifiersChanged(_) => false,
+        Event::PointerMoved(_) => false,
+        Event::MouseMoved(_) => false,
+        Event::PointerButton(_, _, _, _) => false,
+        Event::PointerGone => false,
+        Event::Zoom(_) => false,
+        Event::Rotate(_) => false,
+        Event::MouseWheel(_, _, _, _, _) => false,
+        Event::WindowFocused(_) => false,
+        Event::Other => false,
+    }
+}
+
+// Kind 9 is read.
+fn adds_at(device_id: u64, feed: &[u32], at: usize) -> bool
+    ensures { λ r. ⌜ r ≡ added-or-removed-touches «device_id» (shaped-at (now (feed .entry)) at ∷ []) ⌝ }
+{
+    if kind_at(feed, at) == 9 {
+        let e = shaped_at(feed, at);
+        return event_adds(device_id, e);
+    }
+    false
+}
+
+fn added_or_removed_touches(device_id: u64, feed: &[u32]) -> bool
+    ensures { λ r. ⌜ r ≡ added-or-removed-touches «device_id» (shaped-events (now (feed .entry))) ⌝ }
+{
+    let mut at: usize = 0;
+    while at < feed.len() {
+        if adds_at(device_id, feed, at) {
+            return true;
+        }
+        at = next_place(feed, at);
+    }
+    false
+}
+
+fn mark_device(d: Device, feed: &[u32]) -> Device
+    ensures { λ r. ⌜ marked-view r ≡ marked-by (shaped-events (now (feed .entry))) (marked-view d) ⌝ }
+{
+    let mut e = d;
+    e.added_or_removed_touches = added_or_removed_touches(d.id, feed);
+    e
+}
+
+// Each device marked by whether the feed adds touches to it or removes them.
+fn mark(ds: Devices, feed: &[u32]) -> Devices
+    ensures { λ r. ⌜ marked r ≡ map (marked-by (shaped-events (now (feed .entry)))) (marked ds) ⌝ }
+{
+    let n = touch_state::devices::len(ds);
+    let mut a = ds.places;
+    let mut i: usize = 0;
+    while i < n {
+        let d = a[i];
+        let e = mark_device(d, feed);
+        a[i] = e;
+        i += 1;
+    }
+    Devices {
+        count: n,
+        places: a,
+    }
+}
+
+// `pointer_pos` is the pointer's interact position of the pass before.
+pub fn end_devices(ds: Devices, feed: &[u32], time: f64, pointer_pos: MaybePos2) -> Devices
+    ensures { λ r. ⌜ view r ≡ map (end-touches time «pointer_pos» (shaped-events (now (feed .entry)))) (view ds) ⌝ }
+{
+    if ds.count == 0 {
+        return ds;
+    }
+    let m = mark(ds, feed);
+    touch_state::devices::end_pass(m, time, pointer_pos)
+}
