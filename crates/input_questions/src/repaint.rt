@@ -12,7 +12,7 @@ use pointer_state::press::is_decidedly_dragging;
 use touch_state::devices::Devices;
 use touch_state::devices::any_touches;
 ghost use mathlib.Core.Path.{_≡_};
-ghost use mathlib.Core.Bool.{_||_, not};
+ghost use mathlib.Core.Bool.{_||_};
 ghost use mathlib.Core.List.{List};
 ghost use Prim.Native.Nat.{ℕ};
 ghost use lib.Ieee.{Float, lt};
