@@ -1,0 +1,152 @@
+-- Events of the kinds that a component does not read leave it as it is; and its loop along the feed. Assumes nothing.
+use mathlib.Core.Path.{_≡_, refl, sym, ap, _∙_}
+use mathlib.Core.Bool.{Bool, true, false, _||_}
+use mathlib.Core.List.{List, [], _∷_, _++_}
+use Prim.Native.Nat.{ℕ, suc, _+_, _≤_, _<_}
+use native.Mathlib.Omega.{arith}
+use lib.ListN.{length, length-append}
+use lib.Ieee.{Float}
+use Rattle.data.specs.Limits.{max-events}
+use Rattle.data.specs.Numbers.{kind-number}
+use Rattle.model.specs.Types.{Rect, InputOptions, WheelState}
+use Rattle.model.specs.Types.{Event, Key, ModifiersChanged, PointerMoved, MouseMoved, Button, PointerGone, Zoom, Rotate, Touch, MouseWheel, WindowFocused, Other}
+use Rattle.model.specs.Pointer.{Place, Press, place-event, place-events, clear-history-after, press-event, press-events, add-event, press-button, release-button, release}
+use Rattle.model.specs.Wheel.{wheel-event, wheel-events}
+use Rattle.event_loop.specs.Shaped.{shaped-events, shaped-after, shaped-at, next-place}
+use Rattle.event_loop.specs.Loop.{Loop}
+use Rattle.event_loop.proofs.Walk.{loop, first, next}
+
+-- ---- the pointer's place: kinds 3 to 6
+pub place-idle : (e : Event) (s : Place) → (kind-number e ≡ 3 → ⊥) → (kind-number e ≡ 4 → ⊥) → (kind-number e ≡ 5 → ⊥) → (kind-number e ≡ 6 → ⊥) → place-event e s ≡ s
+unfolding place-event
+place-idle (Key k b) s h3 h4 h5 h6 = refl
+place-idle (ModifiersChanged m) s h3 h4 h5 h6 = refl
+place-idle (PointerMoved v) s h3 h4 h5 h6 = absurd (h3 refl)
+place-idle (MouseMoved v) s h3 h4 h5 h6 = absurd (h4 refl)
+place-idle (Button v b c m) s h3 h4 h5 h6 = absurd (h5 refl)
+place-idle PointerGone s h3 h4 h5 h6 = absurd (h6 refl)
+place-idle (Zoom x) s h3 h4 h5 h6 = refl
+place-idle (Rotate x) s h3 h4 h5 h6 = refl
+place-idle (Touch d i ph v f) s h3 h4 h5 h6 = refl
+place-idle (MouseWheel u v ph g m) s h3 h4 h5 h6 = refl
+place-idle (WindowFocused b) s h3 h4 h5 h6 = refl
+place-idle Other s h3 h4 h5 h6 = refl
+
+pub place-loop : Loop place-events place-event
+unfolding place-events
+place-loop = loop place-events place-event (λ s. refl) (λ e es s. refl)
+
+-- ---- whether the pointer is gone: kind 6
+pub or-none : (b : Bool) → b ≡ (b || false)
+or-none true = refl
+or-none false = refl
+
+pub gone-first : (e : Event) (es : List Event) → clear-history-after (e ∷ es) ≡ (clear-history-after (e ∷ []) || clear-history-after es)
+unfolding clear-history-after
+gone-first (Key k b) es = refl
+gone-first (ModifiersChanged m) es = refl
+gone-first (PointerMoved v) es = refl
+gone-first (MouseMoved v) es = refl
+gone-first (Button v b c m) es = refl
+gone-first PointerGone es = refl
+gone-first (Zoom x) es = refl
+gone-first (Rotate x) es = refl
+gone-first (Touch d i ph v f) es = refl
+gone-first (MouseWheel u v ph g m) es = refl
+gone-first (WindowFocused b) es = refl
+gone-first Other es = refl
+
+pub gone-idle : (e : Event) → (kind-number e ≡ 6 → ⊥) → clear-history-after (e ∷ []) ≡ false
+unfolding clear-history-after
+gone-idle (Key k b) h = refl
+gone-idle (ModifiersChanged m) h = refl
+gone-idle (PointerMoved v) h = refl
+gone-idle (MouseMoved v) h = refl
+gone-idle (Button v b c m) h = refl
+gone-idle PointerGone h = absurd (h refl)
+gone-idle (Zoom x) h = refl
+gone-idle (Rotate x) h = refl
+gone-idle (Touch d i ph v f) h = refl
+gone-idle (MouseWheel u v ph g m) h = refl
+gone-idle (WindowFocused b) h = refl
+gone-idle Other h = refl
+
+pub gone-on : (ws : List ℕ) (at : ℕ) → at < length ws → (b : Bool) → b ≡ clear-history-after (shaped-at ws at ∷ []) →
+    clear-history-after (shaped-after ws at) ≡ (b || clear-history-after (shaped-after ws (next-place ws at)))
+gone-on ws at here b h = rw (next ws at here) (gone-first (shaped-at ws at) (shaped-after ws (next-place ws at)) ∙ rw (sym h))
+
+-- ---- the wheel: kind 10
+module _ (r : Rect) (o : InputOptions) (time : Float) where
+  pub wheel-idle : (e : Event) (s : WheelState) → (kind-number e ≡ 10 → ⊥) → wheel-event r o time e s ≡ s
+  unfolding wheel-event
+  wheel-idle (Key k b) s h10 = refl
+  wheel-idle (ModifiersChanged m) s h10 = refl
+  wheel-idle (PointerMoved v) s h10 = refl
+  wheel-idle (MouseMoved v) s h10 = refl
+  wheel-idle (Button v b c m) s h10 = refl
+  wheel-idle PointerGone s h10 = refl
+  wheel-idle (Zoom x) s h10 = refl
+  wheel-idle (Rotate x) s h10 = refl
+  wheel-idle (Touch d i ph v f) s h10 = refl
+  wheel-idle (MouseWheel u v ph g m) s h10 = absurd (h10 refl)
+  wheel-idle (WindowFocused b) s h10 = refl
+  wheel-idle Other s h10 = refl
+
+  pub wheel-loop : Loop (wheel-events r o time) (wheel-event r o time)
+  unfolding wheel-events
+  wheel-loop = loop (wheel-events r o time) (wheel-event r o time) (λ s. refl) (λ e es s. refl)
+
+-- ---- presses: kinds 3 and 5
+module _ (o : InputOptions) (time : Float) where
+  pub press-idle : (e : Event) (s : Press) → (kind-number e ≡ 3 → ⊥) → (kind-number e ≡ 5 → ⊥) → press-event o time e s ≡ s
+  unfolding press-event
+  press-idle (Key k b) s h3 h5 = refl
+  press-idle (ModifiersChanged m) s h3 h5 = refl
+  press-idle (PointerMoved v) s h3 h5 = absurd (h3 refl)
+  press-idle (MouseMoved v) s h3 h5 = refl
+  press-idle (Button v b c m) s h3 h5 = absurd (h5 refl)
+  press-idle PointerGone s h3 h5 = refl
+  press-idle (Zoom x) s h3 h5 = refl
+  press-idle (Rotate x) s h3 h5 = refl
+  press-idle (Touch d i ph v f) s h3 h5 = refl
+  press-idle (MouseWheel u v ph g m) s h3 h5 = refl
+  press-idle (WindowFocused b) s h3 h5 = refl
+  press-idle Other s h3 h5 = refl
+
+  pub press-loop : Loop (press-events o time) (press-event o time)
+  unfolding press-events
+  press-loop = loop (press-events o time) (press-event o time) (λ s. refl) (λ e es s. refl)
+
+  one-longer : {A : Type 0} (xs : List A) (x : A) → length (xs ++ (x ∷ [])) ≤ length xs + 1
+  one-longer xs x = omega (arith, length-append xs (x ∷ []))
+
+  -- an event adds one pointer event at most
+  grows : (e : Event) (s : Press) → length (press-event o time e s .held .pointer-events) ≤ length (s .held .pointer-events) + 1
+  unfolding press-event add-event press-button release release-button
+  grows (Key k b) s = omega arith
+  grows (ModifiersChanged m) s = omega arith
+  grows (PointerMoved v) s = one-longer (s .held .pointer-events) _
+  grows (MouseMoved v) s = omega arith
+  grows (Button v b true m) s = one-longer (s .held .pointer-events) _
+  grows (Button v b false m) s = one-longer (s .held .pointer-events) _
+  grows PointerGone s = omega arith
+  grows (Zoom x) s = omega arith
+  grows (Rotate x) s = omega arith
+  grows (Touch d i ph v f) s = omega arith
+  grows (MouseWheel u v ph g m) s = omega arith
+  grows (WindowFocused b) s = omega arith
+  grows Other s = omega arith
+
+  -- the places are enough for the events that may still come
+  module _ (ws : List ℕ) (at : ℕ) (here : at < length ws) (s : Press) (room : length (s .held .pointer-events) + length (shaped-after ws at) ≤ max-events) where
+    one-less : length (shaped-after ws at) ≡ suc (length (shaped-after ws (next-place ws at)))
+    one-less = ap length (next ws at here)
+
+    pub room-now : length (s .held .pointer-events) < max-events
+    room-now = let l = one-less in omega arith
+
+    pub room-next : (new : Press) → new ≡ press-event o time (shaped-at ws at) s → length (new .held .pointer-events) + length (shaped-after ws (next-place ws at)) ≤ max-events
+    room-next new e =
+        let l = one-less in
+        let g : length (new .held .pointer-events) ≤ length (s .held .pointer-events) + 1 = rw e (grows (shaped-at ws at) s) in
+        omega arith

@@ -1,0 +1,60 @@
+// Buttons, presses and clicks.
+use data::options::InputOptions;
+use event_loop::kind_at;
+use event_loop::next_place;
+use event_loop::shaped_at;
+use pointer_state::events::CODES;
+use pointer_state::events::PLACES;
+use pointer_state::press::Press;
+use pointer_state::press::clear_events;
+use pointer_state::press::press_event;
+ghost use Rattle.event_loop.specs.Shaped.{shaped-at};
+ghost use Rattle.pointer_state.specs.View.{Stepped};
+ghost use Rattle.pass_loops.specs.Passed.{PressPassed};
+
+// Kinds 3 and 5 are read.
+fn press_at(
+    s: Press,
+    codes: &mut [u32; CODES],
+    positions: &mut [f32; PLACES],
+    options: InputOptions,
+    time: f64,
+    feed: &[u32],
+    at: usize,
+) -> Press
+    ensures { λ r. ⌜ Stepped options time (shaped-at (now (feed .entry)) at) (now (codes .entry)) (now (positions .entry)) s (now (codes .exit)) (now (positions .exit)) r ⌝ }
+{
+    let kind = kind_at(feed, at);
+    if kind == 3 {
+        let e = shaped_at(feed, at);
+        return press_event(s, codes, positions, options, time, e);
+    }
+    if kind == 5 {
+        let e = shaped_at(feed, at);
+        return press_event(s, codes, positions, options, time, e);
+    }
+    s
+}
+
+// The presses' part of a pass.
+pub fn press_pass(
+    s: Press,
+    codes: &mut [u32; CODES],
+    positions: &mut [f32; PLACES],
+    options: InputOptions,
+    time: f64,
+    feed: &[u32],
+) -> Press
+    ensures { λ r. ⌜ PressPassed options time (now (feed .entry)) (now (codes .entry)) (now (positions .entry)) s (now (codes .exit)) (now (positions .exit)) r ⌝ }
+{
+    let old = s.held;
+    let past = s.past;
+    let held = clear_events(old);
+    let mut t = Press { held, past };
+    let mut at: usize = 0;
+    while at < feed.len() {
+        t = press_at(t, codes, positions, options, time, feed, at);
+        at = next_place(feed, at);
+    }
+    t
+}

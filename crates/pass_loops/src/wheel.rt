@@ -1,0 +1,100 @@
+// The wheel.
+use data::event::Event;
+use data::mouse_wheel::WheelState;
+use data::options::InputOptions;
+use emath::rect::Rect;
+use event_loop::kind_at;
+use event_loop::next_place;
+use event_loop::shaped_at;
+ghost use mathlib.Core.Path.{_≡_};
+ghost use Rattle.model.specs.Wheel.{wheel-event, wheel-events, wheel-pass};
+ghost use Rattle.event_loop.specs.Shaped.{shaped-at, shaped-events};
+
+fn wheel_event(
+    w: WheelState,
+    viewport_rect: Rect,
+    options: InputOptions,
+    time: f64,
+    e: Event,
+) -> WheelState
+    ensures { λ r. ⌜ r ≡ wheel-event «viewport_rect» options time e w ⌝ }
+{
+    match e {
+        Event::MouseWheel(unit, delta, phase, source, modifiers) => {
+            wheel_state::on_wheel_event(
+                w,
+                viewport_rect,
+                options,
+                time,
+                unit,
+                delta,
+                phase,
+                source,
+                modifiers,
+            )
+        }
+        Event::Key(_, _) => w,
+        Event::ModifiersChanged(_) => w,
+        Event::PointerMoved(_) => w,
+        Event::MouseMoved(_) => w,
+        Event::PointerButton(_, _, _, _) => w,
+        Event::PointerGone => w,
+        Event::Zoom(_) => w,
+        Event::Rotate(_) => w,
+        Event::Touch(_, _, _, _, _) => w,
+        Event::WindowFocused(_) => w,
+        Event::Other => w,
+    }
+}
+
+// Kind 10 is read.
+fn wheel_at(
+    w: WheelState,
+    viewport_rect: Rect,
+    options: InputOptions,
+    time: f64,
+    feed: &[u32],
+    at: usize,
+) -> WheelState
+    ensures { λ r. ⌜ r ≡ wheel-event «viewport_rect» options time (shaped-at (now (feed .entry)) at) w ⌝ }
+{
+    if kind_at(feed, at) == 10 {
+        let e = shaped_at(feed, at);
+        return wheel_event(w, viewport_rect, options, time, e);
+    }
+    w
+}
+
+fn wheel_events(
+    w: WheelState,
+    viewport_rect: Rect,
+    options: InputOptions,
+    time: f64,
+    feed: &[u32],
+) -> WheelState
+    ensures { λ r. ⌜ r ≡ wheel-events «viewport_rect» options time (shaped-events (now (feed .entry))) w ⌝ }
+{
+    let mut v = w;
+    let mut at: usize = 0;
+    while at < feed.len() {
+        v = wheel_at(v, viewport_rect, options, time, feed, at);
+        at = next_place(feed, at);
+    }
+    v
+}
+
+// The wheel's part of a pass; `factor` is the smoothing factor.
+pub fn wheel_pass(
+    w: WheelState,
+    viewport_rect: Rect,
+    options: InputOptions,
+    time: f64,
+    factor: f32,
+    feed: &[u32],
+) -> WheelState
+    ensures { λ r. ⌜ r ≡ wheel-pass «viewport_rect» options time factor (shaped-events (now (feed .entry))) w ⌝ }
+{
+    let cleared = wheel_state::clear_smooth(w);
+    let scrolled = wheel_events(cleared, viewport_rect, options, time, feed);
+    wheel_state::after_events(scrolled, time, factor)
+}
