@@ -15,6 +15,7 @@ use Rattle.model.specs.Types.{TouchPhase, ActiveTouch, MaybeMultiTouchInfo, no-
 use Rattle.model.specs.Touch.{TouchState, find-device, info, multi-touch, first-of as first-info, any-touches, some-touch, has-touch-screen}
 use Rattle.touch_state.specs.declared.device.Device.{Device}
 use Rattle.touch_state.specs.View.{Marked, device-view, marked-view, device-id, place, index, starts, is-at, inserted-at, new-marked, touch-marked, at-marked, touch-step}
+use Rattle.touch_state.specs.Marks.{marked-id}
 use Rattle.touch_state.proofs.Places.{rest, done}
 use Rattle.touch_state.proofs.Upsert.{some-ltb, upsert, upsert-hit, upsert-miss, at-lt, place-le, length-inserted}
 
@@ -115,15 +116,11 @@ module _ {A B : Type 0} (f : A → B) where
 
 -- ---- a touch event, by the place of its device
 
-unfoldable marked-id : Marked → ℕ
-marked-id m = m .device .device-id
-
 same-id : (u : Device) → marked-id (marked-view u) ≡ device-id u
-unfolding marked-id
 same-id u = refl
 
-at-upsert : (d : ℕ) (f : Marked → Marked) (ms : List Marked) → at-marked d f ms ≡ upsert marked-id d (f (new-marked d)) f ms
-unfolding at-marked upsert marked-id
+pub at-upsert : (d : ℕ) (f : Marked → Marked) (ms : List Marked) → at-marked d f ms ≡ upsert marked-id d (f (new-marked d)) f ms
+unfolding at-marked upsert
 at-upsert d f [] = refl
 at-upsert d f (m ∷ ms) = rw (at-upsert d f ms)
 

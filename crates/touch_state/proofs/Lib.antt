@@ -4,3 +4,5 @@ pub mod Sums
 pub mod Upsert
 pub mod Averages
 pub mod Known
+pub mod Order
+pub mod Marks

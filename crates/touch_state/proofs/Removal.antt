@@ -31,7 +31,7 @@ module _ (d n j i : ℕ) (a : List ActiveTouch) (z : ActiveTouch) (h : i < n) (l
       let b : j < length a = omega arith in
       let m : j < n = omega arith in
       let s : j < suc i = omega arith in
-      rw (add-one, add-one i, take-suc-set a j (getD a i z) b, append-snoc, take-set-lt n a j (getD a i z) m, drop-set-lt (suc i) (take n a) j (getD a i z) s, rest n i a z h l, e)
+      rw (add-one j, add-one i, take-suc-set a j (getD a i z) b, append-snoc, take-set-lt n a j (getD a i z) m, drop-set-lt (suc i) (take n a) j (getD a i z) s, rest n i a z h l, e)
 
 pub kept-end : (d n j i : ℕ) (a : List ActiveTouch) → n ≤ i → n ≤ length a → take j a ≡ kept d n a j i
 unfolding kept remove-touch

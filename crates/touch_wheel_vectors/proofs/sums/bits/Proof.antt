@@ -1,0 +1,17 @@
+-- A number where its bits are taken. Assumes nothing.
+use Rattle.touch_wheel_vectors.proofs.Nan.{no-nan}
+use borrow.Author.Needs.{needs}
+use Rattle.touch_wheel_vectors.proofs.sums.bits.Statement.{statement}
+use Rattle.touch_wheel_vectors.proofs.sums.bits.Tie as tie
+
+returns : tie.Need-returns
+returns c = search needs
+
+float-to-bits-result : tie.Need-float-to-bits-result
+float-to-bits-result c = no-nan (c .before .args .x) (c .if1 .left)
+
+returns-2 : tie.Need-returns-2
+returns-2 c = search needs
+
+pub bits-spec : {M : Type 1} → statement M
+bits-spec = tie.close (tie.spec returns float-to-bits-result returns-2)
