@@ -1,3 +1,4 @@
 pub mod Places
 pub mod Fits
 pub mod Marks
+pub mod Accepted

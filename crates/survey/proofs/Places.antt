@@ -42,7 +42,7 @@ checked (some-event f) e h = go (event-ok f) h
     go true h = cc
     go false h = no (cc)
 
-agrees : (ws : List ℕ) (e : Event) → decode ws ≡ good e → shaped ws ≡ e
+pub agrees : (ws : List ℕ) (e : Event) → decode ws ≡ good e → shaped ws ≡ e
 unfolding decode shaped
 agrees ws e h = checked (shape ws) e h
 

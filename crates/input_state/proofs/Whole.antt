@@ -1,0 +1,92 @@
+-- The parts of a pass put together. Assumes nothing.
+use mathlib.Core.Path.{_≡_, refl, sym, ap, _∙_}
+use mathlib.Core.Bool.{Bool, true, false, not, _&&_}
+use mathlib.Core.List.{List, [], map}
+use mathlib.Core.Option.{Option, none, some}
+use Prim.Native.Nat.{ℕ, _≤_}
+use native.Mathlib.Omega.{arith}
+use lib.ListN.{length}
+use lib.Ieee.{Float}
+use Rattle.data.specs.Limits.{max-events}
+use Rattle.feed.specs.Decode.{items}
+use Rattle.feed.specs.Feed.{events-of}
+use Rattle.model.specs.Types.{MaybePos2, WheelState, PassRefusal, Event}
+use Rattle.model.specs.Pointer.{Place, place-pass, Press, press-pass, is-decidedly-dragging}
+use Rattle.model.specs.Touch.{TouchState, end-touches}
+use Rattle.model.specs.Wheel.{wheel-default, wheel-pass}
+use Rattle.model.specs.Pass.{Panel, Interaction, or-else, own-refusal, time-of, time-or, rect-or, clock-pass, screen-pass, keys-pass, sums-of, decidedly-dragging, fresh, fresh-place, fresh-press, pass-events}
+use Rattle.model.specs.Pass as Pass
+use Rattle.event_loop.specs.Shaped.{shaped-events}
+use Rattle.touch_state.specs.View.{view}
+use Rattle.touch_state.specs.declared.devices.Devices.{Devices}
+use Rattle.survey.specs.Survey.{fits-events, fits-survey}
+use Rattle.survey.proofs.Accepted.{accepted}
+use Rattle.input_state.specs.declared.input.PassInput.{PassInput}
+use Rattle.input_state.specs.declared.state.InputState.{InputState}
+use Rattle.input_state.specs.View.{Lent, panel, time-given, input, begin-by, Acted, refusal-of}
+
+pub some-none : {X : Type 0} {r : PassRefusal} → some r ≡ none → X
+some-none e = let z : _≡_ {A = ℕ} 0 1 = cc in absurd (omega arith)
+
+pub fresh-is : (c : Pass.Clock) (s : Pass.Screen) (q : Place) (r : Press) (w : WheelState) (k : Pass.Keys) (m : Pass.Sums) →
+    c ≡ fresh .clock → s ≡ fresh .screen → q ≡ fresh-place → r ≡ fresh-press → w ≡ wheel-default → k ≡ fresh .keys → m ≡ fresh .sums →
+    record {
+      clock = c;
+      screen = s;
+      place = q;
+      press = r;
+      started-decidedly-dragging = false;
+      touch-states = [];
+      wheel = w;
+      keys = k;
+      sums = m;
+      interaction = fresh .interaction;
+      tally = fresh .tally;
+    } ≡ fresh
+unfolding fresh
+fresh-is c s q r w k m e1 e2 e3 e4 e5 e6 e7 = rw (e1, e2, e3, e4, e5, e6, e7)
+
+pub acted : (es : List Event) (vs : List TouchState) (p : Panel) (i : Pass.PassInput) (c : Pass.Clock) (s : Pass.Screen) (q : Place) (r : Press) (b : Bool)
+    (w : WheelState) (k : Pass.Keys) (m : Pass.Sums) →
+    c ≡ clock-pass i (time-of i (p .clock .time)) (p .clock) →
+    s ≡ screen-pass i (p .screen) →
+    q ≡ place-pass (time-of i (p .clock .time)) es (p .place) →
+    r ≡ press-pass (i .options) (time-of i (p .clock .time)) es (p .press) →
+    b
+    ≡ (is-decidedly-dragging (i .options) (time-of i (p .clock .time)) (r .held) (r .past .has-moved-too-much-for-a-click)
+    && not (decidedly-dragging (p .clock) (p .screen) (p .press))) →
+    w ≡ wheel-pass (rect-or (i .screen-rect) (p .screen .viewport-rect)) (i .options) (time-of i (p .clock .time)) (i .smoothing-factor) es (p .wheel) →
+    k ≡ keys-pass es (p .keys) →
+    m ≡ sums-of (i .options) es w →
+    record {
+      clock = c;
+      screen = s;
+      place = q;
+      press = r;
+      started-decidedly-dragging = b;
+      touch-states = map (end-touches (time-of i (p .clock .time)) (p .place .interact-pos) es) vs;
+      wheel = w;
+      keys = k;
+      sums = m;
+      interaction = p .interaction;
+      tally = p .tally;
+    } ≡ begin-by es vs p i
+unfolding begin-by
+acted es vs p i c s q r b w k m e1 e2 e3 e4 e5 e6 e7 e8 = rw (e8, e7, e6, e5, e4, e3, e2, e1)
+
+none-later : (a b : Option PassRefusal) → or-else a b ≡ none → b ≡ none
+unfolding or-else
+none-later none b h = h
+none-later (some r) b h = some-none h
+
+pub taken-is : (i : PassInput) (ws : List ℕ) (l l' : Lent) (s s' : InputState) (ds held ds' : Devices) (time : Float) →
+    refusal-of i ws (s .clock .time) (view ds) ≡ none →
+    view held ≡ fits-events (shaped-events ws) (view ds) →
+    time ≡ time-or (time-given (i .time)) (i .«predicted_dt») (s .clock .time) →
+    view ds' ≡ map (end-touches time (s .pointer .place .«interact_pos») (shaped-events ws)) (view held) →
+    Acted i ws l s l' s' → (n : Interaction) (t : ℕ) →
+    panel l' s' (view ds') n t ≡ begin-by (pass-events (input ws i)) (fits-events (pass-events (input ws i)) (view ds)) (panel l s (view ds) n t) (input ws i)
+unfolding refusal-of time-of pass-events
+taken-is i ws l l' s s' ds held ds' time z h e k act n t =
+    let a = accepted ws max-events (view ds) (none-later (own-refusal (input ws i) (s .clock .time)) _ z) in
+    rw (k, h, e) (act .result (a .1) (view ds) (fits-events (shaped-events ws) (view ds)) n t ∙ rw (a .0))

@@ -1,0 +1,58 @@
+-- `begin/begin_pass` meets its contract: each way to a return is the case of the definition that its tests pick. Assumes nothing.
+use Rattle.input_state.proofs.Whole.{some-none, taken-is}
+use Rattle.survey.specs.Survey.{option}
+use mathlib.Core.Path.{_≡_, refl, sym, ap, _∙_}
+use borrow.Author.Needs.{needs}
+use Rattle.input_state.proofs.begin.begin_pass.Statement.{statement}
+use Rattle.input_state.proofs.begin.begin_pass.Tie as tie
+
+look-requires : tie.Need-look-requires
+look-requires c κs = search needs
+
+enum-known-refusal : tie.Need-enum-known-refusal
+enum-known-refusal c = search needs
+
+enum-told : tie.Need-enum-told
+enum-told c = search needs
+
+time-of-requires : tie.Need-time-of-requires
+time-of-requires c κs = search needs
+
+end-devices-requires : tie.Need-end-devices-requires
+end-devices-requires c κs = search needs
+
+act-requires : tie.Need-act-requires
+act-requires c κs = search needs
+
+returns : tie.Need-returns
+unfolding option
+returns c =
+    let l = c .before .before .before .look .ensures in
+    let q = rw (c .before .refusal .given .1) at (l .refusal) in
+    record { refusal = q; refused = λ h. (refl, refl, refl); taken = λ z. some-none (q ∙ z) }
+
+returns-2 : tie.Need-returns-2
+unfolding option
+returns-2 c =
+    let a = c .before .before .before .before .before .before .before .before .before .before .before .before .before .before .before .before .args in
+    let look = c .before .before .before .before .before .before .before .before .before .before .before .before .before .look in
+    let end = c .before .before .before .before .before .before .end-devices in
+    let q = rw (c .before .before .before .before .before .before .before .before .before .before .before .enum-told .given .1) at (look .ensures .refusal) in
+    record {
+      refusal = q;
+      refused = λ h. absurd (h (sym q));
+      taken = λ z n t. taken-is _ _ _ _ _ _ (a .ds) (look .result .devices) (end .result) _ z (look .ensures .devices z) (c .before .before .before .before .before .before .before .before .before .time-of .ensures) (end .ensures) (c .act .ensures) n t;
+    }
+
+pub begin-pass-spec : {M : Type 1} → statement M
+begin-pass-spec =
+    tie.close
+    (tie.spec
+    look-requires
+    enum-known-refusal
+    enum-told
+    time-of-requires
+    end-devices-requires
+    act-requires
+    returns
+    returns-2)

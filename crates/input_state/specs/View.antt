@@ -1,0 +1,154 @@
+-- What the structs of src/ and the lent arrays mean: the model's records.
+use Prim.Native.Nat.{ℕ, _≤_}
+use mathlib.Core.Path.{_≡_}
+use mathlib.Core.Bool.{Bool, not, _&&_}
+use mathlib.Core.List.{List, [], map}
+use mathlib.Core.Option.{Option, none, some}
+use lib.ListN.{length}
+use lib.Ieee.{Float}
+use Rattle.data.specs.Limits.{max-events}
+use Rattle.feed.specs.Decode.{items}
+use Rattle.model.specs.Types.{Rect, InputOptions, MaybeF64, no-time, some-time, PassRefusal, Event}
+use Rattle.model.specs.Pointer.{Place, place-pass, Press, press-pass, is-decidedly-dragging}
+use Rattle.model.specs.Touch.{TouchState, end-touches}
+use Rattle.model.specs.Wheel.{wheel-pass}
+use Rattle.model.specs.Pass.{Panel, Interaction, or-else, own-refusal, time-of, rect-or, clock-pass, screen-pass, keys-pass, sums-of, decidedly-dragging, fresh, pass-events}
+use Rattle.model.specs.Pass as Pass
+use Rattle.event_loop.specs.Shaped.{shaped-events}
+use Rattle.pointer_state.specs.View.{place, press}
+use Rattle.touch_state.specs.View.{view}
+use Rattle.touch_state.specs.declared.devices.Devices.{Devices}
+use Rattle.key_state.specs.View.{presses-of, keys}
+use Rattle.survey.specs.declared.crowd.Surveyed.{Surveyed}
+use Rattle.survey.specs.Survey.{option, fits-events, fits-survey}
+use Rattle.input_state.specs.declared.input.MaybeRect.{MaybeRect}
+use Rattle.input_state.specs.declared.input.MaybeRect.the-variants.{None as no-rect, Some as some-rect}
+use Rattle.input_state.specs.declared.input.PassInput.{PassInput}
+use Rattle.input_state.specs.declared.clock.Clock.{Clock}
+use Rattle.input_state.specs.declared.screen.Screen.{Screen}
+use Rattle.input_state.specs.declared.sums.Sums.{Sums}
+use Rattle.input_state.specs.declared.pointer.Pointer.{Pointer}
+use Rattle.input_state.specs.declared.state.InputState.{InputState}
+use Rattle.input_state.specs.declared.begin.Begun as declared
+
+-- ---- what a pass is given
+abbrev pub time-given : MaybeF64 → Option Float
+time-given no-time = none
+time-given (some-time t) = some t
+
+abbrev pub rect-given : MaybeRect → Option Rect
+rect-given no-rect = none
+rect-given (some-rect r) = some r
+
+abbrev pub input : List ℕ → PassInput → Pass.PassInput
+input ws i =
+    record {
+      time = time-given (i .time);
+      screen-rect = rect-given (i .«screen_rect»);
+      predicted-dt = i .«predicted_dt»;
+      smoothing-factor = i .«smoothing_factor»;
+      pixels-per-point = i .«pixels_per_point»;
+      focused = i .focused;
+      requested-repaint = i .«requested_repaint»;
+      options = i .options;
+      feed = ws;
+    }
+
+-- ---- the state
+abbrev pub clock : Clock → Pass.Clock
+clock c = record { time = c .time; pointer-time = c .«pointer_time»; unstable-dt = c .«unstable_dt»; stable-dt = c .«stable_dt»; predicted-dt = c .«predicted_dt» }
+
+abbrev pub screen : Screen → Pass.Screen
+screen s = record { viewport-rect = s .«viewport_rect»; pixels-per-point = s .«pixels_per_point»; focused = s .focused; options = s .options }
+
+abbrev pub sums : Sums → Pass.Sums
+sums s = record { zoom-factor = s .«zoom_factor»; zoom-exponent = s .«zoom_exponent»; rotation-radians = s .«rotation_radians»; smooth-scroll-delta = s .«smooth_scroll_delta» }
+
+-- what the lent arrays hold: the history's times and positions, the pass's pointer events and their positions, the presses
+pub record Lent : Type 0 where
+  pub times : List Float
+  pub positions : List Float
+  pub codes : List ℕ
+  pub places : List Float
+  pub presses : List ℕ
+
+abbrev pub lent : List Float → List Float → List ℕ → List Float → List ℕ → Lent
+lent ts ps cs qs ks = record { times = ts; positions = ps; codes = cs; places = qs; presses = ks }
+
+-- the panel; interaction and tally stand beside the state
+abbrev pub panel : Lent → InputState → List TouchState → Interaction → ℕ → Panel
+panel l s vs n t =
+    record {
+      clock = clock (s .clock);
+      screen = screen (s .screen);
+      place = place (l .times) (l .positions) (s .pointer .place);
+      press = press (l .codes) (l .places) (s .pointer .press);
+      started-decidedly-dragging = s .pointer .«started_decidedly_dragging»;
+      touch-states = vs;
+      wheel = s .wheel;
+      keys = keys (l .presses) (s .keys);
+      sums = sums (s .sums);
+      interaction = n;
+      tally = t;
+    }
+
+-- ---- the model's `begin-pass` of a list of events, and of the devices after them
+unfoldable pub begin-by : List Event → List TouchState → Panel → Pass.PassInput → Panel
+begin-by es vs p i =
+    let time = time-of i (p .clock .time) in
+    let o = i .options in
+    let s = press-pass o time es (p .press) in
+    let w = wheel-pass (rect-or (i .screen-rect) (p .screen .viewport-rect)) o time (i .smoothing-factor) es (p .wheel) in
+    record {
+      clock = clock-pass i time (p .clock);
+      screen = screen-pass i (p .screen);
+      place = place-pass time es (p .place);
+      press = s;
+      started-decidedly-dragging =
+          is-decidedly-dragging o time (s .held) (s .past .has-moved-too-much-for-a-click) && not (decidedly-dragging (p .clock) (p .screen) (p .press));
+      touch-states = map (end-touches time (p .place .interact-pos) es) vs;
+      wheel = w;
+      keys = keys-pass es (p .keys);
+      sums = sums-of o es w;
+      interaction = p .interaction;
+      tally = p .tally;
+    }
+
+-- ---- contracts
+
+-- a fresh state: whatever the lent arrays hold, but for the presses, which are 0
+abbrev pub Fresh : InputState → Type 0
+Fresh s = (l : Lent) → ((j : ℕ) → presses-of (l .presses) j ≡ 0) → panel l s [] (fresh .interaction) (fresh .tally) ≡ fresh
+
+-- the pointer's part
+pub record PointerPassed (old : InputOptions) (before : Float) (o : InputOptions) (time : Float) (ws : List ℕ)
+    (times positions : List Float) (codes : List ℕ) (places : List Float) (p : Pointer)
+    (times' positions' : List Float) (codes' : List ℕ) (places' : List Float) (r : Pointer) : Type 0 where
+  pub place-is : place times' positions' (r .place) ≡ place-pass time (shaped-events ws) (place times positions (p .place))
+  pub press-is : length (shaped-events ws) ≤ max-events →
+      press codes' places' (r .press) ≡ press-pass o time (shaped-events ws) (press codes places (p .press))
+  pub started-is : r .«started_decidedly_dragging»
+      ≡ (is-decidedly-dragging o time (press codes' places' (r .press) .held) (press codes' places' (r .press) .past .has-moved-too-much-for-a-click)
+      && not (is-decidedly-dragging old before (press codes places (p .press) .held) (press codes places (p .press) .past .has-moved-too-much-for-a-click)))
+
+-- a pass that is taken, of a feed of at most 64 events, for any devices `us` after the touch events
+pub record Acted (i : PassInput) (ws : List ℕ) (l : Lent) (s : InputState) (l' : Lent) (r : InputState) : Type 0 where
+  pub result : length (shaped-events ws) ≤ max-events → (vs us : List TouchState) (n : Interaction) (t : ℕ) →
+      panel l' r (map (end-touches (time-of (input ws i) (s .clock .time)) (s .pointer .place .«interact_pos») (shaped-events ws)) us) n t
+      ≡ begin-by (shaped-events ws) us (panel l s vs n t) (input ws i)
+
+-- 01's refusals in their order, on the devices that the arrays hold
+unfoldable pub refusal-of : PassInput → List ℕ → Float → List TouchState → Option PassRefusal
+refusal-of i ws old vs = or-else (own-refusal (input ws i) old) (fits-survey max-events (items ws) vs)
+
+pub record Looked (i : PassInput) (ws : List ℕ) (old : Float) (vs : List TouchState) (r : Surveyed) : Type 0 where
+  pub refusal : option (r .refusal) ≡ refusal-of i ws old vs
+  pub devices : refusal-of i ws old vs ≡ none → view (r .devices) ≡ fits-events (shaped-events ws) vs
+
+-- A pass: refused, all is as before; taken, the state is the model's `begin-pass` of the feed's events.
+pub record Begun (i : PassInput) (ws : List ℕ) (l : Lent) (s : InputState) (ds : Devices) (l' : Lent) (r : declared.Begun) : Type 0 where
+  pub refusal : option (r .refusal) ≡ refusal-of i ws (s .clock .time) (view ds)
+  pub refused : (refusal-of i ws (s .clock .time) (view ds) ≡ none → ⊥) → (r .state ≡ s) × (r .devices ≡ ds) × (l' ≡ l)
+  pub taken : refusal-of i ws (s .clock .time) (view ds) ≡ none → (n : Interaction) (t : ℕ) →
+      panel l' (r .state) (view (r .devices)) n t
+      ≡ begin-by (pass-events (input ws i)) (fits-events (pass-events (input ws i)) (view ds)) (panel l s (view ds) n t) (input ws i)

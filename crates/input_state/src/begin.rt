@@ -1,0 +1,80 @@
+// A pass: refused with all left as before, or taken.
+use crate::input::PassInput;
+use crate::input::own_refusal;
+use crate::input::time_of;
+use crate::state::InputState;
+use crate::state::act;
+use emath::history::MAX_LEN;
+use emath::history::PARTS;
+use pointer_state::events::CODES;
+use pointer_state::events::PLACES;
+use survey::crowd::Surveyed;
+use survey::crowd::survey;
+use survey::ends::end_devices;
+use survey::reading::MaybePassRefusal;
+use touch_state::devices::Devices;
+ghost use Rattle.touch_state.specs.View.{view};
+ghost use Rattle.input_state.specs.View.{Looked, lent};
+ghost use Rattle.input_state.specs.View.{Begun as BegunAs};
+
+// The state and the devices after the pass, and the refusal if there is one.
+pub struct Begun {
+    pub state: InputState,
+    pub devices: Devices,
+    pub refusal: MaybePassRefusal,
+}
+
+// "2 for its own numbers, 3, then event by event 4, 1, 2, 5", with the devices after the events where nothing is refused.
+fn look(ds: Devices, old: f64, i: PassInput, feed: &[u32]) -> Surveyed
+    ensures { λ r. ⌜ Looked i (now (feed .entry)) old (view ds) r ⌝ }
+{
+    let own = own_refusal(i, old);
+    match own {
+        MaybePassRefusal::None => survey(ds, feed),
+        MaybePassRefusal::Some(q) => Surveyed {
+            refusal: MaybePassRefusal::Some(q),
+            devices: ds,
+        },
+    }
+}
+
+// egui's `begin_pass`. A gesture starts at the interact position of the pass before.
+pub fn begin_pass(
+    s: InputState,
+    ds: Devices,
+    times: &mut [f64; MAX_LEN],
+    positions: &mut [f32; PARTS],
+    codes: &mut [u32; CODES],
+    places: &mut [f32; PLACES],
+    presses: &mut [u8; 145],
+    i: PassInput,
+    feed: &[u32],
+) -> Begun
+    ensures { λ r. ⌜ BegunAs i (now (feed .entry)) (lent (now (times .entry)) (now (positions .entry)) (now (codes .entry)) (now (places .entry)) (now (presses .entry))) s ds (lent (now (times .exit)) (now (positions .exit)) (now (codes .exit)) (now (places .exit)) (now (presses .exit))) r ⌝ }
+{
+    let clock = s.clock;
+    let looked = look(ds, clock.time, i, feed);
+    let refusal = looked.refusal;
+    match refusal {
+        MaybePassRefusal::Some(q) => Begun {
+            state: s,
+            devices: ds,
+            refusal: MaybePassRefusal::Some(q),
+        },
+        MaybePassRefusal::None => {
+            let held = looked.devices;
+            let given = i.time;
+            let time = time_of(given, i.predicted_dt, clock.time);
+            let pointer = s.pointer;
+            let place = pointer.place;
+            let pos = place.interact_pos;
+            let devices = end_devices(held, feed, time, pos);
+            let state = act(s, times, positions, codes, places, presses, i, feed);
+            Begun {
+                state,
+                devices,
+                refusal: MaybePassRefusal::None,
+            }
+        }
+    }
+}

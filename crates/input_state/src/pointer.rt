@@ -1,0 +1,53 @@
+// The pointer in a pass.
+use data::options::InputOptions;
+use emath::history::MAX_LEN;
+use emath::history::PARTS;
+use pass_loops::place::place_pass;
+use pass_loops::press::press_pass;
+use pointer_state::events::CODES;
+use pointer_state::events::PLACES;
+use pointer_state::place::Place;
+use pointer_state::press::Press;
+use pointer_state::press::is_decidedly_dragging;
+use pointer_state::press::started_decidedly_dragging;
+ghost use Rattle.input_state.specs.View.{PointerPassed};
+
+pub struct Pointer {
+    pub place: Place,
+    pub press: Press,
+    pub started_decidedly_dragging: bool,
+}
+
+// `before` and `old` are the pointer's time and the options before the pass.
+pub fn pointer_pass(
+    p: Pointer,
+    times: &mut [f64; MAX_LEN],
+    positions: &mut [f32; PARTS],
+    codes: &mut [u32; CODES],
+    places: &mut [f32; PLACES],
+    old: InputOptions,
+    before: f64,
+    options: InputOptions,
+    time: f64,
+    feed: &[u32],
+) -> Pointer
+    ensures { λ r. ⌜ PointerPassed old before options time (now (feed .entry)) (now (times .entry)) (now (positions .entry)) (now (codes .entry)) (now (places .entry)) p (now (times .exit)) (now (positions .exit)) (now (codes .exit)) (now (places .exit)) r ⌝ }
+{
+    let old_place = p.place;
+    let old_press = p.press;
+    let old_held = old_press.held;
+    let old_past = old_press.past;
+    let moved = old_past.has_moved_too_much_for_a_click;
+    let was = is_decidedly_dragging(old_held, codes, old, before, moved);
+    let place = place_pass(old_place, times, positions, time, feed);
+    let press = press_pass(old_press, codes, places, options, time, feed);
+    let held = press.held;
+    let past = press.past;
+    let spoilt = past.has_moved_too_much_for_a_click;
+    let started = started_decidedly_dragging(held, codes, options, time, spoilt, was);
+    Pointer {
+        place,
+        press,
+        started_decidedly_dragging: started,
+    }
+}
