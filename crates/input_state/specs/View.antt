@@ -12,7 +12,7 @@ use Rattle.model.specs.Types.{Rect, InputOptions, MaybeF64, no-time, some-time,
 use Rattle.model.specs.Pointer.{Place, place-pass, Press, press-pass, is-decidedly-dragging}
 use Rattle.model.specs.Touch.{TouchState, end-touches}
 use Rattle.model.specs.Wheel.{wheel-pass}
-use Rattle.model.specs.Pass.{Panel, Interaction, or-else, own-refusal, time-of, rect-or, clock-pass, screen-pass, keys-pass, sums-of, decidedly-dragging, fresh, pass-events}
+use Rattle.model.specs.Pass.{Panel, Interaction, or-else, own-refusal, time-of, rect-or, clock-pass, screen-pass, keys-pass, sums-of, decidedly-dragging, fresh, pass-events, pass}
 use Rattle.model.specs.Pass as Pass
 use Rattle.event_loop.specs.Shaped.{shaped-events}
 use Rattle.pointer_state.specs.View.{place, press}
@@ -21,6 +21,7 @@ use Rattle.touch_state.specs.declared.devices.Devices.{Devices}
 use Rattle.key_state.specs.View.{presses-of, keys}
 use Rattle.survey.specs.declared.crowd.Surveyed.{Surveyed}
 use Rattle.survey.specs.Survey.{option, fits-events, fits-survey}
+use Rattle.survey.specs.Laws.{InOrder}
 use Rattle.input_state.specs.declared.input.MaybeRect.{MaybeRect}
 use Rattle.input_state.specs.declared.input.MaybeRect.the-variants.{None as no-rect, Some as some-rect}
 use Rattle.input_state.specs.declared.input.PassInput.{PassInput}
@@ -145,10 +146,19 @@ pub record Looked (i : PassInput) (ws : List ℕ) (old : Float) (vs : List Touch
   pub refusal : option (r .refusal) ≡ refusal-of i ws old vs
   pub devices : refusal-of i ws old vs ≡ none → view (r .devices) ≡ fits-events (shaped-events ws) vs
 
--- A pass: refused, all is as before; taken, the state is the model's `begin-pass` of the feed's events.
+-- the outcome of a pass in the model's terms
+unfoldable pub outcome : Option PassRefusal → Panel → Pass.Passed
+outcome none p = Pass.taken p
+outcome (some q) p = Pass.refused q
+
+-- A pass of any state: refused, then all is as before; taken, then the state is the model's `begin-pass` of the feed's events, on the devices that the arrays hold.
+-- Of devices in order, as every pass leaves them, it is the model's `pass`, for any interaction and tally beside it.
 pub record Begun (i : PassInput) (ws : List ℕ) (l : Lent) (s : InputState) (ds : Devices) (l' : Lent) (r : declared.Begun) : Type 0 where
   pub refusal : option (r .refusal) ≡ refusal-of i ws (s .clock .time) (view ds)
   pub refused : (refusal-of i ws (s .clock .time) (view ds) ≡ none → ⊥) → (r .state ≡ s) × (r .devices ≡ ds) × (l' ≡ l)
   pub taken : refusal-of i ws (s .clock .time) (view ds) ≡ none → (n : Interaction) (t : ℕ) →
       panel l' (r .state) (view (r .devices)) n t
       ≡ begin-by (pass-events (input ws i)) (fits-events (pass-events (input ws i)) (view ds)) (panel l s (view ds) n t) (input ws i)
+  pub whole : InOrder (view ds) → (n : Interaction) (t : ℕ) →
+      outcome (option (r .refusal)) (panel l' (r .state) (view (r .devices)) n t) ≡ pass (panel l s (view ds) n t) (input ws i)
+  pub in-order : InOrder (view ds) → InOrder (view (r .devices))

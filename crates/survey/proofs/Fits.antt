@@ -13,7 +13,7 @@ use Rattle.touch_state.specs.declared.devices.Devices.{Devices}
 use Rattle.touch_state.specs.View.{Marked, known, view, marked, device-view, marked-view, new-marked, touch-marked, at-marked, touch-step}
 use Rattle.survey.specs.Survey.{fits-device, fits-touch}
 
-abbrev bare : Marked → TouchState
+abbrev pub bare : Marked → TouchState
 bare m = m .device
 
 bare-cond : (b : Bool) (x y : List Marked) → map bare (cond b x y) ≡ cond b (map bare x) (map bare y)
@@ -33,7 +33,7 @@ module _ (d : ℕ) (ph : TouchPhase) (t : ActiveTouch) where
       ∙ cond-same (ltb d (m .device .device-id)) refl
       (bare-cond (eqb d (m .device .device-id)) _ _ ∙ cond-same (eqb d (m .device .device-id)) refl (ap (λ (vs : List TouchState). m .device ∷ vs) (at-bare ms)))
 
-  step-bare : (ms : List Marked) → map bare (touch-step d ph t ms) ≡ fits-touch d ph t (map bare ms)
+  pub step-bare : (ms : List Marked) → map bare (touch-step d ph t ms) ≡ fits-touch d ph t (map bare ms)
   unfolding touch-step fits-touch
   step-bare ms =
       bare-cond (leb (length (at-marked d (touch-marked ph t) ms)) max-devices) _ _

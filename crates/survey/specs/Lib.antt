@@ -1,2 +1,3 @@
 pub mod Survey
 pub mod Ends
+pub mod Laws

@@ -1,5 +1,5 @@
 -- `begin/begin_pass` meets its contract: each way to a return is the case of the definition that its tests pick. Assumes nothing.
-use Rattle.input_state.proofs.Whole.{some-none, taken-is}
+use Rattle.input_state.proofs.Whole.{refused-pass, taken-pass}
 use Rattle.survey.specs.Survey.{option}
 use mathlib.Core.Path.{_≡_, refl, sym, ap, _∙_}
 use borrow.Author.Needs.{needs}
@@ -29,20 +29,15 @@ unfolding option
 returns c =
     let l = c .before .before .before .look .ensures in
     let q = rw (c .before .refusal .given .1) at (l .refusal) in
-    record { refusal = q; refused = λ h. (refl, refl, refl); taken = λ z. some-none (q ∙ z) }
+    refused-pass _ _ _ _ _ _ _ _ q refl refl refl refl
 
 returns-2 : tie.Need-returns-2
 unfolding option
 returns-2 c =
-    let a = c .before .before .before .before .before .before .before .before .before .before .before .before .before .before .before .before .args in
     let look = c .before .before .before .before .before .before .before .before .before .before .before .before .before .look in
     let end = c .before .before .before .before .before .before .end-devices in
     let q = rw (c .before .before .before .before .before .before .before .before .before .before .before .enum-told .given .1) at (look .ensures .refusal) in
-    record {
-      refusal = q;
-      refused = λ h. absurd (h (sym q));
-      taken = λ z n t. taken-is _ _ _ _ _ _ (a .ds) (look .result .devices) (end .result) _ z (look .ensures .devices z) (c .before .before .before .before .before .before .before .before .before .time-of .ensures) (end .ensures) (c .act .ensures) n t;
-    }
+    taken-pass _ _ _ _ _ _ _ (look .result .devices) _ q refl (look .ensures .devices) (c .before .before .before .before .before .before .before .before .before .time-of .ensures) (end .ensures) (c .act .ensures)
 
 pub begin-pass-spec : {M : Type 1} → statement M
 begin-pass-spec =
