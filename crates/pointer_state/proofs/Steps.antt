@@ -10,7 +10,7 @@ use Rattle.model.specs.Pointer.{Held, any-down, any, is-press, is-release, is-c
 use Rattle.model.specs.Pointer.{could-any-button-be-click, is-decidedly-dragging, press-event}
 use Rattle.pointer_state.specs.Types.{Press}
 use Rattle.pointer_state.specs.View.{press, Stepped}
-use Rattle.pointer_state.proofs.Stored.{capped-events}
+use Rattle.pointer_events.proofs.Stored.{capped-events}
 
 pub idle : (o : InputOptions) (time : Float) (e : Event) (cs : List ℕ) (ps : List Float) (s : Press) →
     press-event o time e (press cs ps s) ≡ press cs ps s → Stepped o time e cs ps s cs ps s

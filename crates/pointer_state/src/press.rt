@@ -1,9 +1,4 @@
 // Which buttons are down, what happened in the pass, and what presses and clicks leave behind.
-use crate::events::CODES;
-use crate::events::PLACES;
-use crate::events::Sought;
-use crate::events::any;
-use crate::events::push;
 use data::event::Event;
 use data::modifiers::Modifiers;
 use data::options::InputOptions;
@@ -15,6 +10,11 @@ use data::pointer::PointerButton;
 use data::pointer::PointerEvent;
 use emath::pos2::MaybePos2;
 use emath::pos2::Pos2;
+use pointer_events::CODES;
+use pointer_events::PLACES;
+use pointer_events::Sought;
+use pointer_events::any;
+use pointer_events::push;
 ghost use mathlib.Core.Path.{_≡_};
 ghost use mathlib.Core.Bool.{true, false, not, _||_, _&&_};
 ghost use mathlib.Core.List.{List};

@@ -1,21 +1,18 @@
 -- What the records of src/ mean in the model's terms, and the model's steps on devices that carry a mark.
-use Prim.Native.Nat.{ℕ, zero, suc}
-use mathlib.Core.Bool.{Bool, true, false, _||_, cond}
-use mathlib.Core.List.{List, [], _∷_, _++_, map}
+use Prim.Native.Nat.{ℕ}
+use mathlib.Core.Bool.{Bool, false, _||_, cond}
+use mathlib.Core.List.{List, [], _∷_, map}
 use lib.Dec.{leb, ltb, eqb}
-use lib.ListN.{length, take, drop}
+use lib.ListN.{length, take}
 use lib.Ieee.{Float}
-use Rattle.data.specs.Limits.{max-devices, max-touches}
+use Rattle.data.specs.Limits.{max-devices}
 use Rattle.model.specs.Types.{MaybePos2, TouchPhase, ActiveTouch, MaybeMultiTouchInfo, no-info, some-info, Rotation, Radians, Headings}
-use Rattle.model.specs.Touch.{TouchState, new-device, on-touch, adds-or-removes, classify, calc-dynamic-state, update-gesture, forget-previous-if}
-use Rattle.touch_state.specs.declared.touches.Touches.{Touches}
+use Rattle.model.specs.Touch.{TouchState, new-device, adds-or-removes, classify, calc-dynamic-state, update-gesture, forget-previous-if}
+use Rattle.touches.specs.Touches.{list, on-touch-if-room}
 use Rattle.touch_state.specs.declared.device.Device.{Device}
 use Rattle.touch_state.specs.declared.devices.Devices.{Devices}
 
 -- ---- the views: the first `count` places are the list
-
-abbrev pub list : Touches → List ActiveTouch
-list ts = take (ts .count) (ts .places)
 
 -- a device as the model's
 abbrev pub device-view : Device → TouchState
@@ -39,44 +36,10 @@ view ds = map device-view (known ds)
 abbrev pub marked : Devices → List Marked
 marked ds = map marked-view (known ds)
 
--- ---- places in a list by ascending id
-
-abbrev pub touch-id : ActiveTouch → ℕ
-touch-id t = t .id
-
 abbrev pub device-id : Device → ℕ
 device-id d = d .id
 
--- the first place with this id or a greater one
-unfoldable pub place : {A : Type 0} → (A → ℕ) → ℕ → List A → ℕ
-place key i [] = 0
-place key i (u ∷ us) = cond (ltb (key u) i) (suc (place key i us)) 0
-
--- the first place with this id, or the length
-unfoldable pub index : {A : Type 0} → (A → ℕ) → ℕ → List A → ℕ
-index key i [] = 0
-index key i (u ∷ us) = cond (eqb i (key u)) 0 (suc (index key i us))
-
--- does the element at place i have this id?
-unfoldable pub starts : {A : Type 0} → (A → ℕ) → ℕ → List A → Bool
-starts key d [] = false
-starts key d (u ∷ us) = eqb d (key u)
-
-unfoldable pub is-at : {A : Type 0} → (A → ℕ) → ℕ → ℕ → List A → Bool
-is-at key i d us = starts key d (drop i us)
-
--- x put in at place i
-unfoldable pub inserted-at : {A : Type 0} → ℕ → A → List A → List A
-inserted-at i x us = take i us ++ (x ∷ drop i us)
-
 -- ---- the model's steps, where what does not fit is left out: the pass has refused it before
-
-unfoldable pub if-room : List ActiveTouch → List ActiveTouch → List ActiveTouch
-if-room new old = cond (leb (length new) max-touches) new old
-
--- `on-touch`
-unfoldable pub on-touch-if-room : TouchPhase → ActiveTouch → List ActiveTouch → List ActiveTouch
-on-touch-if-room ph t us = if-room (on-touch ph t us) us
 
 -- `new-device`
 unfoldable pub new-marked : ℕ → Marked

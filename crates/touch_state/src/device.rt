@@ -1,14 +1,14 @@
 // A touch device: egui's TouchState.
-use crate::gesture::calc_dynamic_state;
-use crate::gesture::classify;
-use crate::gesture::forget_previous_if;
-use crate::gesture::update_gesture;
-use crate::touches::Touches;
 use data::limits::MAX_TOUCHES;
 use data::touch::ActiveTouch;
 use data::touch::MaybeGestureState;
 use data::touch::TouchPhase;
 use emath::pos2::MaybePos2;
+use gesture::calc_dynamic_state;
+use gesture::classify;
+use gesture::forget_previous_if;
+use gesture::update_gesture;
+use touches::Touches;
 ghost use mathlib.Core.Path.{_≡_};
 ghost use lib.ListN.{length};
 ghost use mathlib.Core.Option.{some};
@@ -26,7 +26,7 @@ pub struct Device {
 pub fn new(id: u64) -> Device
     ensures { λ r. ⌜ marked-view r ≡ new-marked id ⌝ }
 {
-    let touches = crate::touches::none();
+    let touches = touches::none();
     Device {
         id: id,
         touches: touches,
@@ -62,7 +62,7 @@ pub fn on_touch(d: Device, phase: TouchPhase, t: ActiveTouch) -> Device
     ensures { λ r. ⌜ marked-view r ≡ touch-marked phase t (marked-view d) ⌝ }
 {
     let old = d.touches;
-    let touches = crate::touches::on_touch(old, phase, t);
+    let touches = touches::on_touch(old, phase, t);
     let gesture_state = d.gesture_state;
     Device {
         id: d.id,
@@ -77,8 +77,8 @@ pub fn is_full(d: Device, phase: TouchPhase, id: u64) -> bool
     ensures { λ r. ⌜ r ≡ no-place phase id 0 (some (device-view d)) ⌝ }
 {
     let touches = d.touches;
-    let held = crate::touches::holds(touches, id);
-    let full = MAX_TOUCHES <= crate::touches::len(touches);
+    let held = touches::holds(touches, id);
+    let full = MAX_TOUCHES <= touches::len(touches);
     (is_start(phase) & !held) & full
 }
 
@@ -104,5 +104,5 @@ pub fn any_touches(d: Device) -> bool
     ensures { λ r. ⌜ r ≡ any-touches-at (some (device-view d)) ⌝ }
 {
     let touches = d.touches;
-    crate::touches::len(touches) > 0
+    touches::len(touches) > 0
 }

@@ -11,7 +11,8 @@ ghost use Prim.Native.Nat.{_≤_, _<_};
 ghost use lib.ListN.{length, set};
 ghost use Rattle.data.specs.Limits.{max-devices};
 ghost use Rattle.model.specs.Touch.{no-place, find-device, info-at, multi-touch, any-touches, any-touches-at, has-touch-screen};
-ghost use Rattle.touch_state.specs.View.{known, device-id, place, index, is-at, inserted-at, view, marked, touch-step, end-marked};
+ghost use Rattle.touches.specs.Touches.{place, index, is-at, inserted-at};
+ghost use Rattle.touch_state.specs.View.{known, device-id, view, marked, touch-step, end-marked};
 
 pub struct Devices {
     pub count: usize,

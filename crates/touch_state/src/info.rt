@@ -80,7 +80,7 @@ pub fn info(d: Device) -> MaybeMultiTouchInfo
     ensures { λ r. ⌜ r ≡ info (device-view d) ⌝ }
 {
     let touches = d.touches;
-    let n = crate::touches::len(touches);
+    let n = touches::len(touches);
     let gesture = d.gesture_state;
     match gesture {
         data::touch::MaybeGestureState::None => MaybeMultiTouchInfo::None,

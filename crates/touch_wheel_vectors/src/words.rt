@@ -17,8 +17,7 @@ use touch_state::device::Device;
 use touch_state::devices;
 use touch_state::devices::Devices;
 use touch_state::info;
-use touch_state::touches;
-use touch_state::touches::Touches;
+use touches::Touches;
 
 fn wheel(sum: u64, w: WheelState) -> u64 {
     let status = w.status;

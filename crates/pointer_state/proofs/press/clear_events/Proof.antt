@@ -1,7 +1,7 @@
 -- Each way to a return is the case of the definition that its tests pick. Assumes nothing.
 use mathlib.Core.Path.{refl}
 use Rattle.model.specs.Pointer.{clear-events}
-use Rattle.pointer_state.specs.Events.{events, events-from}
+use Rattle.pointer_events.specs.Events.{events, events-from}
 use Rattle.pointer_state.proofs.press.clear_events.Statement.{statement}
 use Rattle.pointer_state.proofs.press.clear_events.Tie as tie
 

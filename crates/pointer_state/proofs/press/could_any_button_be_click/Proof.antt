@@ -1,7 +1,7 @@
 -- Each way to a return is the case of the definition that its tests pick. Assumes nothing.
 use mathlib.Core.Path.{sym, _∙_}
 use Rattle.pointer_state.proofs.Steps.{could-moved, could-long, could-down, could-released}
-use Rattle.pointer_state.specs.Events.{asks}
+use Rattle.pointer_events.specs.Events.{asks}
 use borrow.Author.Needs.{needs}
 use Rattle.pointer_state.proofs.press.could_any_button_be_click.Statement.{statement}
 use Rattle.pointer_state.proofs.press.could_any_button_be_click.Tie as tie

@@ -1,7 +1,7 @@
 -- Each way to a return is the case of the definition that its tests pick. Assumes nothing.
 use mathlib.Core.Path.{sym, _∙_}
 use Rattle.pointer_state.proofs.Steps.{dragging-could, dragging-pressed, dragging-clicked, dragging-down, dragging-released}
-use Rattle.pointer_state.specs.Events.{asks}
+use Rattle.pointer_events.specs.Events.{asks}
 use borrow.Author.Needs.{needs}
 use Rattle.pointer_state.proofs.press.is_decidedly_dragging.Statement.{statement}
 use Rattle.pointer_state.proofs.press.is_decidedly_dragging.Tie as tie

@@ -1,7 +1,7 @@
 -- `device::any_touches` meets its contract. Assumes nothing.
 use borrow.Author.Needs.{needs}
 use Rattle.model.specs.Touch.{any-touches-at}
-use Rattle.touch_state.proofs.Upsert.{some-length}
+use Rattle.touches.proofs.Upsert.{some-length}
 use Rattle.touch_state.proofs.device.any_touches.Statement.{statement}
 use Rattle.touch_state.proofs.device.any_touches.Tie as tie
 

@@ -4,7 +4,7 @@ use Rattle.touch_state.specs.View.{new-marked}
 use borrow.Author.Needs.{needs}
 use Rattle.touch_state.proofs.device.new.Statement.{statement}
 use Rattle.touch_state.proofs.device.new.Tie as tie
-use Rattle.touch_state.proofs.touches.none.Reads as none-reads
+use Rattle.touches.proofs.none.Reads as none-reads
 
 none-requires : tie.Need-none-requires
 none-requires c κs = search needs

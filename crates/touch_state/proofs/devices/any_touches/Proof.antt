@@ -7,7 +7,7 @@ use mathlib.Core.List.{map}
 use lib.ListN.{length, take, drop, length-take, length-map, length-set}
 use Rattle.model.specs.Touch.{any-touches, any-touches-at}
 use Rattle.touch_state.specs.View.{device-view}
-use Rattle.touch_state.proofs.Places.{first-of, first-le}
+use Rattle.touches.proofs.Places.{first-of, first-le}
 use Rattle.touch_state.proofs.Known.{any-stops, any-skips, any-ends}
 use Rattle.touch_state.proofs.devices.any_touches.Statement.{statement}
 use Rattle.touch_state.proofs.devices.any_touches.Tie as tie

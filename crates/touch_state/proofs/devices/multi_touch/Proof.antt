@@ -7,7 +7,7 @@ use mathlib.Core.List.{map}
 use lib.ListN.{length, take, drop, length-take, length-map, length-set}
 use Rattle.model.specs.Touch.{multi-touch, first-of as first-info}
 use Rattle.touch_state.specs.View.{device-view}
-use Rattle.touch_state.proofs.Places.{first-of, first-le}
+use Rattle.touches.proofs.Places.{first-of, first-le}
 use Rattle.touch_state.proofs.Known.{multi-stops, multi-ends}
 use Rattle.touch_state.proofs.devices.multi_touch.Statement.{statement}
 use Rattle.touch_state.proofs.devices.multi_touch.Tie as tie
