@@ -3,14 +3,14 @@ use data::mouse_wheel::WheelState;
 use data::options::InputOptions;
 use data::pointer::MaybeF64;
 use emath::vec2::Vec2;
+use pointer_clicks::Held;
+use pointer_clicks::is_decidedly_dragging;
 use pointer_events::CODES;
 use pointer_events::counted;
 use pointer_place::Place;
-use pointer_state::press::Held;
 use pointer_state::press::Press;
-use pointer_state::press::is_decidedly_dragging;
+use touch_questions::any_touches;
 use touch_state::devices::Devices;
-use touch_state::devices::any_touches;
 ghost use mathlib.Core.Path.{_≡_};
 ghost use mathlib.Core.Bool.{_||_};
 ghost use mathlib.Core.List.{List};
@@ -20,7 +20,7 @@ ghost use Rattle.emath.specs.Vec.{vec-zero, vec-ne, vec-abs, max-elem};
 ghost use Rattle.model.specs.Numbers.{fifth};
 ghost use Rattle.model.specs.Questions.{maybe-seconds, some-event, until-menu};
 ghost use Rattle.model.specs.Questions as ask;
-ghost use Rattle.pointer_state.specs.View.{held};
+ghost use Rattle.pointer_clicks.specs.View.{held};
 ghost use Rattle.input_questions.specs.Answers.{of-waiting};
 
 // PointerState::wants_repaint: did the pointer do anything in the pass?

@@ -1,4 +1,4 @@
--- What the structs of src/ mean beside the lent arrays: the model's records.
+-- What the struct of src/ means beside the lent arrays: the model's record; and an event's effect.
 use Prim.Native.Nat.{ℕ, _*_, _<_}
 use mathlib.Core.Path.{_≡_}
 use mathlib.Core.List.{List}
@@ -9,20 +9,8 @@ use Rattle.model.specs.Types.{InputOptions, Event}
 use Rattle.model.specs.Pointer.{press-event}
 use Rattle.model.specs.Pointer as Pointer
 use Rattle.pointer_events.specs.Events.{events}
-use Rattle.pointer_state.specs.Types.{Held, ClickPast, Press}
-
-abbrev pub held : List ℕ → List Float → Held → Pointer.Held
-held codes positions h =
-    record { down = h .down; press-origin = h .«press_origin»; press-start-time = h .«press_start_time»; pointer-events = events codes positions (h .«event_count») }
-
-abbrev pub past : ClickPast → Pointer.ClickPast
-past p =
-    record {
-      has-moved-too-much-for-a-click = p .«has_moved_too_much_for_a_click»;
-      last-click-pos = p .«last_click_pos»;
-      last-click-time = p .«last_click_time»;
-      last-last-click-time = p .«last_last_click_time»;
-    }
+use Rattle.pointer_clicks.specs.View.{held, past}
+use Rattle.pointer_state.specs.declared.press.Press.{Press}
 
 abbrev pub press : List ℕ → List Float → Press → Pointer.Press
 press codes positions s = record { held = held codes positions (s .held); past = past (s .past) }

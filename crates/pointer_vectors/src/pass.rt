@@ -12,6 +12,9 @@ use emath::history::PARTS;
 use emath::pos2::MaybePos2;
 use feed::decode::EventAt;
 use feed::decode::event_at;
+use pointer_clicks::clear_events;
+use pointer_clicks::is_decidedly_dragging;
+use pointer_clicks::started_decidedly_dragging;
 use pointer_events::CODES;
 use pointer_events::PLACES;
 use pointer_place::Place;
@@ -20,10 +23,7 @@ use pointer_place::end_place;
 use pointer_place::place_event;
 use pointer_place::start_place;
 use pointer_state::press::Press;
-use pointer_state::press::clear_events;
-use pointer_state::press::is_decidedly_dragging;
 use pointer_state::press::press_event;
-use pointer_state::press::started_decidedly_dragging;
 
 pub struct State {
     pub place: Place,

@@ -13,9 +13,10 @@ use lib.Seq.{append-snoc, take-suc-set, take-set-lt, drop-set-lt, getD-take}
 use Rattle.data.specs.Limits.{max-devices}
 use Rattle.model.specs.Types.{TouchPhase, ActiveTouch, MaybeMultiTouchInfo, no-info, some-info}
 use Rattle.model.specs.Touch.{TouchState, find-device, info, multi-touch, first-of as first-info, any-touches, some-touch, has-touch-screen}
-use Rattle.touch_state.specs.declared.device.Device.{Device}
+use Rattle.touch_device.specs.declared.Device.{Device}
 use Rattle.touches.specs.Touches.{place, index, starts, is-at, inserted-at}
-use Rattle.touch_state.specs.View.{Marked, device-view, marked-view, device-id, new-marked, touch-marked, at-marked, touch-step}
+use Rattle.touch_device.specs.View.{Marked, device-view, marked-view, new-marked, touch-marked}
+use Rattle.touch_state.specs.View.{device-id, at-marked, touch-step}
 use Rattle.touch_state.specs.Marks.{marked-id}
 use Rattle.touches.proofs.Places.{rest, done}
 use Rattle.touches.proofs.Upsert.{some-ltb, upsert, upsert-hit, upsert-miss, at-lt, place-le, length-inserted}

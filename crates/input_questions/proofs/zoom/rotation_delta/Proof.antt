@@ -3,15 +3,9 @@ use mathlib.Core.Path.{_≡_, refl, ap}
 use Rattle.model.specs.Questions.{rotation, reply, shown, rotation-reply}
 use Rattle.model.specs.Pass.{Sums}
 use Rattle.model.specs.Types.{MaybeMultiTouchInfo, no-info, some-info}
-use Rattle.touch_state.specs.View.{rotation-of-info}
 use borrow.Author.Needs.{needs}
 use Rattle.input_questions.proofs.zoom.rotation_delta.Statement.{statement}
 use Rattle.input_questions.proofs.zoom.rotation_delta.Tie as tie
-
-same : (g : MaybeMultiTouchInfo) (s : Sums) → rotation-reply g s ≡ rotation-of-info g (s .rotation-radians)
-unfolding rotation-reply rotation-of-info
-same no-info s = refl
-same (some-info i) s = refl
 
 multi-touch-requires : tie.Need-multi-touch-requires
 multi-touch-requires c κs = search needs
