@@ -9,9 +9,10 @@ use Rattle.model.specs.Pass.{Panel}
 use Rattle.model.specs.Questions.{Settled, Reply, zoom, zoom-2d, reply, shown}
 use Rattle.key_state.specs.declared.keys.Keys.{Keys}
 use Rattle.key_state.specs.View.{keys}
-use Rattle.pointer_state.specs.declared.place.Place.{Place}
+use Rattle.pointer_place.specs.declared.Place.{Place}
 use Rattle.pointer_state.specs.declared.press.Press.{Press}
-use Rattle.pointer_state.specs.View.{place, press}
+use Rattle.pointer_place.specs.View.{place}
+use Rattle.pointer_state.specs.View.{press}
 use Rattle.touch_state.specs.declared.devices.Devices.{Devices}
 use Rattle.touch_state.specs.View.{view}
 use Rattle.input_questions.specs.declared.zoom.Zoom.{Zoom}

@@ -2,8 +2,8 @@
 use data::options::InputOptions;
 use pointer_questions::buttons::is_long_press;
 use pointer_state::press::Press;
+use touch_questions::any_touches;
 use touch_state::devices::Devices;
-use touch_state::devices::any_touches;
 ghost use Rattle.model.specs.Questions.{bool};
 ghost use Rattle.model.specs.Questions as ask;
 ghost use Rattle.input_questions.specs.Answers.{of-touch-and-press};

@@ -4,8 +4,8 @@ use data::options::InputOptions;
 use data::touch::MaybeMultiTouchInfo;
 use data::touch::Rotation;
 use emath::vec2::Vec2;
+use touch_questions::multi_touch;
 use touch_state::devices::Devices;
-use touch_state::devices::multi_touch;
 ghost use mathlib.Core.Path.{_≡_};
 ghost use Rattle.model.specs.Questions.{vector, rotation, zoom-by-axis};
 ghost use Rattle.model.specs.Questions as ask;
@@ -107,7 +107,7 @@ pub fn rotation_delta(ds: Devices, radians: f32) -> Rotation
     ensures { λ r. ⌜ of-rotation ask.rotation-delta ds radians (rotation r) ⌝ }
 {
     let gesture = multi_touch(ds);
-    touch_state::info::rotation(gesture, radians)
+    touch_device::info::rotation(gesture, radians)
 }
 
 pub fn translation_delta(ds: Devices, smooth_scroll_delta: Vec2) -> Vec2

@@ -15,7 +15,8 @@ use Rattle.model.specs.Wheel.{wheel-pass}
 use Rattle.model.specs.Pass.{Panel, Interaction, or-else, own-refusal, time-of, rect-or, clock-pass, screen-pass, keys-pass, sums-of, decidedly-dragging, fresh, pass-events, pass}
 use Rattle.model.specs.Pass as Pass
 use Rattle.event_loop.specs.Shaped.{shaped-events}
-use Rattle.pointer_state.specs.View.{place, press}
+use Rattle.pointer_place.specs.View.{place}
+use Rattle.pointer_state.specs.View.{press}
 use Rattle.touch_state.specs.View.{view}
 use Rattle.touch_state.specs.declared.devices.Devices.{Devices}
 use Rattle.key_state.specs.View.{presses-of, keys}

@@ -4,12 +4,12 @@ use emath::history::MAX_LEN;
 use emath::history::PARTS;
 use pass_loops::place::place_pass;
 use pass_loops::press::press_pass;
-use pointer_state::events::CODES;
-use pointer_state::events::PLACES;
-use pointer_state::place::Place;
+use pointer_clicks::is_decidedly_dragging;
+use pointer_clicks::started_decidedly_dragging;
+use pointer_events::CODES;
+use pointer_events::PLACES;
+use pointer_place::Place;
 use pointer_state::press::Press;
-use pointer_state::press::is_decidedly_dragging;
-use pointer_state::press::started_decidedly_dragging;
 ghost use Rattle.input_state.specs.View.{PointerPassed};
 
 pub struct Pointer {

@@ -19,9 +19,9 @@ use emath::history::PARTS;
 use key_state::keys::Keys;
 use key_state::keys::keys_pass;
 use pass_loops::wheel::wheel_pass;
-use pointer_state::events::CODES;
-use pointer_state::events::PLACES;
-use pointer_state::place::Place;
+use pointer_events::CODES;
+use pointer_events::PLACES;
+use pointer_place::Place;
 use pointer_state::press::Press;
 ghost use Rattle.input_state.specs.View.{Fresh, Acted, lent};
 

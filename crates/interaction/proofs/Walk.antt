@@ -12,8 +12,8 @@ use mathlib.Core.Option.{Option}
 use Rattle.model.specs.Pass.{Interaction}
 use Rattle.model.specs.Types.{WidgetRect, PointerButton, Click, no-click, some-click, Moved, Pressed, Released}
 use Rattle.model.specs.Interact.{InteractInput, Seen, Going, has-click, forget-gone-click, abort-if, long-touch-if, pointer-event, pointer-events, walked}
-use Rattle.pointer_state.specs.declared.events.Entry.{Entry}
-use Rattle.pointer_state.specs.Events.{click-of, event-of, entry-at, events-from}
+use Rattle.pointer_events.specs.declared.Entry.{Entry}
+use Rattle.pointer_events.specs.Events.{click-of, event-of, entry-at, events-from}
 
 module _ (e : Entry) where
   pub is-moved : e .kind ≡ 0 → event-of e ≡ Moved (e .pos)

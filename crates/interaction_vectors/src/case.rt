@@ -11,7 +11,7 @@ use interaction::interact::interact;
 use interaction::state::Interacted;
 use interaction::state::Interaction;
 use interaction::state::Seen;
-use pointer_state::events::CODES;
+use pointer_events::CODES;
 use widget_index::index::bucket;
 use widget_index::table::LINKS;
 use widget_index::table::Numbers;

@@ -6,7 +6,7 @@ mod sums;
 
 use case::State;
 use libc::STDOUT_FILENO;
-use pointer_state::events::CODES;
+use pointer_events::CODES;
 
 // A million records at most, so that the loop ends.
 fn replay_all() -> State {

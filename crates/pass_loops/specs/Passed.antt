@@ -8,9 +8,10 @@ use Rattle.data.specs.Limits.{max-events}
 use Rattle.model.specs.Types.{InputOptions}
 use Rattle.model.specs.Pointer.{place-pass, press-pass}
 use Rattle.event_loop.specs.Shaped.{shaped-events}
-use Rattle.pointer_state.specs.declared.place.Place.{Place}
+use Rattle.pointer_place.specs.declared.Place.{Place}
 use Rattle.pointer_state.specs.declared.press.Press.{Press}
-use Rattle.pointer_state.specs.View.{place, press}
+use Rattle.pointer_place.specs.View.{place}
+use Rattle.pointer_state.specs.View.{press}
 
 abbrev pub PlacePassed : Float → List ℕ → List Float → List Float → Place → List Float → List Float → Place → Type 0
 PlacePassed time ws times positions p times' positions' r = place times' positions' r ≡ place-pass time (shaped-events ws) (place times positions p)

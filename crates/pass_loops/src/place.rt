@@ -4,16 +4,16 @@ use emath::history::PARTS;
 use event_loop::kind_at;
 use event_loop::next_place;
 use event_loop::shaped_at;
-use pointer_state::place::Place;
-use pointer_state::place::end_place;
-use pointer_state::place::place_event;
-use pointer_state::place::start_place;
+use pointer_place::Place;
+use pointer_place::end_place;
+use pointer_place::place_event;
+use pointer_place::start_place;
 ghost use mathlib.Core.Path.{_≡_};
 ghost use mathlib.Core.List.{List, [], _∷_};
 ghost use lib.Ieee.{Float};
 ghost use Rattle.model.specs.Pointer.{place-event, place-events, clear-history-after};
 ghost use Rattle.event_loop.specs.Shaped.{shaped-at, shaped-events};
-ghost use Rattle.pointer_state.specs.View.{place};
+ghost use Rattle.pointer_place.specs.View.{place};
 ghost use Rattle.pass_loops.specs.Passed.{PlacePassed};
 
 // Kinds 3 to 6 are read.
@@ -49,7 +49,7 @@ fn gone_at(feed: &[u32], at: usize) -> bool
 {
     if kind_at(feed, at) == 6 {
         let e = shaped_at(feed, at);
-        return pointer_state::place::clears_history(false, e);
+        return pointer_place::clears_history(false, e);
     }
     false
 }

@@ -5,10 +5,11 @@ use mathlib.Core.List.{List}
 use lib.Ieee.{Float}
 use Rattle.model.specs.Pass.{Panel}
 use Rattle.model.specs.Questions.{Settled, Question, Reply, Shown, reply, ask}
-use Rattle.pointer_state.specs.declared.place.Place.{Place}
-use Rattle.pointer_state.specs.declared.press.Held.{Held}
-use Rattle.pointer_state.specs.declared.press.ClickPast.{ClickPast}
-use Rattle.pointer_state.specs.View.{place, held, past}
+use Rattle.pointer_place.specs.declared.Place.{Place}
+use Rattle.pointer_clicks.specs.declared.Held.{Held}
+use Rattle.pointer_clicks.specs.declared.ClickPast.{ClickPast}
+use Rattle.pointer_place.specs.View.{place}
+use Rattle.pointer_clicks.specs.View.{held, past}
 
 -- a question that reads where the pointer is; the history's lent places don't matter
 abbrev pub of-place : Settled → Place → Reply → Type 0

@@ -3,17 +3,17 @@ use data::options::InputOptions;
 use data::pointer::MaybeF64;
 use data::pointer::PointerButton;
 use emath::pos2::MaybePos2;
-use pointer_state::events::CODES;
-use pointer_state::events::MaybePointerEvent;
-use pointer_state::events::PLACES;
-use pointer_state::events::Sought;
-use pointer_state::events::any;
-use pointer_state::events::counted;
-use pointer_state::events::event_at;
-use pointer_state::press::ClickPast;
-use pointer_state::press::Held;
+use pointer_clicks::ClickPast;
+use pointer_clicks::Held;
+use pointer_clicks::press_too_long;
+use pointer_events::CODES;
+use pointer_events::MaybePointerEvent;
+use pointer_events::PLACES;
+use pointer_events::Sought;
+use pointer_events::any;
+use pointer_events::counted;
+use pointer_events::event_at;
 use pointer_state::press::Press;
-use pointer_state::press::press_too_long;
 ghost use mathlib.Core.Path.{_≡_};
 ghost use mathlib.Core.List.{List};
 ghost use Prim.Native.Nat.{ℕ};
@@ -22,8 +22,9 @@ ghost use lib.ListN.{length};
 ghost use Rattle.model.specs.Pointer.{is-long-press};
 ghost use Rattle.model.specs.Questions.{bool, number, maybe-position, maybe-seconds};
 ghost use Rattle.model.specs.Questions as ask;
-ghost use Rattle.pointer_state.specs.Events.{event-or-none};
-ghost use Rattle.pointer_state.specs.View.{held, press};
+ghost use Rattle.pointer_events.specs.Events.{event-or-none};
+ghost use Rattle.pointer_clicks.specs.View.{held};
+ghost use Rattle.pointer_state.specs.View.{press};
 ghost use Rattle.pointer_questions.specs.Answers.{of-held, of-buttons, of-past};
 
 pub fn press_origin(h: Held) -> MaybePos2
@@ -67,14 +68,14 @@ pub fn any_down(h: Held) -> bool
     ensures { λ r. ⌜ of-buttons ask.any-down h (bool r) ⌝ }
 {
     let down = h.down;
-    pointer_state::press::any_down(down)
+    pointer_clicks::any_down(down)
 }
 
 pub fn button_down(h: Held, button: PointerButton) -> bool
     ensures { λ r. ⌜ of-buttons (ask.button-down button) h (bool r) ⌝ }
 {
     let down = h.down;
-    pointer_state::press::button_down(down, button)
+    pointer_clicks::button_down(down, button)
 }
 
 pub fn button_pressed(h: Held, codes: &[u32; CODES], button: PointerButton) -> bool
@@ -119,7 +120,7 @@ pub fn is_long_press(s: Press, options: InputOptions, time: f64, started: bool) 
         if p.has_moved_too_much_for_a_click {
             return false;
         }
-        if pointer_state::press::button_down(down, PointerButton::Primary) {
+        if pointer_clicks::button_down(down, PointerButton::Primary) {
             return press_too_long(options, time, start);
         }
         return false;

@@ -2,8 +2,8 @@
 use emath::pos2::MaybePos2;
 use emath::vec2::MaybeVec2;
 use emath::vec2::Vec2;
-use pointer_state::place::Place;
-use pointer_state::press::Held;
+use pointer_clicks::Held;
+use pointer_place::Place;
 ghost use mathlib.Core.Path.{_≡_};
 ghost use mathlib.Core.List.{List};
 ghost use lib.Ieee.{Float};

@@ -1,5 +1,3 @@
-// PointerState of egui's input_state/mod.rs: small records by value, the pass's pointer events in arrays that the caller lends.
+// PointerState of egui's input_state/mod.rs: small records by value. The pass's pointer events are pointer_events, where the pointer is pointer_place.
 // Options and time are parameters of the steps that read them.
-pub mod events;
-pub mod place;
 pub mod press;

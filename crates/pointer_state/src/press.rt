@@ -1,45 +1,31 @@
-// Which buttons are down, what happened in the pass, and what presses and clicks leave behind.
-use crate::events::CODES;
-use crate::events::PLACES;
-use crate::events::Sought;
-use crate::events::any;
-use crate::events::push;
+// What an event does to the presses and clicks, and to the pass's pointer events.
 use data::event::Event;
 use data::modifiers::Modifiers;
 use data::options::InputOptions;
 use data::pointer::ButtonsDown;
-use data::pointer::Click;
-use data::pointer::MaybeClick;
 use data::pointer::MaybeF64;
 use data::pointer::PointerButton;
 use data::pointer::PointerEvent;
 use emath::pos2::MaybePos2;
 use emath::pos2::Pos2;
+use pointer_clicks::ClickPast;
+use pointer_clicks::Held;
+use pointer_clicks::click_of;
+use pointer_clicks::could_any_button_be_click;
+use pointer_clicks::moved_too_much;
+use pointer_clicks::remember_click;
+use pointer_clicks::set_down;
+use pointer_events::CODES;
+use pointer_events::PLACES;
+use pointer_events::push;
 ghost use mathlib.Core.Path.{_≡_};
-ghost use mathlib.Core.Bool.{true, false, not, _||_, _&&_};
+ghost use mathlib.Core.Bool.{true, false};
 ghost use mathlib.Core.List.{List};
 ghost use Prim.Native.Nat.{ℕ};
 ghost use lib.Ieee.{Float};
 ghost use Rattle.model.specs.Types.{PointerMoved, Button};
-ghost use Rattle.model.specs.Pointer.{set-down, button-down, any-down, press-too-long, near, click-count, too-far, click-of, remember-click};
-ghost use Rattle.model.specs.Pointer.{could-any-button-be-click, is-decidedly-dragging, clear-events};
 ghost use Rattle.model.specs.Pass.{fresh-press};
-ghost use Rattle.pointer_state.specs.View.{held, past, press, Stepped};
-
-// The pass's events are the first `event_count` in the lent arrays.
-pub struct Held {
-    pub down: ButtonsDown,
-    pub press_origin: MaybePos2,
-    pub press_start_time: MaybeF64,
-    pub event_count: usize,
-}
-
-pub struct ClickPast {
-    pub has_moved_too_much_for_a_click: bool,
-    pub last_click_pos: MaybePos2,
-    pub last_click_time: f64,
-    pub last_last_click_time: f64,
-}
+ghost use Rattle.pointer_state.specs.View.{press, Stepped};
 
 pub struct Press {
     pub held: Held,
@@ -72,195 +58,6 @@ impl Press {
         };
         Press { held, past }
     }
-}
-
-fn set_down(down: ButtonsDown, button: PointerButton, pressed: bool) -> ButtonsDown
-    ensures { λ r. ⌜ r ≡ set-down button pressed down ⌝ }
-{
-    let mut d = down;
-    match button {
-        PointerButton::Primary => {
-            d.primary = pressed;
-            d
-        }
-        PointerButton::Secondary => {
-            d.secondary = pressed;
-            d
-        }
-        PointerButton::Middle => {
-            d.middle = pressed;
-            d
-        }
-        PointerButton::Extra1 => {
-            d.extra1 = pressed;
-            d
-        }
-        PointerButton::Extra2 => {
-            d.extra2 = pressed;
-            d
-        }
-    }
-}
-
-pub fn button_down(down: ButtonsDown, button: PointerButton) -> bool
-    ensures { λ r. ⌜ r ≡ button-down button down ⌝ }
-{
-    match button {
-        PointerButton::Primary => down.primary,
-        PointerButton::Secondary => down.secondary,
-        PointerButton::Middle => down.middle,
-        PointerButton::Extra1 => down.extra1,
-        PointerButton::Extra2 => down.extra2,
-    }
-}
-
-pub fn any_down(down: ButtonsDown) -> bool
-    ensures { λ r. ⌜ r ≡ any-down down ⌝ }
-{
-    down.primary | down.secondary | down.middle | down.extra1 | down.extra2
-}
-
-// Is the press older than max_click_duration.
-pub fn press_too_long(options: InputOptions, time: f64, start: MaybeF64) -> bool
-    ensures { λ r. ⌜ r ≡ press-too-long options time start ⌝ }
-{
-    match start {
-        MaybeF64::None => false,
-        MaybeF64::Some(t) => time - t > options.max_click_duration,
-    }
-}
-
-pub fn could_any_button_be_click(
-    h: Held,
-    codes: &[u32; CODES],
-    options: InputOptions,
-    time: f64,
-    moved: bool,
-) -> bool
-    ensures { λ r. ⌜ ((positions : List Float) → r ≡ could-any-button-be-click options time (held (now (codes .entry)) positions h) moved) ⌝ }
-{
-    if moved {
-        return false;
-    }
-    let start = h.press_start_time;
-    if press_too_long(options, time, start) {
-        return false;
-    }
-    let down = h.down;
-    if any_down(down) {
-        return true;
-    }
-    any(codes, h.event_count, Sought::Release)
-}
-
-pub fn is_decidedly_dragging(
-    h: Held,
-    codes: &[u32; CODES],
-    options: InputOptions,
-    time: f64,
-    moved: bool,
-) -> bool
-    ensures { λ r. ⌜ ((positions : List Float) → r ≡ is-decidedly-dragging options time (held (now (codes .entry)) positions h) moved) ⌝ }
-{
-    if could_any_button_be_click(h, codes, options, time, moved) {
-        return false;
-    }
-    let n = h.event_count;
-    if any(codes, n, Sought::Press) {
-        return false;
-    }
-    if any(codes, n, Sought::Click) {
-        return false;
-    }
-    let down = h.down;
-    if any_down(down) {
-        return true;
-    }
-    any(codes, n, Sought::Release)
-}
-
-// Close enough to the last click, if there was one, for a double click.
-fn near(options: InputOptions, pos: Pos2, last: MaybePos2) -> bool
-    ensures { λ r. ⌜ r ≡ near options pos last ⌝ }
-{
-    let limit = options.max_click_dist * options.max_click_dist;
-    match last {
-        MaybePos2::None => 0.0 < limit,
-        MaybePos2::Some(p) => p.distance_sq(pos) < limit,
-    }
-}
-
-fn click_count(p: ClickPast, options: InputOptions, time: f64, pos: Pos2) -> u32
-    ensures { λ r. ⌜ r ≡ click-count options time pos (past p) ⌝ }
-{
-    let delay = options.max_double_click_delay;
-    if time - p.last_click_time < delay {
-        let last = p.last_click_pos;
-        if near(options, pos, last) {
-            if p.last_click_time - p.last_last_click_time < delay {
-                return 3;
-            }
-            return 2;
-        }
-        return 1;
-    }
-    1
-}
-
-// A move that is too far from the press for a click.
-fn too_far(options: InputOptions, pos: Pos2, origin: MaybePos2) -> bool
-    ensures { λ r. ⌜ r ≡ too-far options pos origin ⌝ }
-{
-    match origin {
-        MaybePos2::None => false,
-        MaybePos2::Some(p) => p.distance(pos) > options.max_click_dist,
-    }
-}
-
-// Of a click that is spoilt already no distance is taken.
-fn moved_too_much(moved: bool, options: InputOptions, pos: Pos2, origin: MaybePos2) -> bool
-    ensures { λ r. ⌜ r ≡ (moved || too-far options pos origin) ⌝ }
-{
-    if moved {
-        return true;
-    }
-    too_far(options, pos, origin)
-}
-
-fn click_of(
-    clicked: bool,
-    options: InputOptions,
-    time: f64,
-    pos: Pos2,
-    modifiers: Modifiers,
-    p: ClickPast,
-) -> MaybeClick
-    ensures { λ r. ⌜ r ≡ click-of clicked options time pos modifiers (past p) ⌝ }
-{
-    if clicked {
-        let count = click_count(p, options, time, pos);
-        let click = Click {
-            pos,
-            count,
-            modifiers,
-        };
-        return MaybeClick::Some(click);
-    }
-    MaybeClick::None
-}
-
-fn remember_click(clicked: bool, time: f64, pos: Pos2, p: ClickPast) -> ClickPast
-    ensures { λ r. ⌜ past r ≡ remember-click clicked time pos (past p) ⌝ }
-{
-    if clicked {
-        return ClickPast {
-            has_moved_too_much_for_a_click: p.has_moved_too_much_for_a_click,
-            last_click_pos: MaybePos2::Some(pos),
-            last_click_time: time,
-            last_last_click_time: p.last_click_time,
-        };
-    }
-    p
 }
 
 fn moved(
@@ -407,30 +204,5 @@ pub fn press_event(
         Event::MouseWheel(_, _, _, _, _) => s,
         Event::WindowFocused(_) => s,
         Event::Other => s,
-    }
-}
-
-// Did is_decidedly_dragging go from false to true in this pass; `was` is its answer before the pass.
-pub fn started_decidedly_dragging(
-    h: Held,
-    codes: &[u32; CODES],
-    options: InputOptions,
-    time: f64,
-    moved: bool,
-    was: bool,
-) -> bool
-    ensures { λ r. ⌜ ((positions : List Float) → r ≡ (is-decidedly-dragging options time (held (now (codes .entry)) positions h) moved && not was)) ⌝ }
-{
-    let is = is_decidedly_dragging(h, codes, options, time, moved);
-    is & !was
-}
-
-// pointer_events.clear()
-pub fn clear_events(h: Held) -> Held
-    ensures { λ r. ⌜ ((codes : List ℕ) (positions : List Float) → held codes positions r ≡ clear-events (held codes positions h)) ⌝ }
-{
-    Held {
-        event_count: 0,
-        ..h
     }
 }

@@ -9,8 +9,8 @@ use emath::history::MAX_LEN;
 use emath::history::PARTS;
 use libc::STDOUT_FILENO;
 use pass::State;
-use pointer_state::events::CODES;
-use pointer_state::events::PLACES;
+use pointer_events::CODES;
+use pointer_events::PLACES;
 
 // A million records at most, so that the loop ends.
 fn replay_all() -> State {

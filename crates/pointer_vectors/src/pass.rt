@@ -12,18 +12,18 @@ use emath::history::PARTS;
 use emath::pos2::MaybePos2;
 use feed::decode::EventAt;
 use feed::decode::event_at;
-use pointer_state::events::CODES;
-use pointer_state::events::PLACES;
-use pointer_state::place::Place;
-use pointer_state::place::clears_history;
-use pointer_state::place::end_place;
-use pointer_state::place::place_event;
-use pointer_state::place::start_place;
+use pointer_clicks::clear_events;
+use pointer_clicks::is_decidedly_dragging;
+use pointer_clicks::started_decidedly_dragging;
+use pointer_events::CODES;
+use pointer_events::PLACES;
+use pointer_place::Place;
+use pointer_place::clears_history;
+use pointer_place::end_place;
+use pointer_place::place_event;
+use pointer_place::start_place;
 use pointer_state::press::Press;
-use pointer_state::press::clear_events;
-use pointer_state::press::is_decidedly_dragging;
 use pointer_state::press::press_event;
-use pointer_state::press::started_decidedly_dragging;
 
 pub struct State {
     pub place: Place,

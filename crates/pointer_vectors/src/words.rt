@@ -9,14 +9,14 @@ use data::pointer::PointerEvent;
 use emath::history::History;
 use emath::history::MAX_LEN;
 use emath::history::PARTS;
+use pointer_clicks::Held;
+use pointer_clicks::could_any_button_be_click;
+use pointer_clicks::is_decidedly_dragging;
+use pointer_events::CODES;
+use pointer_events::MaybePointerEvent;
+use pointer_events::PLACES;
 use pointer_questions::buttons;
 use pointer_questions::moving;
-use pointer_state::events::CODES;
-use pointer_state::events::MaybePointerEvent;
-use pointer_state::events::PLACES;
-use pointer_state::press::Held;
-use pointer_state::press::could_any_button_be_click;
-use pointer_state::press::is_decidedly_dragging;
 
 fn without_click(sum: u64, button: PointerButton) -> u64 {
     let s = sums::word(sum, 2 + 256 * button.number());

@@ -8,9 +8,10 @@ use lib.ListN.{length, length-map}
 use Rattle.data.specs.Limits.{max-devices}
 use Rattle.model.specs.Types.{TouchPhase, ActiveTouch}
 use Rattle.model.specs.Touch.{TouchState, new-device, at-device}
-use Rattle.touch_state.specs.declared.device.Device.{Device}
+use Rattle.touch_device.specs.declared.Device.{Device}
 use Rattle.touch_state.specs.declared.devices.Devices.{Devices}
-use Rattle.touch_state.specs.View.{Marked, known, view, marked, device-view, marked-view, new-marked, touch-marked, at-marked, touch-step}
+use Rattle.touch_device.specs.View.{Marked, device-view, marked-view, new-marked, touch-marked}
+use Rattle.touch_state.specs.View.{known, view, marked, at-marked, touch-step}
 use Rattle.survey.specs.Survey.{fits-device, fits-touch}
 
 abbrev pub bare : Marked → TouchState

@@ -12,7 +12,8 @@ use Rattle.model.specs.Types.{MaybePos2, PassRefusal, NoPlace}
 use Rattle.model.specs.Types.{Event, Key, ModifiersChanged, PointerMoved, MouseMoved, Button, PointerGone, Zoom, Rotate, Touch, MouseWheel, WindowFocused, Other}
 use Rattle.model.specs.Touch.{TouchState, touch-event, touch-events, end-touches}
 use Rattle.model.specs.Pass.{or-else, crowded, item-refusal, item-devices, survey}
-use Rattle.touch_state.specs.View.{Marked, touch-id}
+use Rattle.touches.specs.Touches.{touch-id}
+use Rattle.touch_device.specs.View.{Marked}
 use Rattle.touch_state.specs.Marks.{devices-of, marked-event, Above, Ascending, marked-id, Formed, AllFormed, WellFormed}
 use Rattle.touch_state.proofs.Marks.{step-law, fresh-law}
 use Rattle.survey.specs.Survey.{fits-event, fits-events, fits-item, fits-survey}

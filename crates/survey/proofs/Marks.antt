@@ -10,9 +10,10 @@ use lib.Ieee.{Float}
 use Rattle.data.specs.Numbers.{kind-number}
 use Rattle.model.specs.Types.{MaybePos2, Event, Key, ModifiersChanged, PointerMoved, MouseMoved, Button, PointerGone, Zoom, Rotate, Touch, MouseWheel, WindowFocused, Other}
 use Rattle.model.specs.Touch.{TouchState, adds-or-removes, added-or-removed-touches, end-touches}
-use Rattle.touch_state.specs.declared.device.Device.{Device}
+use Rattle.touch_device.specs.declared.Device.{Device}
 use Rattle.touch_state.specs.declared.devices.Devices.{Devices}
-use Rattle.touch_state.specs.View.{Marked, known, view, marked, device-view, marked-view, end-marked}
+use Rattle.touch_device.specs.View.{Marked, device-view, marked-view, end-marked}
+use Rattle.touch_state.specs.View.{known, view, marked}
 use Rattle.event_loop.specs.Shaped.{shaped-after, shaped-at, next-place}
 use Rattle.event_loop.proofs.Walk.{next}
 use Rattle.survey.specs.Ends.{marked-by}

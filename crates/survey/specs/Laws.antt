@@ -10,7 +10,7 @@ use Rattle.feed.specs.Feed.{events-of}
 use Rattle.model.specs.Types.{MaybePos2, Event}
 use Rattle.model.specs.Touch.{TouchState, touch-events, end-touches}
 use Rattle.model.specs.Pass.{survey}
-use Rattle.touch_state.specs.View.{Marked}
+use Rattle.touch_device.specs.View.{Marked}
 use Rattle.touch_state.specs.Marks.{WellFormed}
 use Rattle.survey.specs.Survey.{fits-events, fits-survey}
 

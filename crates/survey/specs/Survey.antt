@@ -14,7 +14,8 @@ use Rattle.model.specs.Types.{TouchPhase, ActiveTouch, PassRefusal, Malformed, 
 use Rattle.model.specs.Types.{Event, Key, ModifiersChanged, PointerMoved, MouseMoved, Button, PointerGone, Zoom, Rotate, Touch, MouseWheel, WindowFocused, Other}
 use Rattle.model.specs.Touch.{TouchState, at-device}
 use Rattle.model.specs.Pass.{or-else, item-refusal}
-use Rattle.touch_state.specs.View.{view, on-touch-if-room}
+use Rattle.touches.specs.Touches.{on-touch-if-room}
+use Rattle.touch_state.specs.View.{view}
 use Rattle.event_loop.specs.Shaped.{shaped-events}
 use Rattle.survey.specs.declared.reading.MaybePassRefusal.{MaybePassRefusal}
 use Rattle.survey.specs.declared.reading.MaybePassRefusal.the-variants.{None as no-refusal, Some as some-refusal}

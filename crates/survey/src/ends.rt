@@ -5,14 +5,15 @@ use emath::pos2::MaybePos2;
 use event_loop::kind_at;
 use event_loop::next_place;
 use event_loop::shaped_at;
-use touch_state::device::Device;
+use touch_device::Device;
 use touch_state::devices::Devices;
 ghost use mathlib.Core.Path.{_≡_};
 ghost use mathlib.Core.Bool.{_&&_};
 ghost use mathlib.Core.List.{[], _∷_, map};
 ghost use lib.Dec.{eqb};
 ghost use Rattle.model.specs.Touch.{adds-or-removes, added-or-removed-touches, end-touches};
-ghost use Rattle.touch_state.specs.View.{view, marked, marked-view};
+ghost use Rattle.touch_device.specs.View.{marked-view};
+ghost use Rattle.touch_state.specs.View.{view, marked};
 ghost use Rattle.event_loop.specs.Shaped.{shaped-at, shaped-events};
 ghost use Rattle.survey.specs.Ends.{marked-by};
 

@@ -14,10 +14,12 @@ use Rattle.model.specs.Types.{MaybePos2, TouchPhase, ActiveTouch}
 use Rattle.model.specs.Types.{Event, Key, ModifiersChanged, PointerMoved, MouseMoved, Button, PointerGone, Zoom, Rotate, Touch, MouseWheel, WindowFocused, Other}
 use Rattle.model.specs.Touch.{TouchState, new-device, on-touch, touch-device, at-device, find-device, no-place, touch-event, touch-events, touch-pass, end-touches, adds-or-removes, added-or-removed-touches}
 use Rattle.model.specs.Pass.{crowded}
-use Rattle.touch_state.specs.declared.device.Device.{Device}
-use Rattle.touch_state.specs.View.{Marked, marked-view, device-view, touch-id, if-room, on-touch-if-room, new-marked, touch-marked, at-marked, touch-step, end-marked}
+use Rattle.touch_device.specs.declared.Device.{Device}
+use Rattle.touches.specs.Touches.{touch-id, if-room, on-touch-if-room}
+use Rattle.touch_device.specs.View.{Marked, marked-view, device-view, new-marked, touch-marked, end-marked}
+use Rattle.touch_state.specs.View.{at-marked, touch-step}
 use Rattle.touch_state.specs.Marks.{devices-of, marked-event, marked-events, Uncrowded, Above, Ascending, marked-id, Formed, AllFormed, WellFormed, Unmarked, ViewLaw, FreshLaw, StepLaw, EndLaw, PassLaw}
-use Rattle.touch_state.proofs.Upsert.{no, fits, upsert}
+use Rattle.touches.proofs.Upsert.{no, fits, upsert}
 use Rattle.touch_state.proofs.Known.{at-upsert}
 use Rattle.touch_state.proofs.Order.{above-trans, ascending-upsert, length-upsert, ascending-touch, touch-fits, new-fits}
 

@@ -11,9 +11,9 @@ use lib.ListN.{length}
 use Rattle.data.specs.Limits.{max-touches}
 use Rattle.model.specs.Types.{TouchPhase, Start, Move, End, Cancel, ActiveTouch}
 use Rattle.model.specs.Touch.{insert-touch, move-touch, remove-touch, on-touch, holds, is-start, no-place, TouchState}
-use Rattle.touch_state.specs.View.{touch-id}
+use Rattle.touches.specs.Touches.{touch-id}
 use Rattle.touch_state.specs.Marks.{Above, Ascending}
-use Rattle.touch_state.proofs.Upsert.{no, upsert, insert-upsert, length-move, length-remove}
+use Rattle.touches.proofs.Upsert.{no, upsert, insert-upsert, length-move, length-remove}
 
 pub above-trans : {A : Type 0} (key : A → ℕ) (j k : ℕ) (us : List A) → j ≤ k → Above key k us → Above key j us
 unfolding Above

@@ -11,7 +11,9 @@ use Rattle.model.specs.Types.{Event, Key, ModifiersChanged, PointerMoved, Mouse
 use Rattle.model.specs.Touch.{TouchState, touch-event, touch-pass}
 use Rattle.model.specs.Pass.{crowded}
 use Rattle.touch_state.specs.declared.devices.Devices.{Devices}
-use Rattle.touch_state.specs.View.{Marked, touch-step, end-marked, touch-id, view, marked}
+use Rattle.touches.specs.Touches.{touch-id}
+use Rattle.touch_device.specs.View.{Marked, end-marked}
+use Rattle.touch_state.specs.View.{touch-step, view, marked}
 
 -- the devices without their marks
 abbrev pub devices-of : List Marked → List TouchState

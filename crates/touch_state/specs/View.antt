@@ -1,33 +1,15 @@
--- What the records of src/ mean in the model's terms, and the model's steps on devices that carry a mark.
-use Prim.Native.Nat.{ℕ, zero, suc}
-use mathlib.Core.Bool.{Bool, true, false, _||_, cond}
-use mathlib.Core.List.{List, [], _∷_, _++_, map}
+-- The devices as the model's, and the model's step on devices that carry a mark.
+use Prim.Native.Nat.{ℕ}
+use mathlib.Core.Bool.{cond}
+use mathlib.Core.List.{List, [], _∷_, map}
 use lib.Dec.{leb, ltb, eqb}
-use lib.ListN.{length, take, drop}
-use lib.Ieee.{Float}
-use Rattle.data.specs.Limits.{max-devices, max-touches}
-use Rattle.model.specs.Types.{MaybePos2, TouchPhase, ActiveTouch, MaybeMultiTouchInfo, no-info, some-info, Rotation, Radians, Headings}
-use Rattle.model.specs.Touch.{TouchState, new-device, on-touch, adds-or-removes, classify, calc-dynamic-state, update-gesture, forget-previous-if}
-use Rattle.touch_state.specs.declared.touches.Touches.{Touches}
-use Rattle.touch_state.specs.declared.device.Device.{Device}
+use lib.ListN.{length, take}
+use Rattle.data.specs.Limits.{max-devices}
+use Rattle.model.specs.Types.{TouchPhase, ActiveTouch}
+use Rattle.model.specs.Touch.{TouchState}
+use Rattle.touch_device.specs.declared.Device.{Device}
+use Rattle.touch_device.specs.View.{device-view, Marked, marked-view, new-marked, touch-marked}
 use Rattle.touch_state.specs.declared.devices.Devices.{Devices}
-
--- ---- the views: the first `count` places are the list
-
-abbrev pub list : Touches → List ActiveTouch
-list ts = take (ts .count) (ts .places)
-
--- a device as the model's
-abbrev pub device-view : Device → TouchState
-device-view d = record { device-id = d .id; active-touches = list (d .touches); gesture-state = d .«gesture_state» }
-
--- a device of the model, and whether touches were added to it or removed in this pass
-pub record Marked : Type 0 where
-  pub device : TouchState
-  pub mark : Bool
-
-abbrev pub marked-view : Device → Marked
-marked-view d = record { device = device-view d; mark = d .«added_or_removed_touches» }
 
 -- the devices that are known: as records, as the model's, and with their marks
 abbrev pub known : Devices → List Device
@@ -39,57 +21,10 @@ view ds = map device-view (known ds)
 abbrev pub marked : Devices → List Marked
 marked ds = map marked-view (known ds)
 
--- ---- places in a list by ascending id
-
-abbrev pub touch-id : ActiveTouch → ℕ
-touch-id t = t .id
-
 abbrev pub device-id : Device → ℕ
 device-id d = d .id
 
--- the first place with this id or a greater one
-unfoldable pub place : {A : Type 0} → (A → ℕ) → ℕ → List A → ℕ
-place key i [] = 0
-place key i (u ∷ us) = cond (ltb (key u) i) (suc (place key i us)) 0
-
--- the first place with this id, or the length
-unfoldable pub index : {A : Type 0} → (A → ℕ) → ℕ → List A → ℕ
-index key i [] = 0
-index key i (u ∷ us) = cond (eqb i (key u)) 0 (suc (index key i us))
-
--- does the element at place i have this id?
-unfoldable pub starts : {A : Type 0} → (A → ℕ) → ℕ → List A → Bool
-starts key d [] = false
-starts key d (u ∷ us) = eqb d (key u)
-
-unfoldable pub is-at : {A : Type 0} → (A → ℕ) → ℕ → ℕ → List A → Bool
-is-at key i d us = starts key d (drop i us)
-
--- x put in at place i
-unfoldable pub inserted-at : {A : Type 0} → ℕ → A → List A → List A
-inserted-at i x us = take i us ++ (x ∷ drop i us)
-
 -- ---- the model's steps, where what does not fit is left out: the pass has refused it before
-
-unfoldable pub if-room : List ActiveTouch → List ActiveTouch → List ActiveTouch
-if-room new old = cond (leb (length new) max-touches) new old
-
--- `on-touch`
-unfoldable pub on-touch-if-room : TouchPhase → ActiveTouch → List ActiveTouch → List ActiveTouch
-on-touch-if-room ph t us = if-room (on-touch ph t us) us
-
--- `new-device`
-unfoldable pub new-marked : ℕ → Marked
-new-marked d = record { device = new-device d; mark = false }
-
--- `touch-device`
-unfoldable pub touch-marked : TouchPhase → ActiveTouch → Marked → Marked
-touch-marked ph t m =
-    let v = m .device in
-    record {
-      device = record { device-id = v .device-id; active-touches = on-touch-if-room ph t (v .active-touches); gesture-state = v .gesture-state };
-      mark = m .mark || adds-or-removes ph;
-    }
 
 -- `at-device`
 unfoldable pub at-marked : ℕ → (Marked → Marked) → List Marked → List Marked
@@ -102,23 +37,3 @@ unfoldable pub touch-step : ℕ → TouchPhase → ActiveTouch → List Marked �
 touch-step d ph t ms =
     let new = at-marked d (touch-marked ph t) ms in
     cond (leb (length new) max-devices) new ms
-
--- `end-touches`: the mark stands for `added-or-removed-touches`, and is taken off
-unfoldable pub end-marked : Float → MaybePos2 → Marked → Marked
-end-marked time p m =
-    let v = m .device in
-    record {
-      device =
-          record {
-            device-id = v .device-id;
-            active-touches = v .active-touches;
-            gesture-state =
-                forget-previous-if (m .mark) (update-gesture time (classify (v .active-touches)) (calc-dynamic-state (v .active-touches)) p (v .gesture-state));
-          };
-      mark = false;
-    }
-
--- ---- 01: "Rotation leaves either a sum of radians or two heading vectors"
-unfoldable pub rotation-of-info : MaybeMultiTouchInfo → Float → Rotation
-rotation-of-info no-info radians = Radians radians
-rotation-of-info (some-info g) radians = Headings (g .«previous_heading») (g .heading)

@@ -1,17 +1,18 @@
 // The devices that are known, by ascending id in the first `count` places: egui's BTreeMap.
-use crate::device::Device;
 use data::limits::MAX_DEVICES;
 use data::touch::ActiveTouch;
-use data::touch::MaybeMultiTouchInfo;
 use data::touch::TouchPhase;
 use emath::pos2::MaybePos2;
+use touch_device::Device;
 ghost use mathlib.Core.Path.{_≡_};
 ghost use mathlib.Core.List.{[], map};
 ghost use Prim.Native.Nat.{_≤_, _<_};
 ghost use lib.ListN.{length, set};
 ghost use Rattle.data.specs.Limits.{max-devices};
-ghost use Rattle.model.specs.Touch.{no-place, find-device, info-at, multi-touch, any-touches, any-touches-at, has-touch-screen};
-ghost use Rattle.touch_state.specs.View.{known, device-id, place, index, is-at, inserted-at, view, marked, touch-step, end-marked};
+ghost use Rattle.model.specs.Touch.{no-place, find-device};
+ghost use Rattle.touches.specs.Touches.{place, index, is-at, inserted-at};
+ghost use Rattle.touch_device.specs.View.{end-marked};
+ghost use Rattle.touch_state.specs.View.{known, device-id, view, marked, touch-step};
 
 pub struct Devices {
     pub count: usize,
@@ -21,7 +22,7 @@ pub struct Devices {
 pub fn none() -> Devices
     ensures { λ r. ⌜ marked r ≡ [] ⌝ }
 {
-    let device = crate::device::new(0);
+    let device = touch_device::new(0);
     let places = [device; MAX_DEVICES];
     Devices {
         count: 0,
@@ -58,7 +59,7 @@ fn place_of(ds: Devices, id: u64) -> usize
 }
 
 // The first place with this id, or the number of devices.
-fn index_of(ds: Devices, id: u64) -> usize
+pub fn index_of(ds: Devices, id: u64) -> usize
     ensures { λ r. ⌜ r ≡ index device-id id (known ds) ⌝ }
 {
     let n = len(ds);
@@ -128,11 +129,11 @@ pub fn on_touch(ds: Devices, device_id: u64, phase: TouchPhase, t: ActiveTouch) 
     if is_at(ds, i, device_id) {
         let a = ds.places;
         let d = a[i];
-        return put(ds, i, crate::device::on_touch(d, phase, t));
+        return put(ds, i, touch_device::on_touch(d, phase, t));
     }
     if len(ds) < MAX_DEVICES {
-        let d = crate::device::new(device_id);
-        return insert_at(ds, i, crate::device::on_touch(d, phase, t));
+        let d = touch_device::new(device_id);
+        return insert_at(ds, i, touch_device::on_touch(d, phase, t));
     }
     ds
 }
@@ -146,7 +147,7 @@ pub fn no_place(ds: Devices, device_id: u64, phase: TouchPhase, id: u64) -> bool
     if i < n {
         let a = ds.places;
         let d = a[i];
-        return crate::device::is_full(d, phase, id);
+        return touch_device::is_full(d, phase, id);
     }
     MAX_DEVICES <= n
 }
@@ -160,7 +161,7 @@ pub fn end_pass(ds: Devices, time: f64, pointer_pos: MaybePos2) -> Devices
     let mut i: usize = 0;
     while i < n {
         let d = a[i];
-        let e = crate::device::end_pass(d, time, pointer_pos);
+        let e = touch_device::end_pass(d, time, pointer_pos);
         a[i] = e;
         i += 1;
     }
@@ -168,73 +169,4 @@ pub fn end_pass(ds: Devices, time: f64, pointer_pos: MaybePos2) -> Devices
         count: n,
         places: a,
     }
-}
-
-// The info of a device: none if it is not known.
-pub fn info(ds: Devices, device_id: u64) -> MaybeMultiTouchInfo
-    ensures { λ r. ⌜ r ≡ info-at (find-device «device_id» (view ds)) ⌝ }
-{
-    let i = index_of(ds, device_id);
-    if i < len(ds) {
-        let a = ds.places;
-        let d = a[i];
-        return crate::info::info(d);
-    }
-    MaybeMultiTouchInfo::None
-}
-
-// The info of the first device that has one.
-pub fn multi_touch(ds: Devices) -> MaybeMultiTouchInfo
-    ensures { λ r. ⌜ r ≡ multi-touch (view ds) ⌝ }
-{
-    let n = len(ds);
-    let a = ds.places;
-    let mut i: usize = 0;
-    while i < n {
-        let d = a[i];
-        let info = crate::info::info(d);
-        match info {
-            MaybeMultiTouchInfo::Some(g) => {
-                return MaybeMultiTouchInfo::Some(g);
-            }
-            MaybeMultiTouchInfo::None => {}
-        }
-        i += 1;
-    }
-    MaybeMultiTouchInfo::None
-}
-
-pub fn any_touches(ds: Devices) -> bool
-    ensures { λ r. ⌜ r ≡ any-touches (view ds) ⌝ }
-{
-    let n = len(ds);
-    let a = ds.places;
-    let mut i: usize = 0;
-    while i < n {
-        let d = a[i];
-        if crate::device::any_touches(d) {
-            return true;
-        }
-        i += 1;
-    }
-    false
-}
-
-// Are there touches on this device?
-pub fn any_touches_of(ds: Devices, device_id: u64) -> bool
-    ensures { λ r. ⌜ r ≡ any-touches-at (find-device «device_id» (view ds)) ⌝ }
-{
-    let i = index_of(ds, device_id);
-    if i < len(ds) {
-        let a = ds.places;
-        let d = a[i];
-        return crate::device::any_touches(d);
-    }
-    false
-}
-
-pub fn has_touch_screen(ds: Devices) -> bool
-    ensures { λ r. ⌜ r ≡ has-touch-screen (view ds) ⌝ }
-{
-    len(ds) > 0
 }

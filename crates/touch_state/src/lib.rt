@@ -1,6 +1,2 @@
-// egui's input_state/touch_state.rs, and the map of devices of input_state/mod.rs: records by value.
-pub mod device;
+// The map of touch devices of egui's input_state/mod.rs, by value. A device is touch_device, what is asked of them is touch_questions.
 pub mod devices;
-pub mod gesture;
-pub mod info;
-pub mod touches;

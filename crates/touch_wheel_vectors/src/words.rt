@@ -13,12 +13,11 @@ use data::touch::MaybeGestureState;
 use data::touch::MaybeMultiTouchInfo;
 use data::touch::MultiTouchInfo;
 use data::touch::Rotation;
-use touch_state::device::Device;
+use touch_device::Device;
+use touch_device::info;
 use touch_state::devices;
 use touch_state::devices::Devices;
-use touch_state::info;
-use touch_state::touches;
-use touch_state::touches::Touches;
+use touches::Touches;
 
 fn wheel(sum: u64, w: WheelState) -> u64 {
     let status = w.status;
@@ -167,8 +166,8 @@ fn rotation(sum: u64, r: Rotation) -> u64 {
 
 fn asked_of(sum: u64, ds: Devices, id: u64) -> u64 {
     let mut n = sums::id(sum, id);
-    n = sums::flag(n, devices::any_touches_of(ds, id));
-    maybe_told(n, devices::info(ds, id))
+    n = sums::flag(n, touch_questions::any_touches_of(ds, id));
+    maybe_told(n, touch_questions::info(ds, id))
 }
 
 fn asked_of_all(sum: u64, ds: Devices) -> u64 {
@@ -189,9 +188,9 @@ fn asked_of_all(sum: u64, ds: Devices) -> u64 {
 
 // Of ASK: rotation, is_scrolling, any_touches and has_touch_screen, multi_touch, and the devices.
 pub fn asked(w: WheelState, ds: Devices) -> u64 {
-    let first = devices::multi_touch(ds);
-    let any = bit_number(devices::any_touches(ds));
-    let screen = bit_number(devices::has_touch_screen(ds));
+    let first = touch_questions::multi_touch(ds);
+    let any = bit_number(touch_questions::any_touches(ds));
+    let screen = bit_number(touch_questions::has_touch_screen(ds));
     let mut n = rotation(sums::START, info::rotation(first, 0.0));
     n = sums::flag(n, wheel_state::is_scrolling(w));
     n = sums::word(n, any + 2 * screen);

@@ -1,4 +1,2 @@
-pub mod Insert
 pub mod Layout
-pub mod Numbers
 pub mod Table

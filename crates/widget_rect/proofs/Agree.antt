@@ -19,12 +19,14 @@ use Rattle.model.specs.Pass.{or-else}
 use Rattle.model.specs.Widgets.{Known, Layer, same-layer, updated, record-refusal, move-to-end}
 use Rattle.model.specs.Widgets as M
 use Rattle.widget_index.specs.declared.table.WidgetRects.{WidgetRects}
-use Rattle.widget_index.specs.declared.insert.Inserted.the-variants.{Refused, Taken}
+use Rattle.widget_append.specs.declared.Inserted.the-variants.{Refused, Taken}
 use Rattle.widget_index.specs.Layout.{span, place, place-at, layer-of, position-of, count-at}
 use Rattle.widget_index.specs.Table.{at-most, firsts, last, widgets-of, layers-of, layer-at, widget-at, known-at, layer-entry-at, view, head, find, find-layer}
-use Rattle.widget_index.specs.declared.insert.Decision.{Decision}
-use Rattle.widget_index.specs.Insert.{Outcome, Gives, refuse, unchanged, number-of, count-of, append, insert-new, at-least, replace, move-to-top, moved-numbers, with-traits, fall, insert-known, insert-checked, decide, settled}
-use Rattle.widget_index.proofs.Cases as C
+use Rattle.widget_append.specs.declared.Decision.{Decision}
+use Rattle.widget_append.specs.Append.{Outcome, Gives, refuse, unchanged, number-of, count-of, append, insert-new, with-traits, settled}
+use Rattle.widget_insert.specs.Insert.{at-least, replace, move-to-top, moved-numbers, fall, insert-known, insert-checked, decide}
+use Rattle.widget_append.proofs.Cases as New
+use Rattle.widget_insert.proofs.Cases as C
 use Rattle.widget_rect.specs.Questions.{at-entry}
 use Rattle.widget_rect.specs.WellFormed.{Indexed, WellFormed}
 use Rattle.widget_rect.specs.Told.{told, Inserts}
@@ -168,13 +170,13 @@ module _ (h : WidgetRects) (words numbers : List ℕ) (edges : List Float) (slic
       new-right = go (leb max-widgets (h .widgets)) refl (leb max-layers l) refl (ltb lent (count + 1)) refl
         where
           go : (a : Bool) → leb max-widgets (h .widgets) ≡ a → (b : Bool) → leb max-layers l ≡ b → (c : Bool) → ltb lent (count + 1) ≡ c → Right (insert-new h words numbers edges lent w)
-          go true f b g c i = right (C.full h words numbers edges lent w f) (refuses Full (full-refusal (model-full-widgets f)))
-          go false f true g c i = right (C.full-layers h words numbers edges lent w f (ap (leb max-layers) layer-numbered ∙ g)) (refuses Full (full-refusal (model-full true f g)))
+          go true f b g c i = right (New.full h words numbers edges lent w f) (refuses Full (full-refusal (model-full-widgets f)))
+          go false f true g c i = right (New.full-layers h words numbers edges lent w f (ap (leb max-layers) layer-numbered ∙ g)) (refuses Full (full-refusal (model-full true f g)))
           go false f false g true i =
-              right (C.short-new h words numbers edges lent w f (ap (leb max-layers) layer-numbered ∙ g) (ap (λ (x : ℕ). ltb lent (x + 1)) layer-counted ∙ i))
+              right (New.short-new h words numbers edges lent w f (ap (leb max-layers) layer-numbered ∙ g) (ap (λ (x : ℕ). ltb lent (x + 1)) layer-counted ∙ i))
               (refuses ShortSlice (short-refusal (model-full false f g) true i))
           go false f false g false i =
-              right (C.appends h words numbers edges lent w f (ap (leb max-layers) layer-numbered ∙ g) (ap (λ (x : ℕ). ltb lent (x + 1)) layer-counted ∙ i)
+              right (New.appends h words numbers edges lent w f (ap (leb max-layers) layer-numbered ∙ g) (ap (λ (x : ℕ). ltb lent (x + 1)) layer-counted ∙ i)
               ∙ ap (λ (x : ℕ). append h words numbers edges w x (count-of numbers (find-layer words numbers (w .«layer_id») (layers-of h)))) layer-numbered ∙ ap (append h words numbers edges w l) layer-counted)
               (appended f g i)
 

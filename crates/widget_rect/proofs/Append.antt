@@ -18,7 +18,7 @@ use Rattle.model.specs.Widgets.{same-layer}
 use Rattle.widget_index.specs.declared.table.WidgetRects.{WidgetRects}
 use Rattle.widget_index.specs.Layout.{parents, layer-ids, links, places, traits, orders, counts, span, id-at, parent-at, link-at, place-at, layer-of, position-of, place, count-at, packed}
 use Rattle.widget_index.specs.Table.{at-most, last, widgets-of, layer-at, bucket, head, find, find-layer}
-use Rattle.widget_index.specs.Insert.{appended-words, appended-numbers, layers-after}
+use Rattle.widget_append.specs.Append.{appended-words, appended-numbers, layers-after}
 use Rattle.widget_rect.specs.WellFormed.{Indexed}
 use Rattle.widget_rect.proofs.Lists.{kept, stored, last-here, last-before, last-le, last-cong}
 use Rattle.widget_rect.proofs.Index.{unclamped, not-so, same-layer-is, finds-id}

@@ -17,7 +17,7 @@ use Rattle.model.specs.Widgets.{Known, Layer, same-layer, count-in}
 use Rattle.widget_index.specs.declared.table.WidgetRects.{WidgetRects}
 use Rattle.widget_index.specs.Layout.{span, counts, place-at, layer-of, position-of, place, count-at, packed}
 use Rattle.widget_index.specs.Table.{at-most, firsts, last, widgets-of, layers-of, layer-at, widget-at, known-at, layer-entry-at, view, head, find, find-layer}
-use Rattle.widget_index.specs.Insert.{appended-words, appended-numbers, layers-after, with-edges}
+use Rattle.widget_append.specs.Append.{appended-words, appended-numbers, layers-after, with-edges}
 use Rattle.widget_rect.specs.Questions.{at-entry}
 use Rattle.widget_rect.specs.WellFormed.{Indexed}
 use Rattle.widget_rect.proofs.Lists.{last-is, firsts-cong, first-such, change-such, finds, changes, but}

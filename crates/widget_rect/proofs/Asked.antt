@@ -15,7 +15,7 @@ use Rattle.model.specs.Widgets as M
 use Rattle.widget_index.specs.declared.table.WidgetRects.{WidgetRects}
 use Rattle.widget_index.specs.Layout.{head-at, id-at, count-at}
 use Rattle.widget_index.specs.Table.{at-most, firsts, last, layers-of, layer-at, layer-entry-at, known-at, view, bucket, head, find, find-layer}
-use Rattle.widget_index.specs.Insert.{count-of}
+use Rattle.widget_append.specs.Append.{count-of}
 use Rattle.widget_rect.specs.Questions.{Empty, Contains, Gets, Orders, Counts, Layers, at-entry, widget-option, order-option, layer-option}
 use Rattle.widget_rect.specs.declared.questions.MaybeWidgetRect.{MaybeWidgetRect}
 use Rattle.widget_rect.specs.declared.questions.MaybeOrder.{MaybeOrder}

@@ -12,7 +12,7 @@ use lib.Seq.{getD-set-same, getD-set-other}
 use borrow.Author.Tests.{eq-eqb, ne-eqb, eqb-true, eqb-false, lt-ltb, le-ltb, ltb-true, ltb-false}
 use Rattle.widget_rect.proofs.Index.{and-left, and-right}
 use Rattle.widget_index.specs.Layout.{places, span, layer-of, position-of, place}
-use Rattle.widget_index.specs.Insert.{fallen, fall}
+use Rattle.widget_insert.specs.Insert.{fallen, fall}
 
 module _ (after before : ℕ) where
   pub length-fall : (n : ℕ) (ns : List ℕ) → length (fall n after before ns) ≡ length ns

@@ -15,8 +15,10 @@ use Rattle.model.specs.Widgets.{same-layer, record-refusal}
 use Rattle.widget_index.specs.declared.table.WidgetRects.{WidgetRects}
 use Rattle.widget_index.specs.Layout.{place-at, layer-of, position-of, count-at}
 use Rattle.widget_index.specs.Table.{layers-of, layer-at, find, find-layer}
-use Rattle.widget_index.specs.Insert.{Outcome, refuse, unchanged, number-of, count-of, append, insert-new, at-least, replace, move-to-top, insert-known, insert-checked, decide}
-use Rattle.widget_index.proofs.Cases as C
+use Rattle.widget_append.specs.Append.{Outcome, refuse, unchanged, number-of, count-of, append, insert-new}
+use Rattle.widget_insert.specs.Insert.{at-least, replace, move-to-top, insert-known, insert-checked, decide}
+use Rattle.widget_append.proofs.Cases as New
+use Rattle.widget_insert.proofs.Cases as C
 
 at-least-low : (low n : ℕ) → low ≤ at-least low n
 unfolding at-least
@@ -48,10 +50,10 @@ module _ (h : WidgetRects) (words numbers : List ℕ) (edges : List Float) (lent
 
       go : (a : Bool) → leb max-widgets (h .widgets) ≡ a → (b : Bool) → leb max-layers (number-of (find-layer words numbers (w .«layer_id») (layers-of h)) (layers-of h)) ≡ b
           → (c : Bool) → ltb lent (count-of numbers (find-layer words numbers (w .«layer_id») (layers-of h)) + 1) ≡ c → Fits (insert-new h words numbers edges lent w)
-      go true f b g c i = fits (C.full h words numbers edges lent w f) zero-le
-      go false f true g c i = fits (C.full-layers h words numbers edges lent w f g) zero-le
-      go false f false g true i = fits (C.short-new h words numbers edges lent w f g i) zero-le
-      go false f false g false i = fits (C.appends h words numbers edges lent w f g i) (ltb-false lent _ i)
+      go true f b g c i = fits (New.full h words numbers edges lent w f) zero-le
+      go false f true g c i = fits (New.full-layers h words numbers edges lent w f g) zero-le
+      go false f false g true i = fits (New.short-new h words numbers edges lent w f g i) zero-le
+      go false f false g false i = fits (New.appends h words numbers edges lent w f g i) (ltb-false lent _ i)
 
   known-fits : (s : ℕ) → Fits (insert-known h words numbers edges lent w s top)
   unfolding replace move-to-top

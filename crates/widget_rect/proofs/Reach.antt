@@ -16,11 +16,12 @@ use Rattle.data.specs.declared.widget.WidgetRect.{WidgetRect}
 use Rattle.model.specs.Widgets as M
 use Rattle.model.specs.Widgets.{Known, Layer, same-layer}
 use Rattle.widget_index.specs.declared.table.WidgetRects.{WidgetRects}
-use Rattle.widget_index.specs.declared.insert.Inserted.{Inserted}
-use Rattle.widget_index.specs.declared.insert.Inserted.the-variants.{Refused, Taken}
+use Rattle.widget_append.specs.declared.Inserted.{Inserted}
+use Rattle.widget_append.specs.declared.Inserted.the-variants.{Refused, Taken}
 use Rattle.widget_index.specs.Layout.{id-at, place-at, layer-of, position-of, place, count-at}
 use Rattle.widget_index.specs.Table.{firsts, last, widgets-of, layers-of, layer-at, known-at, layer-entry-at, view}
-use Rattle.widget_index.specs.Insert.{Outcome, decide, settled}
+use Rattle.widget_append.specs.Append.{Outcome, settled}
+use Rattle.widget_insert.specs.Insert.{decide}
 use Rattle.widget_rect.specs.Reached.{Reached, starts, inserts, Orderly, nobody, nowhere, known, layer, EveryReachedSetIsOrderly}
 use Rattle.widget_rect.specs.WellFormed.{Indexed, WellFormed}
 use Rattle.widget_rect.specs.Told.{told}

@@ -19,7 +19,7 @@ use Rattle.data.specs.declared.refusal.InsertRefusal.the-variants.{Malformed}
 use Rattle.model.specs.Widgets.{Known, well-shaped, some-id-zero, edges-ok, record-refusal}
 use Rattle.widget_index.specs.Layout.{bit, packed, sense-of, enabled-of, visible-of, edge-at}
 use Rattle.widget_index.specs.Table.{rect-at}
-use Rattle.widget_index.specs.Insert.{with-edges, appended-words, appended-numbers}
+use Rattle.widget_append.specs.Append.{with-edges, appended-words, appended-numbers}
 use Rattle.widget_rect.proofs.Lists.{kept, stored}
 use Rattle.widget_rect.proofs.Index.{unlike}
 

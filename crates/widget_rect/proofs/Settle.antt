@@ -12,7 +12,7 @@ use borrow.Author.Tests.{lt-ltb, le-ltb}
 use Rattle.emath.specs.declared.rect.Rect.{Rect}
 use Rattle.data.specs.declared.widget.WidgetRect.{WidgetRect}
 use Rattle.model.specs.Widgets.{move-to-end}
-use Rattle.widget_index.specs.Insert.{settled}
+use Rattle.widget_append.specs.Append.{settled}
 
 abbrev no-rect : Rect
 no-rect = record { min = record { x = nan; y = nan }; max = record { x = nan; y = nan } }

@@ -21,7 +21,8 @@ use Rattle.model.specs.Widgets as M
 use Rattle.widget_index.specs.declared.table.WidgetRects.{WidgetRects}
 use Rattle.widget_index.specs.Layout.{places, traits, counts, orders, span, id-at, link-at, place-at, layer-of, position-of, place, count-at, packed}
 use Rattle.widget_index.specs.Table.{firsts, last, widgets-of, layer-at, widget-at, known-at, layer-entry-at, view, bucket, head, find, find-layer}
-use Rattle.widget_index.specs.Insert.{with-edges, with-traits, at-least, fall, fallen, moved-numbers}
+use Rattle.widget_append.specs.Append.{with-edges, with-traits}
+use Rattle.widget_insert.specs.Insert.{at-least, fall, fallen, moved-numbers}
 use Rattle.widget_rect.specs.WellFormed.{Indexed}
 use Rattle.widget_rect.proofs.Lists.{last-is, last-none, last-cong, firsts-cong, map-firsts, change-such, changes, but}
 use Rattle.widget_rect.proofs.Index.{unclamped, not-so, unlike, same-layer-is, same-layer-refl, finds-id}

@@ -12,7 +12,7 @@ use Rattle.data.specs.declared.widget.WidgetRect.{WidgetRect}
 use Rattle.model.specs.Widgets as M
 use Rattle.widget_index.specs.declared.table.WidgetRects.{WidgetRects}
 use Rattle.widget_index.specs.Table.{firsts, layers-of, layer-at, known-at, view, find, find-layer}
-use Rattle.widget_index.specs.Insert.{count-of}
+use Rattle.widget_append.specs.Append.{count-of}
 use Rattle.widget_rect.specs.declared.questions.MaybeWidgetRect.{MaybeWidgetRect}
 use Rattle.widget_rect.specs.declared.questions.MaybeWidgetRect.the-variants.{None as no-widget, Some as a-widget}
 use Rattle.widget_rect.specs.declared.questions.MaybeOrder.{MaybeOrder}

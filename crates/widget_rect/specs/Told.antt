@@ -8,11 +8,12 @@ use lib.ListN.{length}
 use Rattle.data.specs.declared.widget.WidgetRect.{WidgetRect}
 use Rattle.model.specs.Widgets as M
 use Rattle.widget_index.specs.declared.table.WidgetRects.{WidgetRects}
-use Rattle.widget_index.specs.declared.insert.Inserted.{Inserted}
-use Rattle.widget_index.specs.declared.insert.Inserted.the-variants.{Refused, Taken}
-use Rattle.widget_index.specs.declared.insert.Decision.{Decision}
+use Rattle.widget_append.specs.declared.Inserted.{Inserted}
+use Rattle.widget_append.specs.declared.Inserted.the-variants.{Refused, Taken}
+use Rattle.widget_append.specs.declared.Decision.{Decision}
 use Rattle.widget_index.specs.Table.{view}
-use Rattle.widget_index.specs.Insert.{Gives, decide, settled}
+use Rattle.widget_append.specs.Append.{Gives, settled}
+use Rattle.widget_insert.specs.Insert.{decide}
 use Rattle.widget_rect.specs.WellFormed.{WellFormed}
 
 -- the model's answer that an answer stands for, with the set and the slice after it

@@ -1,12 +1,12 @@
 // One insertion: the set decides, and the lent slice follows.
 use crate::slice::settle;
 use data::widget::WidgetRect;
-use widget_index::insert::Decision;
-use widget_index::insert::decide;
+use widget_append::Decision;
 use widget_index::table::Edges;
 use widget_index::table::Numbers;
 use widget_index::table::WidgetRects;
 use widget_index::table::Words;
+use widget_insert::decide;
 ghost use Rattle.widget_rect.specs.Told.{Inserts};
 
 // Inserts a widget into its own layer, whose widgets are lent in `s`: answers the set after it, the widget's position and the count of its

@@ -3,7 +3,7 @@ use data::widget::WidgetRect;
 ghost use mathlib.Core.Path.{_≡_};
 ghost use Prim.Native.Nat.{_+_, _≤_};
 ghost use lib.ListN.{length};
-ghost use Rattle.widget_index.specs.Insert.{settled};
+ghost use Rattle.widget_append.specs.Append.{settled};
 
 // The record at `from` goes, each after it up to `to` falls by one, and `w` comes last of them. With `to` at `from + 1` it replaces one
 // record; with `to` at `from` nothing changes. Further places stay.

@@ -6,7 +6,7 @@ use emath::rect::Rect;
 use widget_rect::slice::settle;
 ghost use mathlib.Core.Path.{_≡_};
 ghost use Prim.Native.Nat.{_≤_};
-ghost use Rattle.widget_index.specs.Insert.{settled};
+ghost use Rattle.widget_append.specs.Append.{settled};
 
 pub struct Layer {
     pub widgets: [WidgetRect; 64],

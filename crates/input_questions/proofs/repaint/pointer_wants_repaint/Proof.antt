@@ -7,8 +7,8 @@ use native.Mathlib.Omega.{arith}
 use lib.ListN.{length}
 use Rattle.model.specs.Questions.{some-event}
 use Rattle.model.specs.Types.{PointerEvent}
-use Rattle.pointer_state.specs.View.{held}
-use Rattle.pointer_state.proofs.Stored.{events-length}
+use Rattle.pointer_clicks.specs.View.{held}
+use Rattle.pointer_events.proofs.Stored.{events-length}
 use borrow.Author.Needs.{needs}
 use Rattle.input_questions.proofs.repaint.pointer_wants_repaint.Statement.{statement}
 use Rattle.input_questions.proofs.repaint.pointer_wants_repaint.Tie as tie

@@ -1,17 +1,8 @@
 -- The callees' results, put together. Assumes nothing.
-use mathlib.Core.Path.{_≡_, refl, ap}
-use Rattle.model.specs.Questions.{rotation, reply, shown, rotation-reply}
-use Rattle.model.specs.Pass.{Sums}
-use Rattle.model.specs.Types.{MaybeMultiTouchInfo, no-info, some-info}
-use Rattle.touch_state.specs.View.{rotation-of-info}
+use Rattle.model.specs.Questions.{reply, shown}
 use borrow.Author.Needs.{needs}
 use Rattle.input_questions.proofs.zoom.rotation_delta.Statement.{statement}
 use Rattle.input_questions.proofs.zoom.rotation_delta.Tie as tie
-
-same : (g : MaybeMultiTouchInfo) (s : Sums) → rotation-reply g s ≡ rotation-of-info g (s .rotation-radians)
-unfolding rotation-reply rotation-of-info
-same no-info s = refl
-same (some-info i) s = refl
 
 multi-touch-requires : tie.Need-multi-touch-requires
 multi-touch-requires c κs = search needs
@@ -21,7 +12,7 @@ rotation-requires c κs = search needs
 
 returns : tie.Need-returns
 unfolding reply shown
-returns c p e f = rw (e, c .rotation .ensures, c .before .multi-touch .ensures, ← f) (ap rotation (same _ _))
+returns c p e f = rw (e, c .rotation .ensures (p .sums) f, c .before .multi-touch .ensures)
 
 pub rotation-delta-spec : {M : Type 1} → statement M
 rotation-delta-spec = tie.close (tie.spec multi-touch-requires rotation-requires returns)

@@ -5,7 +5,7 @@ use mathlib.Core.List.{List}
 use native.Mathlib.Omega.{arith}
 use lib.Ieee.{Float}
 use Rattle.model.specs.Interact.{InteractInput, pointer-event, pointer-events}
-use Rattle.pointer_state.specs.Events.{event-of, entry-at, events-from, events}
+use Rattle.pointer_events.specs.Events.{event-of, entry-at, events-from, events}
 use Rattle.interaction.specs.View.{going-of}
 use Rattle.interaction.specs.Lookup.{Looks}
 use Rattle.interaction.proofs.Walk.{one-event, no-event}

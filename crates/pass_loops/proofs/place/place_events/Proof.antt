@@ -1,7 +1,7 @@
 -- `place/place_events` meets its contract: each way to a return is the case of the definition that its tests pick. Assumes nothing.
 use Rattle.pass_loops.proofs.Loops.{place-loop}
 use Rattle.event_loop.proofs.Walk.{less}
-use Rattle.pointer_state.specs.View.{place}
+use Rattle.pointer_place.specs.View.{place}
 use Rattle.model.specs.Pointer.{place-events}
 use lib.Ieee.{Float}
 use mathlib.Core.List.{List}

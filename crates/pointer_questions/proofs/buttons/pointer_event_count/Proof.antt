@@ -1,6 +1,6 @@
 -- The list's length. Assumes nothing.
 use mathlib.Core.Path.{sym, _∙_}
-use Rattle.pointer_state.proofs.Stored.{events-length}
+use Rattle.pointer_events.proofs.Stored.{events-length}
 use borrow.Author.Needs.{needs}
 use Rattle.pointer_questions.proofs.buttons.pointer_event_count.Statement.{statement}
 use Rattle.pointer_questions.proofs.buttons.pointer_event_count.Tie as tie

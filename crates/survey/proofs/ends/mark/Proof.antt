@@ -2,7 +2,7 @@
 use Rattle.survey.specs.Ends.{marked-by}
 use Rattle.event_loop.specs.Shaped.{shaped-events}
 use Rattle.touch_state.proofs.Known.{ended, ended-start, ended-step, ended-end}
-use Rattle.touch_state.proofs.Places.{first-of, first-le}
+use Rattle.touches.proofs.Places.{first-of, first-le}
 use lib.ListN.{length, length-map, length-set}
 use Prim.Native.Nat.{_-_, _≤_}
 use native.Mathlib.Omega.{arith}

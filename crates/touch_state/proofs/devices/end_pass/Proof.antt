@@ -5,8 +5,8 @@ use native.Mathlib.Omega.{arith}
 use Prim.Native.Nat.{_+_, _-_, _≤_, _<_}
 use mathlib.Core.List.{map}
 use lib.ListN.{length, take, drop, length-take, length-map, length-set}
-use Rattle.touch_state.specs.View.{end-marked}
-use Rattle.touch_state.proofs.Places.{first-of, first-le}
+use Rattle.touch_device.specs.View.{end-marked}
+use Rattle.touches.proofs.Places.{first-of, first-le}
 use Rattle.touch_state.proofs.Known.{ended, ended-start, ended-step, ended-end}
 use Rattle.touch_state.proofs.devices.end_pass.Statement.{statement}
 use Rattle.touch_state.proofs.devices.end_pass.Tie as tie

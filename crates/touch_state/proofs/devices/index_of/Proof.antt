@@ -5,8 +5,9 @@ use borrow.Author.Needs.{needs}
 use borrow.Author.Tests.{eq-eqb, ne-eqb}
 use native.Mathlib.Omega.{arith}
 use lib.ListN.{length, take, drop, length-map}
-use Rattle.touch_state.specs.View.{index, device-id}
-use Rattle.touch_state.proofs.Places.{first-of, first-le, index-skips, index-stops, index-ends}
+use Rattle.touches.specs.Touches.{index}
+use Rattle.touch_state.specs.View.{device-id}
+use Rattle.touches.proofs.Places.{first-of, first-le, index-skips, index-stops, index-ends}
 use Rattle.touch_state.proofs.devices.index_of.Statement.{statement}
 use Rattle.touch_state.proofs.devices.index_of.Tie as tie
 

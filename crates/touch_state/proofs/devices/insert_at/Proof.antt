@@ -4,7 +4,7 @@ use mathlib.Core.Path.{_≡_, _∙_, refl}
 use borrow.Author.Needs.{needs}
 use native.Mathlib.Omega.{arith}
 use lib.ListN.{length, take, drop, set, length-map, length-set}
-use Rattle.touch_state.proofs.Places.{first-of, held, held-start, held-step, held-end}
+use Rattle.touches.proofs.Places.{first-of, held, held-start, held-step, held-end}
 use Rattle.touch_state.proofs.devices.insert_at.Statement.{statement}
 use Rattle.touch_state.proofs.devices.insert_at.Tie as tie
 

@@ -4,7 +4,7 @@ use mathlib.Core.Path.{_≡_, _∙_, sym, ap}
 use native.Mathlib.Omega.{arith}
 use lib.ListN.{length, length-take, length-map}
 use Rattle.touch_state.specs.View.{device-id}
-use Rattle.touch_state.proofs.Upsert.{at-place, at-no}
+use Rattle.touches.proofs.Upsert.{at-place, at-no}
 use Rattle.touch_state.proofs.devices.is_at.Statement.{statement}
 use Rattle.touch_state.proofs.devices.is_at.Tie as tie
 

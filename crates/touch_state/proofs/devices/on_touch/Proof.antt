@@ -6,7 +6,7 @@ use Prim.Native.Nat.{_+_, _-_, _≤_, _<_}
 use mathlib.Core.List.{map}
 use lib.ListN.{length, take, drop, length-take, length-map, length-set}
 use Rattle.touch_state.specs.View.{device-id}
-use Rattle.touch_state.proofs.Upsert.{at-lt, place-le}
+use Rattle.touches.proofs.Upsert.{at-lt, place-le}
 use Rattle.touch_state.proofs.Known.{touched-hit, touched-miss, touched-full}
 use Rattle.touch_state.proofs.devices.on_touch.Statement.{statement}
 use Rattle.touch_state.proofs.devices.on_touch.Tie as tie

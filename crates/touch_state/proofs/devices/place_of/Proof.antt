@@ -5,8 +5,9 @@ use borrow.Author.Needs.{needs}
 use borrow.Author.Tests.{le-ltb, lt-ltb}
 use native.Mathlib.Omega.{arith}
 use lib.ListN.{length, take, drop, length-map}
-use Rattle.touch_state.specs.View.{place, device-id}
-use Rattle.touch_state.proofs.Places.{first-of, first-le, place-skips, place-stops, place-ends}
+use Rattle.touches.specs.Touches.{place}
+use Rattle.touch_state.specs.View.{device-id}
+use Rattle.touches.proofs.Places.{first-of, first-le, place-skips, place-stops, place-ends}
 use Rattle.touch_state.proofs.devices.place_of.Statement.{statement}
 use Rattle.touch_state.proofs.devices.place_of.Tie as tie
 

@@ -49,14 +49,15 @@ use Rattle.data.proofs.widget.WidgetRect.Laws as T′
 use Rattle.widget_index.specs.declared.table.WidgetRects.{WidgetRects}
 use Rattle.widget_index.proofs.table.WidgetRects as S
 use Rattle.widget_index.proofs.table.WidgetRects.Laws as S′
-use Rattle.widget_index.specs.declared.insert.Decision.{Decision}
-use Rattle.widget_index.proofs.insert.Decision as D
-use Rattle.widget_index.proofs.insert.Decision.Laws as D′
-use Rattle.widget_index.specs.Insert.{Gives, decide, settled}
-use Rattle.widget_index.proofs.insert.decide as decide-fn
-use Rattle.widget_index.proofs.insert.decide.Symbol as decide-def
-use Rattle.widget_index.proofs.insert.decide.Symbol.{name as #decide}
-use Rattle.widget_index.proofs.insert.decide.Met as decide-thm
+use Rattle.widget_append.specs.declared.Decision.{Decision}
+use Rattle.widget_append.proofs.Decision as D
+use Rattle.widget_append.proofs.Decision.Laws as D′
+use Rattle.widget_append.specs.Append.{Gives, settled}
+use Rattle.widget_insert.specs.Insert.{decide}
+use Rattle.widget_insert.proofs.decide as decide-fn
+use Rattle.widget_insert.proofs.decide.Symbol as decide-def
+use Rattle.widget_insert.proofs.decide.Symbol.{name as #decide}
+use Rattle.widget_insert.proofs.decide.Met as decide-thm
 use Rattle.widget_rect.specs.Told.{Inserts}
 use Rattle.widget_rect.proofs.Again as again
 use Rattle.widget_rect.proofs.Agree.{inserts}
@@ -321,5 +322,5 @@ insert-spec 𝓤 H 𝓜 𝓖 𝓡 =
     entered 𝓤 H (tripleOf 𝓤 H (𝓖 .A) f.signature (f.spec 𝓤 H (𝓖 .A) (𝓜 .mem) (𝓡 .run)))
     (tables 𝓤 H 𝓜 𝓡 code.env .C) (tables 𝓤 H 𝓜 𝓡 code.env .Λ) #insert code.function (code.unfolded 𝓤 H 𝓜 𝓡)
     (insert-meets 𝓤 H (𝓖 .A) (givenOf 𝓤 H 𝓜 𝓖) (𝓜 .mem) (𝓡 .run) (tablesOf 𝓤 H 𝓜 (tables 𝓤 H 𝓜 𝓡 code.env))
-    (cited 𝓤 H (Decide 𝓤 H (𝓖 .A) (𝓜 .mem) (𝓡 .run)) 𝓜 𝓡 code.env #decide decide-def.routine code.calls-widget-index·insert·decide (decide-thm.met 𝓤 H 𝓜 𝓖 𝓡))
+    (cited 𝓤 H (Decide 𝓤 H (𝓖 .A) (𝓜 .mem) (𝓡 .run)) 𝓜 𝓡 code.env #decide decide-def.routine code.calls-widget-insert·decide (decide-thm.met 𝓤 H 𝓜 𝓖 𝓡))
     (cited 𝓤 H (Settle 𝓤 H (𝓖 .A) (𝓜 .mem) (𝓡 .run)) 𝓜 𝓡 code.env #settle settle-def.routine code.calls-widget-rect·slice·settle (settle-thm.met 𝓤 H 𝓜 𝓖 𝓡)))

@@ -1,6 +1,6 @@
 -- `widget_rect::questions::layer_count` meets its contract. Assumes nothing.
 use Rattle.widget_rect.proofs.Asked.{answers-count}
-use Rattle.widget_index.specs.Insert.{count-of}
+use Rattle.widget_append.specs.Append.{count-of}
 use borrow.Author.Tests.{eq-eqb, ne-eqb}
 use borrow.Author.Needs.{needs}
 use Rattle.widget_rect.proofs.questions.layer_count.Statement.{statement}

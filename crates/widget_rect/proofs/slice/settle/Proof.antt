@@ -47,7 +47,7 @@ use denote.Triple.Table.{entered}
 use denote.Triple.Walked.{says, needs, Stays, stay-slice, stay-none, walkOf, goes-slice, goes-none, Walks, ends-at, walked, walk-meets}
 use denote.Exit.{yes}
 use Rattle.data.specs.declared.widget.WidgetRect.{WidgetRect}
-use Rattle.widget_index.specs.Insert.{settled}
+use Rattle.widget_append.specs.Append.{settled}
 use Rattle.widget_rect.proofs.Settle.{blank, shifted, starts, next-is, falls, length-shifted, nothing-settled, ends}
 use Rattle.widget_rect.proofs.Size.{size, far-fits}
 use Rattle.data.proofs.widget.WidgetRect as T

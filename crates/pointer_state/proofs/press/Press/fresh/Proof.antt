@@ -3,7 +3,7 @@ use mathlib.Core.Path.{refl}
 use lib.Ieee.{ofBits, neg, div}
 use Rattle.model.specs.Pass.{fresh-press}
 use Rattle.model.specs.Pointer.{no-buttons}
-use Rattle.pointer_state.specs.Events.{events, events-from}
+use Rattle.pointer_events.specs.Events.{events, events-from}
 use Rattle.pointer_state.proofs.press.Press.fresh.Statement.{statement}
 use Rattle.pointer_state.proofs.press.Press.fresh.Tie as tie
 
