@@ -4,14 +4,13 @@ use mathlib.Core.Path.{_≡_}
 use mathlib.Core.List.{List}
 use lib.Ieee.{Float}
 use lib.ListN.{length}
-use Rattle.model.specs.Types.{WheelState}
+use Rattle.model.specs.Types.{WheelState, PointerEvent}
 use Rattle.model.specs.Pass as Model
 use Rattle.model.specs.Questions.{Question, settled, pointer-events, events, Reply, ask}
 use Rattle.pointer_state.specs.declared.events.MaybePointerEvent.{MaybePointerEvent}
 use Rattle.pointer_state.specs.declared.place.Place.{Place}
 use Rattle.pointer_state.specs.declared.press.Press.{Press}
 use Rattle.pointer_state.specs.Events.{event-or-none}
-use Rattle.pointer_state.specs.Events as Events
 use Rattle.pointer_state.specs.View.{place, press}
 use Rattle.touch_state.specs.declared.devices.Devices.{Devices}
 use Rattle.touch_state.specs.View.{view}
@@ -64,14 +63,15 @@ of-events q s codes a = (places : List Float) (p : Model.Panel) → p .press ≡
 abbrev pub of-press : Question → Press → Reply → Type 0
 of-press q s a = (codes : List ℕ) → of-events q s codes a
 
--- ---- the pass's pointer events: how many, and the one at i
+-- ---- the pass's pointer events, for the list `l` of them that the model replies: how many, and the one at i
 abbrev pub of-event-count : Press → ℕ → Type 0
 of-event-count s n =
     (codes : List ℕ) (places : List Float) (p : Model.Panel) → p .press ≡ press codes places s
-    → ask (settled pointer-events) p ≡ events (Events.events codes places (s .held .«event_count»)) × (length (Events.events codes places (s .held .«event_count»)) ≡ n)
+    → (l : List PointerEvent) → ask (settled pointer-events) p ≡ events l → n ≡ length l
 
-abbrev pub of-event-list : Press → List ℕ → List Float → ℕ → MaybePointerEvent → Type 0
-of-event-list s codes places i a = event-or-none (Events.events codes places (s .held .«event_count»)) i ≡ a
+abbrev pub of-event-at : Press → List ℕ → List Float → ℕ → MaybePointerEvent → Type 0
+of-event-at s codes places i a =
+    (p : Model.Panel) → p .press ≡ press codes places s → (l : List PointerEvent) → ask (settled pointer-events) p ≡ events l → a ≡ event-or-none l i
 
 -- ---- a question that reads several
 abbrev pub of-wheel-at : Question → WheelState → Clock → Reply → Type 0

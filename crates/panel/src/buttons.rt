@@ -9,10 +9,9 @@ use pointer_state::events::CODES;
 use pointer_state::events::MaybePointerEvent;
 use pointer_state::events::PLACES;
 use pointer_state::press::Press;
-ghost use mathlib.Core.Path.{_≡_};
 ghost use Rattle.model.specs.Questions.{settled, bool, number, maybe-position, maybe-seconds};
 ghost use Rattle.model.specs.Questions as ask;
-ghost use Rattle.panel.specs.Answers.{of-press, of-events, of-click-past, of-pressing, of-long-press, of-event-list, of-event-count};
+ghost use Rattle.panel.specs.Answers.{of-press, of-events, of-click-past, of-pressing, of-long-press, of-event-at, of-event-count};
 
 pub fn press_origin(press: Press) -> MaybePos2
     ensures { λ r. ⌜ of-press (settled ask.press-origin) press (maybe-position r) ⌝ }
@@ -160,7 +159,7 @@ pub fn pointer_event(
     places: &[f32; PLACES],
     i: usize,
 ) -> MaybePointerEvent
-    ensures { λ r. ⌜ of-event-list press (now (codes .entry)) (now (places .entry)) i r ⌝ }
+    ensures { λ r. ⌜ of-event-at press (now (codes .entry)) (now (places .entry)) i r ⌝ }
 {
     let held = press.held;
     pointer_questions::buttons::pointer_event(held, codes, places, i)
