@@ -1,1 +1,4 @@
 pub mod Listed
+pub mod Seen
+pub mod Start
+pub mod Lookup
