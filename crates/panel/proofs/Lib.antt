@@ -1,4 +1,5 @@
 pub mod Listed
+pub mod Lookup
 pub mod Seen
 pub mod Start
-pub mod Lookup
+pub mod History
