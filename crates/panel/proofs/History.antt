@@ -1,6 +1,6 @@
 -- Every history of the code is the model's, and demand 3 holds of it. Assumes nothing.
 use Prim.Native.Nat.{ℕ, _≤_}
-use mathlib.Core.Path.{_≡_, refl, sym, _∙_, ap, ap₂, subst}
+use mathlib.Core.Path.{_≡_, refl, sym, _∙_, ap, ap₂, subst, subst₂}
 use mathlib.Core.Bool.{Bool, false}
 use mathlib.Core.Option.{Option, none, some}
 use mathlib.Core.List.{List, [], _∷_}
@@ -156,3 +156,67 @@ histories-balance x y calls answers start h widget =
 
     f : shows y ≡ run fresh calls
     f = run-from-fresh x start y calls answers h
+
+-- ---- the clearing pass
+
+-- a clearing pass and its interact, both taken
+both-taken : (b p q r : Panel) (s : InteractionSnapshot) (c : PassInput) (x : InteractInput) → passed p ∷ answered s q ∷ [] ≡ outcomes b (passes c ∷ interacts x ∷ []) → r ≡ run b (passes c ∷ interacts x ∷ [])
+    → (call b (passes c) ≡ passed p) × (call p (interacts x) ≡ answered s r)
+unfolding outcomes run after
+both-taken b p q r s c x e f = (first, second ∙ ap (λ (u : Panel). answered s u) (sym is-q))
+  where
+    first : call b (passes c) ≡ passed p
+    first = cc
+
+    second : call p (interacts x) ≡ answered s q
+    second = let g : passed p ∷ answered s q ∷ [] ≡ passed p ∷ call p (interacts x) ∷ [] = (rw first at e) in cc
+
+    is-q : r ≡ q
+    is-q = rw (first, second) at f
+
+module _ (past : List Call) (c : PassInput) (x : InteractInput) (later : List Call) (one : Life past c x later) where
+  abbrev b : Running
+  b = one .before
+
+  past-run : shows b ≡ run fresh past
+  past-run = run-from-fresh (one .start) (one .starts) b past (one .past-answers) (one .past-history)
+
+  to-clear : Followed b (passes c ∷ interacts x ∷ []) (passed (one .cleared-panel) ∷ answered (one .snapshot) (one .panel) ∷ []) (one .cleared)
+  to-clear = follows (followed (one .start) (one .starts) b past (one .past-answers) (one .past-history) .in-order) (one .clearing-history)
+
+  takes : Takes past c x (shows (one .cleared))
+  takes =
+      record {
+        cleared = one .cleared-panel;
+        takes-pass = ap (λ (p : Panel). call p (passes c)) (sym past-run) ∙ taken .0;
+        snapshot = one .snapshot;
+        takes-interact = taken .1;
+      }
+    where
+      taken : (call (shows b) (passes c) ≡ passed (one .cleared-panel)) × (call (one .cleared-panel) (interacts x) ≡ answered (one .snapshot) (shows (one .cleared)))
+      taken = both-taken (shows b) (one .cleared-panel) (one .panel) (shows (one .cleared)) (one .snapshot) c x (to-clear .is-run .answers-are) (to-clear .is-run .panel-is)
+
+  later-answers : one .answers ≡ outcomes (shows (one .cleared)) later
+  later-answers = follows (to-clear .in-order) (one .later-history) .is-run .answers-are
+
+answer-alike : (came clicked : Bool) (p q : Panel) (later : List Call) → Alike came clicked p q later → AnswerAlike came clicked p q (outcomes p later) (outcomes q later)
+unfolding outcomes
+answer-alike came clicked p q [] h = tt
+answer-alike came clicked p q (c ∷ calls) h = (h .0, answer-alike _ _ (after p (call p c)) (after q (call q c)) calls (h .1))
+
+pub histories-clear : HistoriesClear
+histories-clear past₁ past₂ later c x one two clears fair =
+    subst₂ (AnswerAlike false false p q) (sym (later-answers past₁ c x later one)) (sym (later-answers past₂ c x later two)) (answer-alike false false p q later (alike clears fair))
+  where
+    p : Panel
+    p = shows (one .cleared)
+
+    q : Panel
+    q = shows (two .cleared)
+
+    alike : (cl : Clears c (shows (one .before)) (shows (two .before))) → Fair (λ o. o ≡ c .options) (twice (c .options .«max_double_click_delay»)) (cl .time) false p q later
+        → Alike false false p q later
+    alike =
+        subst₂ (λ (s t : Panel). (cl : Clears c s t) → Fair (λ o. o ≡ c .options) (twice (c .options .«max_double_click_delay»)) (cl .time) false p q later → Alike false false p q later)
+        (sym (past-run past₁ c x later one)) (sym (past-run past₂ c x later two))
+        (λ cl f. clearing past₁ past₂ later c x p q cl (takes past₁ c x later one) (takes past₂ c x later two) f)
