@@ -2,4 +2,3 @@ pub mod Listed
 pub mod Lookup
 pub mod Seen
 pub mod Start
-pub mod History

@@ -27,9 +27,9 @@ use Rattle.input_state.specs.declared.input.PassInput as Declared
 use Rattle.input_state.specs.declared.state.InputState.{InputState}
 use Rattle.input_state.specs.View.{Lent, outcome}
 use Rattle.input_state.specs.View as Contract
 use Rattle.panel.specs.Steps.{ShowsInput}
-use Rattle.panel.specs.History.{Running, shows, Starts, Passes, after-pass, pass-answer, Given, interact-input, InteractsAs, after-interact, interact-answer, History, rests, then-pass, then-interact}
-use Rattle.panel.specs.History.{IsRun, EveryHistoryIsRun, Balanced, HistoriesBalance, Life, AnswerAlike, HistoriesClear}
+use Rattle.histories.specs.History.{Running, shows, Starts, Passes, after-pass, pass-answer, Given, interact-input, InteractsAs, after-interact, interact-answer, History, rests, then-pass, then-interact}
+use Rattle.histories.specs.History.{IsRun, EveryHistoryIsRun, Balanced, HistoriesBalance, Life, AnswerAlike, HistoriesClear}
 
 -- ---- one call of the code is the model's call
 record Stepped (x : Running) (c : Call) (a : Outcome) (y : Running) : Type 0 where
