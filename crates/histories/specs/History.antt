@@ -1,0 +1,150 @@
+-- Histories of the code: what its passes and interacts answer, call after call. By their contracts alone every history is the model's, and demand 3 holds of it.
+use Prim.Native.Nat.{ℕ, _+_, _≤_}
+use mathlib.Core.Path.{_≡_}
+use mathlib.Core.Bool.{Bool, false, _||_}
+use mathlib.Core.Option.{none}
+use mathlib.Core.List.{List, [], _∷_}
+use lib.Ieee.{Float}
+use lib.ListN.{length}
+use Rattle.data.specs.Limits.{max-tally}
+use Rattle.model.specs.Pass as Model
+use Rattle.model.specs.Interact.{InteractInput, InteractionSnapshot}
+use Rattle.model.specs.Calls.{Call, passes, interacts, Outcome, refused-interact, passed, answered, of-pass, after, run, outcomes}
+use Rattle.theorems.specs.Balance.{one-if-is, starts, stops, last-dragged, all-starts}
+use Rattle.theorems.specs.Clearing.{Clears, Fair, Same, When, is-passed, has-click, twice}
+use Rattle.survey.specs.Survey.{option}
+use Rattle.hit_lists.specs.declared.MaybeHit.{MaybeHit}
+use Rattle.hit_lists.specs.Hits.{input}
+use Rattle.id_lists.specs.Ids.{option-of}
+use Rattle.widget_index.specs.declared.table.WidgetRects.{WidgetRects}
+use Rattle.interaction.specs.declared.state.Interacted.{Interacted}
+use Rattle.interaction.specs.declared.state.Interacted.the-variants.{Refused, Taken}
+use Rattle.interaction.specs.View.{snapshot-of}
+use Rattle.interaction.specs.Lookup.{lookup}
+use Rattle.input_state.specs.declared.begin.Begun.{Begun}
+use Rattle.input_state.specs.declared.input.PassInput.{PassInput}
+use Rattle.input_state.specs.View.{Lent, outcome}
+use Rattle.input_state.specs.View as Contract
+use Rattle.panel.specs.declared.state.Panel.{Panel}
+use Rattle.panel.specs.View.{shown-by, NoPresses, Fresh}
+use Rattle.panel.specs.Steps.{Interacts}
+
+-- ---- a panel that runs: its records, and what the lent arrays hold
+pub record Running : Type 0 where
+  pub panel : Panel
+  pub lent : Lent
+
+abbrev pub shows : Running → Model.Panel
+shows x = shown-by (x .lent) (x .panel)
+
+-- as `fresh` returns it, over arrays without presses
+pub record Starts (x : Running) : Type 0 where
+  pub fresh-panel : Fresh (x .panel)
+  pub no-presses : NoPresses (x .lent)
+
+-- ---- one pass: given these, the call returned r and left the arrays so
+abbrev pub Passes : Running → PassInput → List ℕ → Begun → Lent → Type 0
+Passes x given feed r l = Contract.Begun given feed (x .lent) (x .panel .input) (x .panel .devices) l r
+
+abbrev pub after-pass : Running → Begun → Lent → Running
+after-pass x r l =
+    record { panel = record { input = r .state; devices = r .devices; interaction = x .panel .interaction; tally = x .panel .tally }; lent = l }
+
+-- what it answers: its refusal, or that it is taken
+abbrev pub pass-answer : Running → Begun → Lent → Outcome
+pass-answer x r l = of-pass (outcome (option (r .refusal)) (shows (after-pass x r l)))
+
+-- ---- one interact, with its own widgets, hits and id buffers
+pub record Given : Type 0 where
+  pub set : WidgetRects
+  pub words : List ℕ
+  pub numbers : List ℕ
+  pub edges : List Float
+  pub close : List ℕ
+  pub within : List ℕ
+  pub click : MaybeHit
+  pub drag : MaybeHit
+  pub hovered : List ℕ
+  pub contains : List ℕ
+
+abbrev pub interact-input : Given → InteractInput
+interact-input g =
+    input (lookup (g .set) (g .words) (g .numbers) (g .edges)) (g .close) (g .within) (g .click) (g .drag) (length (g .hovered)) (length (g .contains))
+
+abbrev pub InteractsAs : Running → Given → Interacted → List ℕ → List ℕ → Type 0
+InteractsAs x g r hovered contains =
+    Interacts (x .panel .input .clock) (x .panel .input .screen) (x .panel .input .pointer) (x .panel .devices) (x .lent .codes) (x .lent .presses) (x .panel .interaction)
+    (x .panel .tally) (g .set) (g .words) (g .numbers) (g .close) (g .within) (g .click) (g .drag) (g .hovered) (g .contains) r hovered contains
+
+-- refused, it leaves all; taken, it returns the interaction and the tally for the next call
+abbrev pub after-interact : Running → Interacted → Running
+after-interact x (Refused why) = x
+after-interact x (Taken a) =
+    record { panel = record { input = x .panel .input; devices = x .panel .devices; interaction = a .interaction; tally = a .tally }; lent = x .lent }
+
+-- what it answers: its refusal, or the snapshot with the ids written
+abbrev pub interact-answer : Running → Interacted → List ℕ → List ℕ → Outcome
+interact-answer x (Refused why) hovered contains = refused-interact why
+interact-answer x (Taken a) hovered contains = answered (snapshot-of (a .snapshot) hovered contains) (shows (after-interact x (Taken a)))
+
+-- ---- a history: panel x gets the calls, gives the answers and is then y
+pub data History : Running → List Call → List Outcome → Running → Type 0 where
+  rests : {x : Running} → History x [] [] x
+  then-pass : {x y : Running} {calls : List Call} {answers : List Outcome} (given : PassInput) (feed : List ℕ) (r : Begun) (l : Lent)
+      → Passes x given feed r l → History (after-pass x r l) calls answers y
+      → History x (passes (Contract.input feed given) ∷ calls) (pass-answer x r l ∷ answers) y
+  then-interact : {x y : Running} {calls : List Call} {answers : List Outcome} (g : Given) (r : Interacted) (hovered contains : List ℕ)
+      → InteractsAs x g r hovered contains → History (after-interact x r) calls answers y
+      → History x (interacts (interact-input g) ∷ calls) (interact-answer x r hovered contains ∷ answers) y
+
+-- ---- every history is the model's
+pub record IsRun (x : Running) (calls : List Call) (answers : List Outcome) (y : Running) : Type 0 where
+  pub answers-are : answers ≡ outcomes (shows x) calls
+  pub panel-is : shows y ≡ run (shows x) calls
+
+abbrev pub EveryHistoryIsRun : Type 0
+EveryHistoryIsRun = (x y : Running) (calls : List Call) (answers : List Outcome) → Starts x → History x calls answers y → IsRun x calls answers y
+
+-- ---- demand 3, first half, of what the code answers and keeps
+pub record Balanced (answers : List Outcome) (y : Running) (widget : ℕ) : Type 0 where
+  pub starts-less-stops : starts widget answers ≡ stops widget answers + one-if-is widget (last-dragged none answers)
+  pub dragged-is-last : option-of (y .panel .interaction .dragged) ≡ last-dragged none answers
+  pub tally-counts-starts : y .panel .tally ≡ all-starts answers
+  pub tally-fits : y .panel .tally ≤ max-tally
+
+-- For every history of a panel from `fresh` on, refused calls included, and every widget.
+abbrev pub HistoriesBalance : Type 0
+HistoriesBalance = (x y : Running) (calls : List Call) (answers : List Outcome) → Starts x → History x calls answers y → (widget : ℕ) → Balanced answers y widget
+
+-- ---- demand 3, second half: one of the two panels, with its past, the clearing pass and its interact, both taken, and the later list
+pub record Life (past : List Call) (c : Model.PassInput) (x : InteractInput) (later : List Call) : Type 0 where
+  pub start : Running
+  pub starts : Starts start
+  pub past-answers : List Outcome
+  pub before : Running
+  pub past-history : History start past past-answers before
+  pub cleared-panel : Model.Panel
+  pub snapshot : InteractionSnapshot
+  pub panel : Model.Panel
+  pub cleared : Running
+  pub clearing-history : History before (passes c ∷ interacts x ∷ []) (passed cleared-panel ∷ answered snapshot panel ∷ []) cleared
+  pub answers : List Outcome
+  pub end : Running
+  pub later-history : History cleared later answers end
+
+-- "from the next taken pass on all their later answers are equal", and so are the replies to every question asked after them: theorems' `Alike`, of what
+-- the two panels answered
+abbrev pub AnswerAlike : Bool → Bool → Model.Panel → Model.Panel → List Outcome → List Outcome → Type 0
+AnswerAlike came clicked p q [] [] = Unit {0}
+AnswerAlike came clicked p q [] (b ∷ more) = ⊥
+AnswerAlike came clicked p q (a ∷ more) [] = ⊥
+AnswerAlike came clicked p q (a ∷ more) (b ∷ more′) =
+    When (is-passed a || came) (Same (has-click a || clicked) p q a b) × AnswerAlike (is-passed a || came) (has-click a || clicked) (after p a) (after q b) more more′
+
+-- Two panels with any two pasts, the same clearing pass, the same interact and the same later list.
+abbrev pub HistoriesClear : Type 0
+HistoriesClear =
+    (past₁ past₂ later : List Call) (c : Model.PassInput) (x : InteractInput) (one : Life past₁ c x later) (two : Life past₂ c x later)
+    (clears : Clears c (shows (one .before)) (shows (two .before)))
+    → Fair (λ o. o ≡ c .options) (twice (c .options .«max_double_click_delay»)) (clears .time) false (shows (one .cleared)) (shows (two .cleared)) later
+    → AnswerAlike false false (shows (one .cleared)) (shows (two .cleared)) (one .answers) (two .answers)

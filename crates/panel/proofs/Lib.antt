@@ -1,0 +1,4 @@
+pub mod Listed
+pub mod Lookup
+pub mod Seen
+pub mod Start

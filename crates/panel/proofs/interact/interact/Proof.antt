@@ -1,0 +1,29 @@
+-- The callee's contract, of the panel that shows the input; a well-formed set's lookup is the model's `get`. Assumes nothing.
+use Rattle.panel.proofs.Seen.{sees-events}
+use Rattle.panel.proofs.Lookup.{looked-up}
+use borrow.Author.Needs.{needs}
+use Rattle.panel.proofs.interact.interact.Statement.{statement}
+use Rattle.panel.proofs.interact.interact.Tie as tie
+
+seen-requires : tie.Need-seen-requires
+seen-requires c κs = search needs
+
+interact-requires : tie.Need-interact-requires
+interact-requires c κs = search needs
+
+same-length : tie.Need-same-length
+same-length c = search needs
+
+same-length-2 : tie.Need-same-length-2
+same-length-2 c = search needs
+
+returns : tie.Need-returns
+returns c =
+    record {
+      own = λ p h n t edges. c .before .before .before .before .interact .ensures (h .places) edges p (sees-events p _ _ (h .press-is) (c .before .before .before .before .before .before .before .before .before .seen .ensures p h)) n t;
+      model = λ p h n t edges wf. rw (looked-up _ _ _ _ wf) (c .before .before .before .before .interact .ensures (h .places) edges p (sees-events p _ _ (h .press-is) (c .before .before .before .before .before .before .before .before .before .seen .ensures p h)) n t);
+    }
+
+pub interact-spec : {M : Type 1} → statement M
+interact-spec =
+    tie.close (tie.spec seen-requires interact-requires same-length same-length-2 returns)
