@@ -168,6 +168,9 @@ pub mod containers {
 // The driver, and the requests:
 
 pub mod aimed;
+pub mod met;
+pub mod naming;
+pub mod scenes;
 pub mod domain;
 pub mod panel;
 pub mod words;
