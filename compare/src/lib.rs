@@ -168,9 +168,11 @@ pub mod containers {
 // The driver, and the requests:
 
 pub mod aimed;
+pub mod domain;
+pub mod edges;
 pub mod met;
 pub mod naming;
-pub mod scenes;
-pub mod domain;
 pub mod panel;
+pub mod scenes;
+pub mod script;
 pub mod words;

@@ -185,6 +185,17 @@ impl Met {
         }
     }
 
+    /// Calls of a kind with this answer.
+    pub fn answered(&self, call: u32, number: u32) -> u64 {
+        self.calls[(call as usize).min(9)][number as usize]
+    }
+    pub fn taken(&self, call: u32) -> u64 {
+        self.answered(call, 0)
+    }
+    pub fn refused(&self, call: u32) -> u64 {
+        self.calls[(call as usize).min(9)].iter().sum::<u64>() - self.taken(call)
+    }
+
     pub fn total(&self) -> u64 {
         self.calls.iter().flatten().sum()
     }

@@ -21,9 +21,11 @@ pub struct Maker {
     /// ASK after all but one in `ask` calls, DUMP after one in `dump`; 0: never
     ask: u64,
     dump: u64,
+    /// ASK and DUMP after each call
+    pub all: bool,
 }
 
-type Scene = fn(&mut Maker);
+pub type Scene = fn(&mut Maker);
 /// The scenes, and how often each comes. The long ones (a full history, a full widget set) are rarer.
 const SCENES: [(u32, Scene); 21] = [
     (30, Maker::plain),
@@ -68,7 +70,7 @@ pub fn trace(seed: u64) -> Maker {
 
 impl Maker {
     pub fn new(seed: u64, limit: usize, ask: u64, dump: u64) -> Self {
-        Self { s: Stream::new(seed), requests: Vec::new(), answers: Vec::new(), met: Met::default(), limit, full: false, ask, dump }
+        Self { s: Stream::new(seed), requests: Vec::new(), answers: Vec::new(), met: Met::default(), limit, full: false, ask, dump, all: false }
     }
 
     pub fn scene(&mut self) {
@@ -107,6 +109,11 @@ impl Maker {
     /// A call with what is asked after it.
     pub fn call(&mut self, call: u32, w: &[u32]) -> usize {
         let at = self.record(call, w);
+        if self.all {
+            self.record(ASK, &[]);
+            self.record(DUMP, &[]);
+            return at;
+        }
         let (ask, dump) = (self.ask, self.dump);
         if ask != 0 && !self.rng().once_in(ask) {
             self.record(ASK, &[]);
@@ -225,7 +232,7 @@ impl Maker {
 
     // ---------------------------------------------------------------- scenes
 
-    fn plain(&mut self) {
+    pub fn plain(&mut self) {
         for _ in 0..40 + self.rng().below(80) {
             let r = self.s.make();
             self.call(r[0] >> 24, &r[1..]);
@@ -233,7 +240,7 @@ impl Maker {
     }
 
     /// Clicks, double and triple clicks: times about the delay and the duration, places about the distance.
-    fn clicks(&mut self) {
+    pub fn clicks(&mut self) {
         self.new_options();
         if self.rng().once_in(2) {
             self.whole_second();
@@ -288,7 +295,7 @@ impl Maker {
     }
 
     /// A press and moves about the click distance; velocity over two, three and more samples about 0.01 s and 0.1 s.
-    fn moves(&mut self) {
+    pub fn moves(&mut self) {
         self.new_options();
         self.whole_second();
         let at = self.place();
@@ -335,7 +342,7 @@ impl Maker {
     }
 
     /// Drag-only, click-only and click-and-drag widgets, pressed, moved in and out of, left, aborted, vanished.
-    fn drags(&mut self) {
+    pub fn drags(&mut self) {
         self.new_options();
         self.fresh(5);
         self.call(CLEAR, &[]);
@@ -427,7 +434,7 @@ impl Maker {
     }
 
     /// A finger held still on a widget, about the click duration.
-    fn long_touch(&mut self) {
+    pub fn long_touch(&mut self) {
         self.new_options();
         self.fresh(3);
         self.whole_second();
@@ -469,7 +476,7 @@ impl Maker {
     }
 
     /// One to eleven fingers: started at once or one by one, moved, coincident, lifted, replaced.
-    fn fingers(&mut self) {
+    pub fn fingers(&mut self) {
         self.fresh(4);
         let device = self.rng().pick(&DEVICES[..4]);
         let n = 1 + self.rng().below(10);
@@ -543,7 +550,7 @@ impl Maker {
     }
 
     /// Each phase on each of up to five devices.
-    fn devices(&mut self) {
+    pub fn devices(&mut self) {
         self.fresh(2);
         for _ in 0..3 + self.rng().below(6) {
             let mut feed = Vec::new();
@@ -563,7 +570,7 @@ impl Maker {
     }
 
     /// Wheel events of each unit, phase and source; lengths about 8, times about the timeouts.
-    fn wheel(&mut self) {
+    pub fn wheel(&mut self) {
         self.new_options();
         if self.rng().once_in(2) {
             self.whole_second();
@@ -614,7 +621,7 @@ impl Maker {
     }
 
     /// One event of each kind cut short, with a stray bit, with a field or a float outside its range; good ones before, others after.
-    fn damaged_event(&mut self) {
+    pub fn damaged_event(&mut self) {
         self.fresh(6);
         for _ in 0..6 {
             let mut feed = Vec::new();
@@ -706,7 +713,7 @@ impl Maker {
     }
 
     /// 63 to 66 events; event 65 may itself be damaged.
-    fn many_events(&mut self) {
+    pub fn many_events(&mut self) {
         let n = 63 + self.rng().below(3);
         let mut feed = Vec::new();
         let small = self.rng().once_in(2);
@@ -731,7 +738,7 @@ impl Maker {
     }
 
     /// Each of the pass's own numbers at its ends and past them; then a later refusal that must not win.
-    fn own_numbers(&mut self) {
+    pub fn own_numbers(&mut self) {
         for _ in 0..8 {
             let now = self.now();
             let mut p = self.pass_of(Some(now));
@@ -781,7 +788,7 @@ impl Maker {
     }
 
     /// Records that don't follow the form: the state stays.
-    fn malformed(&mut self) {
+    pub fn malformed(&mut self) {
         let any = [1u32, 0x3F80_0000, 0, 7, 0xFFFF_FFFF];
         for _ in 0..8 {
             let n = self.rng().below(40) as usize;
@@ -818,7 +825,7 @@ impl Maker {
     }
 
     /// Many keys, pressed again while down; focus lost; modifiers.
-    fn keys(&mut self) {
+    pub fn keys(&mut self) {
         for _ in 0..4 {
             let mut feed = Vec::new();
             for _ in 0..1 + self.rng().below(40) {
@@ -843,7 +850,7 @@ impl Maker {
     }
 
     /// Lists of 0 to 65 entries with one that is refused at any place, and id buffers of 65 and 66 places.
-    fn hit_lists(&mut self) {
+    pub fn hit_lists(&mut self) {
         for _ in 0..5 {
             let mut h = Hits::default();
             let distinct = self.rng().once_in(2);
@@ -878,7 +885,7 @@ impl Maker {
     }
 
     /// Drag starts at the tally's end: one is taken, the next is not.
-    fn tally(&mut self) {
+    pub fn tally(&mut self) {
         self.call(CLEAR, &[]);
         let w = Widget { enabled: true, ..self.some_widget(10, 2) };
         self.insert_into(&w, false, false);
@@ -900,7 +907,7 @@ impl Maker {
     }
 
     /// Products that overflow and vanish, sums of radians, zoom by wheel with and without the modifier.
-    fn zooms(&mut self) {
+    pub fn zooms(&mut self) {
         self.new_options();
         for _ in 0..4 {
             let mut feed = Vec::new();
@@ -925,7 +932,7 @@ impl Maker {
     }
 
     /// Absent times, -0.0, the end of time.
-    fn times(&mut self) {
+    pub fn times(&mut self) {
         if self.rng().once_in(2) {
             self.call(RESET, &[]);
             let p = self.pass_of(Some(-0.0));
@@ -949,7 +956,7 @@ impl Maker {
     }
 
     /// New, known, moved and refused insertions in one to four layers; slices too short by one.
-    fn few_widgets(&mut self) {
+    pub fn few_widgets(&mut self) {
         self.call(CLEAR, &[]);
         let n = 3 + self.rng().below(8);
         let layers = 1 + self.rng().below(4);
@@ -988,7 +995,7 @@ impl Maker {
     }
 
     /// A lent slice that holds other records: new and known ids, none moved. Then the set is emptied.
-    fn lent_contents(&mut self) {
+    pub fn lent_contents(&mut self) {
         self.call(CLEAR, &[]);
         for id in 10..14 {
             let mut w = self.some_widget(id, 3);
@@ -1015,7 +1022,7 @@ impl Maker {
     }
 
     /// More than 1,000 samples in 0.1 s, then times about the age of the oldest.
-    fn full_history(&mut self) {
+    pub fn full_history(&mut self) {
         let mut feed = Vec::new();
         let at = self.place();
         put(&mut feed, 5, 1 << 8, &[at.x, at.y]);
@@ -1048,7 +1055,7 @@ impl Maker {
     }
 
     /// 1,024 widgets in up to 32 layers, then one more of each, known ones at the end, moves to top.
-    fn full_widgets(&mut self) {
+    pub fn full_widgets(&mut self) {
         self.call(CLEAR, &[]);
         let layers = self.rng().pick(&[1, 5, 31, 32, 33]);
         let all = if self.rng().once_in(2) { 1024 } else { 40 };
