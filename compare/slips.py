@@ -1,6 +1,7 @@
 #!/usr/bin/env python3
 """Tries the comparison itself: each slip below is made in a copy of egui's files (or of the domain before them),
-and the copy answers instead of a program. The runner must find each one, and so must the stored corpora.
+and the copy answers instead of a program. The runner must find each one, and so must the stored corpora; the check
+of two panels must find those after which a clearing pass no longer clears.
 usage: slips.py [CALLS] [NAME ..]      CALLS: how many calls the runner may take for each (default 400,000)
 Prints a line for each slip: the call that showed it, and in which corpora; ends with 1 if any stays unseen."""
 import os
@@ -38,7 +39,7 @@ SLIPS = [
     ('history cleared before the velocity', MOD, 'clear_history_after_velocity_calculation = true;', 'self.pos_history.clear();'),
     ('a press keeps "moved too much"', MOD, '                        self.has_moved_too_much_for_a_click = false;', ''),
     ('motion stays', MOD, 'self.motion = Some(Vec2::ZERO);', ''),
-    ('a release with no click looks dragged', MOD, '            && !self.any_click()', ''),
+    ('a press in the same pass counts as dragging', MOD, '            && !self.any_pressed()\n', ''),
     # the rest of the input state
     ('stable dt the other way', MOD, 'let stable_dt = if requested', 'let stable_dt = if !requested'),
     ('focus lost keeps the keys', MOD, 'keys_down.clear();', ''),
@@ -107,6 +108,8 @@ SLIPS = [
     ('a drag start at the end of the tally is taken', PANEL, 'if tally == u32::MAX {\n                return refuse(10);\n            }\n            tally += 1;', 'tally = tally.wrapping_add(1);'),
     ('a refused start is counted', PANEL, '                return refuse(10);', '                self.interaction = interaction;\n                return refuse(10);'),
 ]
+# slips after which a clearing pass no longer makes two panels alike
+UNCLEARED = ['focus lost keeps the keys', 'focus lost keeps the modifiers', 'End keeps what is unprocessed', 'a press keeps "moved too much"', 'motion stays']
 # so that the fourth slip can be said in one place
 BEFORE = ('                let is_horizontal = self\n                    .modifiers', '                let before = delta;\n                let is_horizontal = self\n                    .modifiers')
 
@@ -152,7 +155,7 @@ def main():
         shutil.rmtree(copy, ignore_errors=True)
         shutil.copytree(HERE, copy, symlinks=True, ignore=shutil.ignore_patterns('target', 'vectors'))
         slipped(copy, file, old, new)
-        built = subprocess.run(['cargo', 'build', '--release', '--offline', '--bin', 'oracle'], cwd=copy, capture_output=True, text=True,
+        built = subprocess.run(['cargo', 'build', '--release', '--offline', '--bin', 'oracle', '--bin', 'clearing'], cwd=copy, capture_output=True, text=True,
                                env=dict(os.environ, CARGO_TARGET_DIR=os.path.join(work, 'target')))
         if built.returncode != 0:
             sys.exit('%s: %s' % (name, built.stderr[-2000:]))
@@ -163,6 +166,11 @@ def main():
         print('%-48s %s\n%48s corpora: %s' % (name, where, '', ', '.join(seen) or 'NOT SEEN'), flush=True)
         if r.returncode != 1 or not seen:
             unseen.append(name)
+        if name in UNCLEARED:
+            c = subprocess.run([os.path.join(work, 'target/release/clearing'), 'lists=2000'], capture_output=True, text=True)
+            print('%48s two panels: %s' % ('', c.stdout.split('\n')[0] if c.returncode == 1 else 'NOT SEEN'), flush=True)
+            if c.returncode != 1:
+                unseen.append(name + ', by two panels')
     shutil.rmtree(work)
     shutil.rmtree(stored)
     print('%d slips, %d not seen%s' % (len(names or SLIPS), len(unseen), ': ' + '; '.join(unseen) if unseen else ''))

@@ -170,6 +170,7 @@ pub mod containers {
 pub mod aimed;
 pub mod domain;
 pub mod edges;
+pub mod lists;
 pub mod met;
 pub mod naming;
 pub mod panel;

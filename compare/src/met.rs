@@ -219,6 +219,14 @@ impl Met {
                 v.push(format!("{} answered {n}", CALLS.get(call).unwrap_or(&"an unknown call")));
             }
         }
+        v.extend(self.missing_events());
+        v.extend(self.aims.iter().filter(|(_, n)| **n == 0).map(|(a, _)| a.to_string()));
+        v
+    }
+
+    /// Kinds and fields of events that were not taken.
+    pub fn missing_events(&self) -> Vec<String> {
+        let mut v = Vec::new();
         v.extend((1..13).filter(|k| self.events[*k] == 0).map(|k| format!("event {}", KINDS[k])));
         v.extend((0..4).filter(|k| self.touches[*k] == 0).map(|k| format!("touch {}", PHASES[k])));
         v.extend((0..10).filter(|k| self.buttons[*k] == 0).map(|k| format!("button {} {}", k / 2, ["released", "pressed"][k % 2])));
@@ -226,8 +234,11 @@ impl Met {
         for k in (0..48).filter(|k| self.wheels[*k] == 0) {
             v.push(format!("wheel {} {} {}", UNITS[k / 16], PHASES[k / 4 % 4], SOURCES[k % 4]));
         }
-        v.extend(self.aims.iter().filter(|(_, n)| **n == 0).map(|(a, _)| a.to_string()));
         v
+    }
+    /// How often an aim was met.
+    pub fn aimed(&self, name: &str) -> u64 {
+        self.aims[name]
     }
 
     pub fn print(&self) {

@@ -41,7 +41,7 @@ pub fn first_difference(panel: &Panel, call: u32, want: &[u32], got: &[u32]) -> 
         _ => "?".to_string(),
     };
     let show = |v: &[u32]| v.get(k).map_or("nothing".to_string(), |x| format!("{x:08X} ({x}, {:e})", f32::from_bits(*x)));
-    format!("answer word {k}, {name}: egui {}, the program {}", show(want), show(got))
+    format!("word {} of the answer, {name}: egui {}, the program {}", k - 1, show(want), show(got))
 }
 
 fn interact_list(want: &[u32], k: usize) -> String {

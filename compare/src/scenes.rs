@@ -1,6 +1,7 @@
 //! Traces of aimed scenes, with egui's answers: what a hand, a cable or a careless host does, at the limits.
 //! ASK follows most calls and DUMP some. Between scenes come stretches of `aimed`'s requests.
 use crate::aimed::{DEVICES, DIRECTIONS, Rng, Stream, nudge, nudge32, put, some_options};
+use crate::lists::Twin;
 use crate::met::Met;
 use crate::panel::{Hit, Hits, Pass, Widget};
 use crate::words::{self, ASK, CLEAR, DUMP, INSERT, INTERACT, PASS, RESET, SET_TALLY};
@@ -23,15 +24,20 @@ pub struct Maker {
     dump: u64,
     /// ASK and DUMP after each call
     pub all: bool,
+    /// a list from a fresh panel: no RESET, no SET_TALLY
+    pub list: bool,
+    /// a second panel that gets the same calls
+    pub twin: Option<Twin>,
 }
 
 pub type Scene = fn(&mut Maker);
 /// The scenes, and how often each comes. The long ones (a full history, a full widget set) are rarer.
-const SCENES: [(u32, Scene); 21] = [
+const SCENES: [(u32, Scene); 22] = [
     (30, Maker::plain),
     (12, Maker::clicks),
     (6, Maker::moves),
     (12, Maker::drags),
+    (3, Maker::handover),
     (5, Maker::long_touch),
     (10, Maker::fingers),
     (4, Maker::devices),
@@ -70,7 +76,7 @@ pub fn trace(seed: u64) -> Maker {
 
 impl Maker {
     pub fn new(seed: u64, limit: usize, ask: u64, dump: u64) -> Self {
-        Self { s: Stream::new(seed), requests: Vec::new(), answers: Vec::new(), met: Met::default(), limit, full: false, ask, dump, all: false }
+        Self { s: Stream::new(seed), requests: Vec::new(), answers: Vec::new(), met: Met::default(), limit, full: false, ask, dump, all: false, list: false, twin: None }
     }
 
     pub fn scene(&mut self) {
@@ -94,8 +100,16 @@ impl Maker {
     /// One request with egui's answer to it; its words.
     pub fn record(&mut self, call: u32, w: &[u32]) -> usize {
         let at = self.answers.len();
+        if self.list && (call == RESET || call == SET_TALLY) {
+            return at;
+        }
         if self.requests.len() + 1 + w.len() > self.limit {
             self.full = true;
+            return at;
+        }
+        if let Some(t) = &mut self.twin {
+            t.record(&mut self.s.panel, &mut self.requests, &mut self.answers, call, w);
+            self.s.time = self.s.panel.input.time;
             return at;
         }
         self.requests.push(call << 24 | w.len() as u32);
@@ -169,7 +183,7 @@ impl Maker {
     }
 
     fn new_options(&mut self) {
-        if self.rng().once_in(2) {
+        if self.twin.is_none() && self.rng().once_in(2) {
             self.s.options = some_options(&mut self.s.rng);
         }
     }
@@ -356,6 +370,13 @@ impl Maker {
         }
         let mut target = self.rng().pick(&ids);
         let mut at = self.place();
+        if !self.rng().once_in(4) {
+            let mut feed = Vec::new();
+            self.button(&mut feed, 0, true, at);
+            self.soon(&feed);
+            let h = self.hits_over(target);
+            self.interact_with(&h);
+        }
         for _ in 0..3 + self.rng().below(10) {
             let mut feed = Vec::new();
             let b = if self.rng().once_in(5) { self.rng().below(5) as u32 } else { 0 };
@@ -406,6 +427,8 @@ impl Maker {
             }
             if self.rng().once_in(4) {
                 target = self.rng().pick(&ids);
+                let h = self.hits_over(target);
+                self.interact_with(&h);
             }
             for _ in 0..1 + self.rng().below(4) / 3 {
                 let h = self.hits_on(target, &ids);
@@ -414,9 +437,39 @@ impl Maker {
         }
     }
 
+    /// Two drag-only widgets: released and pressed in one pass, on the same one or on the other.
+    pub fn handover(&mut self) {
+        self.call(CLEAR, &[]);
+        for id in [10, 11] {
+            let w = Widget { order: 1, enabled: true, ..self.some_widget(id, 2) };
+            self.insert_into(&w, false, false);
+        }
+        let at = self.place();
+        for k in 0..4 {
+            let mut feed = Vec::new();
+            if k > 0 {
+                self.button(&mut feed, 0, false, at);
+            }
+            self.button(&mut feed, 0, true, at);
+            self.soon(&feed);
+            let h = crate::script::over(10 + self.rng().below(2), 2);
+            self.interact_with(&h);
+        }
+        let mut feed = Vec::new();
+        self.button(&mut feed, 0, false, at);
+        self.soon(&feed);
+        self.interact_with(&Hits::default());
+    }
+
+    /// The target alone, by the sense it has.
+    fn hits_over(&mut self, target: u64) -> Hits {
+        let sense = self.s.panel.known_widgets().iter().find(|(i, _, _)| i.value() == target).map_or(3, |(_, _, w)| w.sense.bits().into());
+        crate::script::over(target, sense)
+    }
+
     /// Hits that name the target or another, inside it or not.
     fn hits_on(&mut self, target: u64, ids: &[u64]) -> Hits {
-        let sense = self.s.panel.known_widgets().iter().find(|(i, _, _)| i.value() == target).map_or(3, |(_, _, w)| w.sense.bits().into());
+        let sense = self.hits_over(target).close[0].sense;
         let e = Hit { id: target, sense };
         let other = self.rng().pick(ids);
         let o = Hit { id: other, sense: self.rng().below(8) as u32 };

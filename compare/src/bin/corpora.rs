@@ -1,5 +1,6 @@
-//! corpora FOLDER > corpora.md
+//! corpora FOLDER [CRATES] > corpora.md
 //! Writes the stored corpora: NAME.trace (requests in FORMAT.md's form, below 1 MiB) and NAME.sums (egui's answers, one checksum a call).
+//! With CRATES (../crates) also into the test programs: trace_NAME/stdin and trace_NAME/stdout, where the crate is there.
 //! The table on standard output says which calls of which trace show what. The same folder comes out of every run.
 use fivvarul_compare::scenes::{LIMIT, Maker, Scene};
 use fivvarul_compare::{edges, words};
@@ -19,6 +20,13 @@ fn write(folder: &str, name: &str, requests: &[u32], answers: &[u32]) -> (usize,
     let put = |kind: &str, b: &[u8]| std::fs::write(format!("{folder}/{name}.{kind}"), b).expect("the corpus is written");
     put("trace", &bytes);
     put("sums", sums.as_bytes());
+    if let Some(crates) = std::env::args().nth(2)
+        && std::path::Path::new(&format!("{crates}/trace_{name}")).is_dir()
+    {
+        for (file, b) in [("stdin", &bytes[..]), ("stdout", sums.as_bytes())] {
+            std::fs::write(format!("{crates}/trace_{name}/{file}"), b).expect("the program's file is written");
+        }
+    }
     (calls, bytes.len())
 }
 
@@ -46,12 +54,16 @@ fn main() {
     println!("| trace | calls | bytes | holds |\n|---|---|---|---|");
     let passes: [Scene; 13] = [Maker::clicks, Maker::moves, Maker::fingers, Maker::wheel, Maker::damaged_event, Maker::clicks, Maker::devices, Maker::own_numbers, Maker::keys, Maker::zooms, Maker::many_events, Maker::times, Maker::malformed];
     let m = made(1, &passes, words::PASS, 3300);
+    assert!(m.met.missing_events().is_empty(), "{:?}", m.met.missing_events());
     let (calls, bytes) = write(&folder, "passes", &m.requests, &m.answers);
     println!("| passes | {calls} | {bytes} | {} passes taken and {} refused: every event kind, phase, unit and source, refusals 1 to 5 and 255; ASK and DUMP after each |", m.met.taken(1), m.met.refused(1));
-    let interacts: [Scene; 12] = [
-        Maker::drags, Maker::drags, Maker::long_touch, Maker::drags, Maker::hit_lists, Maker::drags, Maker::drags, Maker::tally, Maker::drags, Maker::long_touch, Maker::drags, Maker::malformed,
+    let interacts: [Scene; 13] = [
+        Maker::handover, Maker::drags, Maker::drags, Maker::long_touch, Maker::drags, Maker::hit_lists, Maker::drags, Maker::drags, Maker::tally, Maker::drags, Maker::long_touch, Maker::drags, Maker::malformed,
     ];
     let m = made(2, &interacts, words::INTERACT, 3100);
+    for aim in ["drag start", "drag stop", "drag stop and start in one interact", "clicked", "long touch"] {
+        assert!(m.met.aimed(aim) > 20, "{aim}");
+    }
     let (calls, bytes) = write(&folder, "interacts", &m.requests, &m.answers);
     println!("| interacts | {calls} | {bytes} | {} interacts taken and {} refused: drags, clicks, long touches, Escape, vanished widgets, click-and-drag widgets left and stayed in, refusals 1, 4, 8, 9, 10 and 255; ASK and DUMP after each |", m.met.taken(4), m.met.refused(4));
     let s = edges::script();
