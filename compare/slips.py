@@ -156,7 +156,7 @@ def main():
         shutil.copytree(HERE, copy, symlinks=True, ignore=shutil.ignore_patterns('target', 'vectors'))
         slipped(copy, file, old, new)
         built = subprocess.run(['cargo', 'build', '--release', '--offline', '--bin', 'oracle', '--bin', 'clearing'], cwd=copy, capture_output=True, text=True,
-                               env=dict(os.environ, CARGO_TARGET_DIR=os.path.join(work, 'target')))
+                               env=dict(os.environ, CARGO_TARGET_DIR=os.path.join(work, 'target'), CARGO_PROFILE_RELEASE_OPT_LEVEL='1'))
         if built.returncode != 0:
             sys.exit('%s: %s' % (name, built.stderr[-2000:]))
         oracle = os.path.join(work, 'target/release/oracle')

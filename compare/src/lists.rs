@@ -2,7 +2,8 @@
 //! along a list, and two panels with different pasts after the same clearing pass.
 use crate::aimed::nudge;
 use crate::panel::{Hits, Panel, Pass};
-use crate::scenes::{Maker, Scene};
+use crate::maker::Maker;
+use crate::scenes::Scene;
 use crate::words::{self, ASK, CLEAR, DUMP, INSERT, INTERACT, PASS, RESET, SET_TALLY};
 use crate::{Pos2, Rect, script};
 

@@ -104,7 +104,7 @@ pub fn moved(x: f32, y: f32) -> Vec<u32> {
 }
 pub fn touch(device: u64, id: u64, phase: u32, x: f32, y: f32) -> Vec<u32> {
     let mut v = Vec::new();
-    crate::scenes::touch(&mut v, device, id, phase, Pos2::new(x, y), None);
+    crate::maker::touch(&mut v, device, id, phase, Pos2::new(x, y), None);
     v
 }
 pub fn wheel(unit: u32, phase: u32, source: u32, flags: u32, x: f32, y: f32) -> Vec<u32> {
@@ -126,7 +126,7 @@ pub fn clearing_feed(held: &[(u64, Vec<u64>)], at: Pos2) -> Vec<u32> {
     let mut f = Vec::new();
     for (device, touches) in held {
         for t in touches {
-            crate::scenes::touch(&mut f, *device, *t, 2, at, None);
+            crate::maker::touch(&mut f, *device, *t, 2, at, None);
         }
     }
     for button in 0..5 {

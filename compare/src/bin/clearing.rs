@@ -6,7 +6,7 @@
 //! * the same without that condition on the first button event: some lists must differ, else the check sees nothing;
 //! * along random lists each drag stop follows a start of the same id, at most one is open, the tally counts the starts.
 use fivvarul_compare::lists::{Balance, agree, record_at, two_panels};
-use fivvarul_compare::scenes::{LIMIT, Maker};
+use fivvarul_compare::maker::{LIMIT, Maker};
 use fivvarul_compare::words::{self, INTERACT, PASS, RESET};
 use std::io::{Read, Write};
 use std::process::{Command, ExitCode, Stdio};

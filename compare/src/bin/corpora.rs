@@ -2,7 +2,8 @@
 //! Writes the stored corpora: NAME.trace (requests in FORMAT.md's form, below 1 MiB) and NAME.sums (egui's answers, one checksum a call).
 //! With CRATES (../crates) also into the test programs: trace_NAME/stdin and trace_NAME/stdout, where the crate is there.
 //! The table on standard output says which calls of which trace show what. The same folder comes out of every run.
-use fivvarul_compare::scenes::{LIMIT, Maker, Scene};
+use fivvarul_compare::maker::{LIMIT, Maker};
+use fivvarul_compare::scenes::Scene;
 use fivvarul_compare::{edges, words};
 use std::fmt::Write;
 
