@@ -44,15 +44,15 @@ pub fn nudge(x: f64, n: i64) -> f64 {
     f64::from_bits((x.to_bits() as i64).wrapping_add(n) as u64)
 }
 
-fn nudge32(x: f32, n: i32) -> f32 {
+pub(crate) fn nudge32(x: f32, n: i32) -> f32 {
     if x == 0.0 {
         return f32::from_bits(n.unsigned_abs());
     }
     f32::from_bits((x.to_bits() as i32).wrapping_add(n) as u32)
 }
 
-const DEVICES: [u64; 5] = [1, 7, 0x1_0000_0000, u64::MAX, 0];
-const DIRECTIONS: [(f32, f32); 6] =
+pub(crate) const DEVICES: [u64; 5] = [1, 7, 0x1_0000_0000, u64::MAX, 0];
+pub(crate) const DIRECTIONS: [(f32, f32); 6] =
     [(1.0, 0.0), (0.0, 1.0), (-1.0, 0.0), (0.0, -1.0), (0.6, 0.8), (-0.8, 0.6)];
 
 /// A step of a plan: what a hand does over some passes, with an interact after each.
@@ -85,10 +85,10 @@ pub struct Stream {
     plan: VecDeque<Step>,
     pub panel: Panel,
     pub rng: Rng,
-    time: f64,
-    options: InputOptions,
-    at: Pos2,
-    origin: Pos2,
+    pub(crate) time: f64,
+    pub(crate) options: InputOptions,
+    pub(crate) at: Pos2,
+    pub(crate) origin: Pos2,
     /// one in this many passes, insertions and interacts is damaged
     damage: u64,
 }
@@ -112,6 +112,13 @@ impl Stream {
 
     /// The next request that changes the state, as a record; it is applied to the stream's own panel.
     pub fn next_call(&mut self) -> Vec<u32> {
+        let record = self.make();
+        words::answer(&mut self.panel, record[0] >> 24, &record[1..], &mut Vec::new());
+        record
+    }
+
+    /// The same, not applied yet.
+    pub(crate) fn make(&mut self) -> Vec<u32> {
         if self.plan.is_empty() && self.rng.once_in(12) {
             for step in self.rng.pick(&PLANS) {
                 self.plan.extend([*step, Step::Interact]);
@@ -127,7 +134,6 @@ impl Stream {
         if record[0] >> 24 == words::RESET {
             self.time = 0.0;
         }
-        words::answer(&mut self.panel, record[0] >> 24, &record[1..], &mut Vec::new());
         record
     }
 
@@ -280,7 +286,7 @@ impl Stream {
         feed
     }
 
-    fn event(&mut self, feed: &mut Vec<u32>) {
+    pub(crate) fn event(&mut self, feed: &mut Vec<u32>) {
         match self.rng.below(40) {
             0..=7 => {
                 self.at = self.next_pos();
@@ -330,7 +336,7 @@ impl Stream {
         }
     }
 
-    fn touch(&mut self, feed: &mut Vec<u32>) {
+    pub(crate) fn touch(&mut self, feed: &mut Vec<u32>) {
         let device = if self.rng.once_in(30) { self.rng.pick(&DEVICES) } else { self.rng.pick(&DEVICES[..2]) };
         let touch = self.rng.pick(&[0, 1, 2, 3, 4, 5, 6, 7, 8, 9, 10, 0x1_0000_0000, u64::MAX]);
         let phase = self.rng.pick(&[0, 0, 0, 1, 1, 1, 1, 2, 3]);
@@ -345,7 +351,7 @@ impl Stream {
     }
 
     /// Around the press origin at the click distance, or somewhere in the widgets, or at the domain's ends.
-    fn next_pos(&mut self) -> Pos2 {
+    pub(crate) fn next_pos(&mut self) -> Pos2 {
         let d = self.options.max_click_dist;
         let (x, y) = self.rng.pick(&DIRECTIONS);
         let o = self.origin;
@@ -361,13 +367,13 @@ impl Stream {
         }
     }
 
-    fn small_delta(&mut self) -> (f32, f32) {
+    pub(crate) fn small_delta(&mut self) -> (f32, f32) {
         let k = self.rng.pick(&[8.0, 7.5, 0.25, 0.5, 1.0, 3.0, 100.0, nudge32(8.0, -1), 65_536.0, 1e-30]);
         let (x, y) = self.rng.pick(&DIRECTIONS);
         (k * x, k * y)
     }
 
-    fn flags(&mut self) -> u32 {
+    pub(crate) fn flags(&mut self) -> u32 {
         if self.rng.once_in(2) { 0 } else { self.rng.below(32) as u32 }
     }
 
@@ -399,7 +405,7 @@ impl Stream {
         }
     }
 
-    fn some_rect(&mut self) -> Rect {
+    pub(crate) fn some_rect(&mut self) -> Rect {
         let min = Pos2::new((self.rng.unit() * 150.0).floor(), (self.rng.unit() * 150.0).floor());
         let size = self.rng.pick(&[0.0, 5.0, 20.0, 60.0]);
         Rect::from_min_max(min, Pos2::new(min.x + size, min.y + size * 0.5))
@@ -501,12 +507,12 @@ impl Stream {
     }
 }
 
-fn put(feed: &mut Vec<u32>, kind: u32, low: u32, floats: &[f32]) {
+pub(crate) fn put(feed: &mut Vec<u32>, kind: u32, low: u32, floats: &[f32]) {
     feed.push(kind << 28 | low);
     feed.extend(floats.iter().map(|x| x.to_bits()));
 }
 
-fn some_options(rng: &mut Rng) -> InputOptions {
+pub(crate) fn some_options(rng: &mut Rng) -> InputOptions {
     let d = InputOptions::default();
     if rng.once_in(2) {
         return d;

@@ -169,5 +169,14 @@ pub mod containers {
 
 pub mod aimed;
 pub mod domain;
+pub mod edges;
+pub mod hands;
+pub mod limits;
+pub mod lists;
+pub mod maker;
+pub mod met;
+pub mod naming;
 pub mod panel;
+pub mod scenes;
+pub mod script;
 pub mod words;

@@ -3,17 +3,13 @@
 //! Ends with 0 if all is alike, 1 if not. After a difference in a PASS, INSERT or INTERACT it stops
 //! at LIMIT differences (default 20).
 use fivvarul_compare::panel::Panel;
-use fivvarul_compare::words::{self, Out};
+use fivvarul_compare::{naming, words};
 
 fn read(path: &str) -> Vec<u32> {
     let b = std::fs::read(path).unwrap_or_else(|e| panic!("{path}: {e}"));
     assert!(b.len() % 4 == 0, "{path} ends inside a word");
     b.chunks(4).map(|c| u32::from_le_bytes([c[0], c[1], c[2], c[3]])).collect()
 }
-
-const CALLS: [&str; 9] =
-    ["RESET", "PASS", "INSERT", "CLEAR_WIDGETS", "INTERACT", "ASK", "DUMP", "EXTRA", "SET_TALLY"];
-const INTERACT: [&str; 5] = ["clicked", "long_touched", "drag_started", "dragged", "drag_stopped"];
 
 fn main() {
     let args: Vec<String> = std::env::args().skip(1).collect();
@@ -25,10 +21,10 @@ fn main() {
     while i < req.len() && bad < limit {
         let (call, len) = (req[i] >> 24, (req[i] & 0xFF_FFFF) as usize);
         let w = &req[i + 1..i + 1 + len];
-        let name = CALLS.get(call as usize).copied().unwrap_or("?");
+        let name = naming::call_name(call);
         let mut want = Vec::new();
         words::answer(&mut panel, call, w, &mut want);
-        if call < words::ASK {
+        if call != words::ASK && call != words::DUMP {
             last = req[i..i + 1 + len].to_vec();
         }
         let Some(head) = ans.get(j) else {
@@ -38,30 +34,9 @@ fn main() {
         let got = &ans[j..(j + 1 + (head & 0xFF_FFFF) as usize).min(ans.len())];
         if want != got {
             bad += 1;
-            let k = want.iter().zip(got).position(|(a, b)| a != b).unwrap_or(want.len().min(got.len()));
-            let what = match (call, k) {
-                (_, 0) => format!(
-                    "egui: number {} with {} words; candidate: number {} with {} words",
-                    want[0] >> 24, want[0] & 0xFF_FFFF, got[0] >> 24, got[0] & 0xFF_FFFF
-                ),
-                (_, k) if want[0] >> 24 != 0 => format!("index, word {k}"),
-                (words::INTERACT, k) if k <= 10 => INTERACT[(k - 1) / 2].to_string(),
-                (words::ASK | words::DUMP, k) => {
-                    let mut o = Out::named();
-                    if call == words::ASK { panel.ask(&mut o) } else { panel.dump(&mut o) };
-                    let (s, off) = o.name_of(k - 1);
-                    format!("{s}, its word {off}")
-                }
-                _ => "see FORMAT.md".to_string(),
-            };
-            let show = |v: &[u32]| match v.get(k) {
-                None => "nothing".to_string(),
-                Some(x) => format!("{x:08X} ({x}, {:e})", f32::from_bits(*x)),
-            };
-            println!("record {n} ({name}), answer word {k}: {what}: egui {}, candidate {}", show(&want), show(got));
-            if bad == 1 {
-                let hex: Vec<String> = last.iter().map(|w| format!("{w:08X}")).collect();
-                println!("  last call: {}", hex.join(" "));
+            println!("record {n} ({name}): {}", naming::first_difference(&panel, call, &want, got));
+            if bad == 1 && !last.is_empty() {
+                println!("  {}", naming::decoded(last[0] >> 24, &last[1..]));
             }
         }
         i += 1 + len;

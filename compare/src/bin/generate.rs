@@ -1,13 +1,20 @@
 //! generate SEED CALLS [DUMP_EVERY] > requests
+//! generate scenes SEED > requests      the runner's trace of that seed, just under 1 MiB
 //! A stream of aimed requests: after each call that can change the state an ASK, after every DUMP_EVERY-th (default 1; 0: never) a DUMP.
 use fivvarul_compare::aimed::Stream;
-use fivvarul_compare::words;
+use fivvarul_compare::{scenes, words};
 use std::io::Write;
 
 fn main() -> std::io::Result<()> {
     let n = |k: usize, or: u64| std::env::args().nth(k).and_then(|a| a.parse().ok()).unwrap_or(or);
     let (seed, calls, every) = (n(1, 1), n(2, 100), n(3, 1));
     let mut out = std::io::BufWriter::new(std::io::stdout().lock());
+    if std::env::args().nth(1).is_some_and(|a| a == "scenes") {
+        for x in scenes::trace(calls).requests {
+            out.write_all(&x.to_le_bytes())?;
+        }
+        return out.flush();
+    }
     let mut stream = Stream::new(seed);
     for k in 0..calls {
         let mut w = stream.next_call();

@@ -1,5 +1,6 @@
 //! oracle < requests > answers     See FORMAT.md.
 //! oracle --text < requests        one line of hexadecimal words for each answer record
+//! oracle --sums < requests        one line for each answer record: its checksum, 16 hexadecimal digits
 use fivvarul_compare::panel::Panel;
 use fivvarul_compare::words;
 use std::io::{BufReader, BufWriter, Read, Write};
@@ -19,6 +20,7 @@ fn word(r: &mut impl Read) -> std::io::Result<Option<u32>> {
 
 fn main() -> std::io::Result<()> {
     let text = std::env::args().any(|a| a == "--text");
+    let sums = std::env::args().any(|a| a == "--sums");
     let mut r = BufReader::with_capacity(1 << 16, std::io::stdin().lock());
     let mut out = BufWriter::with_capacity(1 << 16, std::io::stdout().lock());
     let mut panel = Panel::default();
@@ -31,7 +33,9 @@ fn main() -> std::io::Result<()> {
         request.extend(bytes.chunks(4).map(|c| u32::from_le_bytes([c[0], c[1], c[2], c[3]])));
         answers.clear();
         words::answer(&mut panel, head >> 24, &request, &mut answers);
-        if text {
+        if sums {
+            writeln!(out, "{:016x}", words::checksum(&answers))?;
+        } else if text {
             let line: Vec<String> = answers.iter().map(|w| format!("{w:08X}")).collect();
             writeln!(out, "{:02X}: {}", head >> 24, line.join(" "))?;
         } else {

@@ -1,0 +1,45 @@
+#!/bin/sh
+# Compares with egui where cargo and egui's sources are at hand; else says so and ends with 0.
+#   compare/run.sh [SECONDS]       default 120; EGUI_SRC: the src/ folder of egui 0.37.0
+# The program compared is target/bin/replay, as `rt check` leaves it. Ends with 1 at any difference.
+set -eu
+here=$(cd "$(dirname "$0")" && pwd)
+seconds=${1:-120}
+from=${EGUI_SRC:-$here/../../shared/docs/src/src}
+replay=${REPLAY:-$here/../target/bin/replay}
+if ! command -v cargo > /dev/null; then
+    echo "compare: cargo is not at hand, nothing was compared with egui"
+    exit 0
+fi
+if [ ! -f "$from/input_state/mod.rs" ]; then
+    echo "compare: egui's sources are not in $from, nothing was compared with egui"
+    exit 0
+fi
+if ! "$here/build.sh" "$from" > "$here/build.log" 2>&1; then
+    cat "$here/build.log"
+    exit 1
+fi
+bin=$here/target/release
+work=$(mktemp -d)
+trap 'rm -rf "$work"' EXIT
+# The stored corpora are what egui answers today, and what the test programs hold.
+"$bin/corpora" "$work" > "$work/corpora.md"
+cmp "$work/corpora.md" "$here/corpora.md"
+for name in passes interacts edges; do
+    crate=$here/../crates/trace_$name
+    if [ -d "$crate" ]; then
+        cmp "$work/$name.trace" "$crate/stdin"
+        cmp "$work/$name.sums" "$crate/stdout"
+    fi
+done
+"$bin/sample" | cmp - "$here/../samples/lost-release.trace"
+# A new first seed each day, so that the gate does not always run the same traces.
+seed=${SEED:-$(date +%Y%m%d)0000}
+echo "compare: first seed $seed"
+if [ ! -x "$replay" ]; then
+    echo "compare: $replay is not there; egui's side alone"
+    "$bin/run" calls=500000 seed="$seed"
+    exec "$bin/clearing" lists=1000 seed="$seed"
+fi
+"$bin/run" seconds="$seconds" seed="$seed" keep="$here/differs.trace" "$replay" whole
+"$bin/clearing" seconds=$((seconds / 4)) lists=300 seed="$seed" "$replay" whole

@@ -1,0 +1,135 @@
+//! run [calls=N] [seconds=S] [seed=K] [keep=FILE] PROGRAM [ARGUMENT ..]
+//! For each seed from K on a trace of just under 1 MiB: egui answers it here, PROGRAM as a child
+//! (trace on its standard input, answers on its standard output); every answer word is compared.
+//! Ends after N calls or S seconds (default 1,000,000 calls) with 0, or at the first difference with
+//! 1: then the request, the field's name, and the trace up to there in FILE. Without PROGRAM, egui alone.
+use fivvarul_compare::met::Met;
+use fivvarul_compare::panel::Panel;
+use fivvarul_compare::{naming, scenes, words};
+use std::io::Read;
+use std::process::{Command, ExitCode, Stdio};
+use std::time::Instant;
+
+struct Args {
+    calls: u64,
+    seconds: f64,
+    seed: u64,
+    keep: String,
+    program: Vec<String>,
+}
+
+fn args() -> Args {
+    let mut a = Args { calls: 0, seconds: 0.0, seed: 1, keep: "differs.trace".into(), program: Vec::new() };
+    for arg in std::env::args().skip(1) {
+        match arg.split_once('=') {
+            Some(("calls", n)) if a.program.is_empty() => a.calls = n.parse().expect("calls=N"),
+            Some(("seconds", n)) if a.program.is_empty() => a.seconds = n.parse().expect("seconds=S"),
+            Some(("seed", n)) if a.program.is_empty() => a.seed = n.parse().expect("seed=K"),
+            Some(("keep", f)) if a.program.is_empty() => a.keep = f.into(),
+            _ => a.program.push(arg),
+        }
+    }
+    if a.calls == 0 && a.seconds == 0.0 {
+        a.calls = 1_000_000;
+    }
+    a
+}
+
+fn bytes(w: &[u32]) -> Vec<u8> {
+    w.iter().flat_map(|w| w.to_le_bytes()).collect()
+}
+
+/// The answers of the program to a trace.
+fn child(a: &Args, file: &str, trace: &[u32], room: usize) -> Result<Vec<u8>, String> {
+    std::fs::write(file, bytes(trace)).map_err(|e| format!("{file}: {e}"))?;
+    let input = std::fs::File::open(file).map_err(|e| format!("{file}: {e}"))?;
+    let mut c = Command::new(&a.program[0])
+        .args(&a.program[1..])
+        .stdin(Stdio::from(input))
+        .stdout(Stdio::piped())
+        .spawn()
+        .map_err(|e| format!("{}: {e}", a.program[0]))?;
+    let mut out = Vec::with_capacity(room);
+    c.stdout.take().expect("piped").read_to_end(&mut out).map_err(|e| e.to_string())?;
+    let status = c.wait().map_err(|e| e.to_string())?;
+    if !status.success() {
+        eprintln!("the program ends with {status}");
+    }
+    Ok(out)
+}
+
+/// Names the first record whose answers differ; the words of the trace up to and with it.
+fn explain(seed: u64, requests: &[u32], answers: &[u32], got: &[u32]) -> usize {
+    let mut panel = Panel::default();
+    let (mut i, mut j, mut n) = (0, 0, 0);
+    let mut last = 0;
+    while i < requests.len() {
+        let (call, len) = (requests[i] >> 24, (requests[i] & 0xFF_FFFF) as usize);
+        let w = &requests[i + 1..i + 1 + len];
+        words::answer(&mut panel, call, w, &mut Vec::new());
+        let want = &answers[j..j + 1 + (answers[j] & 0xFF_FFFF) as usize];
+        let have = got.get(j..).unwrap_or(&[]);
+        let have = &have[..have.first().map_or(0, |h| 1 + (h & 0xFF_FFFF) as usize).min(have.len())];
+        if call != words::ASK && call != words::DUMP {
+            last = i;
+        }
+        if want != have {
+            println!("seed {seed}, call {n} ({}): {}", naming::call_name(call), naming::first_difference(&panel, call, want, have));
+            let l = (requests[last] & 0xFF_FFFF) as usize;
+            println!("  {}", naming::decoded(requests[last] >> 24, &requests[last + 1..last + 1 + l]));
+            return i + 1 + len;
+        }
+        i += 1 + len;
+        j += want.len();
+        n += 1;
+    }
+    println!("seed {seed}: {} words left over after the last answer", got.len() - j);
+    i
+}
+
+fn main() -> ExitCode {
+    let a = args();
+    let start = Instant::now();
+    let mut met = Met::default();
+    let (mut seed, mut words, mut own) = (a.seed, 0u64, 0.0);
+    let file = format!("{}.{}", a.keep, std::process::id());
+    while met.total() < a.calls || (a.seconds > 0.0 && start.elapsed().as_secs_f64() < a.seconds) {
+        let t = Instant::now();
+        let m = scenes::trace(seed);
+        own += t.elapsed().as_secs_f64();
+        met.add(&m.met);
+        words += m.answers.len() as u64;
+        if !a.program.is_empty() {
+            let want = bytes(&m.answers);
+            let got = match child(&a, &file, &m.requests, want.len()) {
+                Ok(got) => got,
+                Err(e) => {
+                    eprintln!("{e}");
+                    return ExitCode::from(2);
+                }
+            };
+            if got != want {
+                let got: Vec<u32> = got.chunks_exact(4).map(|c| u32::from_le_bytes([c[0], c[1], c[2], c[3]])).collect();
+                let end = explain(seed, &m.requests, &m.answers, &got);
+                let _ = std::fs::rename(&file, &a.keep);
+                std::fs::write(&a.keep, bytes(&m.requests[..end])).expect("the trace is kept");
+                println!("  the trace up to there: {}", a.keep);
+                return ExitCode::from(1);
+            }
+        }
+        seed += 1;
+    }
+    let _ = std::fs::remove_file(&file);
+    met.print();
+    let spent = start.elapsed().as_secs_f64();
+    println!(
+        "{} calls in {} traces (seeds {} to {}), {words} answer words, {}; {spent:.1} s, {own:.1} of them egui's and the generator's",
+        met.total(), seed - a.seed, a.seed, seed - 1, if a.program.is_empty() { "egui alone" } else { "no difference" }
+    );
+    let missing = met.missing();
+    if seed - a.seed >= 10 && !missing.is_empty() {
+        println!("NOT MET: {}", missing.join("; "));
+        return ExitCode::from(1);
+    }
+    ExitCode::SUCCESS
+}

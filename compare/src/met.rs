@@ -1,0 +1,266 @@
+//! What a run has met: calls by kind and answer, events by their fields, and the aims of the issue.
+use crate::input_state::PointerEvent;
+use crate::panel::Panel;
+use crate::{domain, words};
+use std::collections::BTreeMap;
+
+pub const CALLS: [&str; 9] =
+    ["RESET", "PASS", "INSERT", "CLEAR_WIDGETS", "INTERACT", "ASK", "DUMP", "EXTRA", "SET_TALLY"];
+const KINDS: [&str; 16] = [
+    "0", "key", "modifiers", "moved", "motion", "button", "gone", "zoom", "rotate", "touch", "wheel", "focus", "other", "13", "14", "15",
+];
+pub const PHASES: [&str; 4] = ["Start", "Move", "End", "Cancel"];
+pub const UNITS: [&str; 3] = ["Point", "Line", "Page"];
+pub const SOURCES: [&str; 4] = ["Unknown", "Wheel", "Trackpad", "Momentum"];
+
+/// What must be met in a run of any length: more than one trace shows all of it.
+const AIMS: [&str; 33] = [
+    "10 touches on a device",
+    "1,000 samples in the history",
+    "1,024 widgets",
+    "32 layers",
+    "4 devices",
+    "64 entries in a hit list",
+    "64 events in a pass",
+    "click count 1",
+    "click count 2",
+    "click count 3",
+    "clicked",
+    "drag start",
+    "drag stop",
+    "drag stop and start in one interact",
+    "gesture of a later device",
+    "gesture of 2 fingers",
+    "gesture of 10 fingers",
+    "gesture without a previous state",
+    "interact before any pass",
+    "lent contents of others",
+    "long touch",
+    "moved to top",
+    "pinch Horizontal",
+    "pinch Proportional",
+    "pinch Vertical",
+    "release without a click",
+    "tally at its maximum",
+    "the end of time",
+    "time -0.0",
+    "time absent",
+    "touch with force",
+    "wheel sum not finite, or zoom product not finite",
+    "zoom of a gesture not a number",
+];
+
+#[derive(Clone)]
+pub struct Met {
+    /// by call (the last: any unknown one) and the answer's number
+    calls: Box<[[u64; 256]; 10]>,
+    events: [u64; 16],
+    touches: [u64; 4],
+    wheels: [u64; 48],
+    buttons: [u64; 10],
+    keys: [bool; 145],
+    aims: BTreeMap<&'static str, u64>,
+}
+impl Default for Met {
+    fn default() -> Self {
+        Self {
+            calls: Box::new([[0; 256]; 10]),
+            events: [0; 16],
+            touches: [0; 4],
+            wheels: [0; 48],
+            buttons: [0; 10],
+            keys: [false; 145],
+            aims: AIMS.iter().map(|a| (*a, 0)).collect(),
+        }
+    }
+}
+
+impl Met {
+    fn aim(&mut self, name: &'static str, met: bool) {
+        if met {
+            *self.aims.get_mut(name).expect(name) += 1;
+        }
+    }
+
+    /// One answered call: `panel` is the one after it.
+    pub fn count(&mut self, panel: &Panel, call: u32, w: &[u32], answer: &[u32]) {
+        let number = (answer[0] >> 24) as usize;
+        self.calls[(call as usize).min(9)][number] += 1;
+        if number != 0 {
+            return;
+        }
+        match call {
+            words::PASS => self.pass(panel, w),
+            words::INSERT => {
+                self.aim("1,024 widgets", panel.widgets.x_count() == domain::MAX_WIDGETS);
+                self.aim("32 layers", panel.widgets.x_layer_count() == domain::MAX_LAYERS);
+                self.aim("moved to top", w[16] & 4 != 0);
+                self.aim("lent contents of others", w.len() > words::INSERT_WORDS);
+            }
+            words::INTERACT => {
+                let id = |k: usize| answer[1 + 2 * k] != 0 || answer[2 + 2 * k] != 0;
+                self.aim("clicked", id(0));
+                self.aim("long touch", id(1));
+                self.aim("drag start", id(2));
+                self.aim("drag stop", id(4));
+                self.aim("drag stop and start in one interact", id(2) && id(4));
+                self.aim("64 entries in a hit list", w[2] == 64 || w[3] == 64);
+                self.aim("tally at its maximum", panel.tally == u32::MAX);
+                self.aim("interact before any pass", panel.input.pointer.x_view().time == f64::NEG_INFINITY);
+            }
+            _ => {}
+        }
+    }
+
+    fn pass(&mut self, panel: &Panel, w: &[u32]) {
+        let i = &panel.input;
+        for e in &i.pointer.pointer_events {
+            match e {
+                PointerEvent::Released { click: Some(c), .. } => {
+                    self.aim("click count 1", c.count == 1);
+                    self.aim("click count 2", c.count == 2);
+                    self.aim("click count 3", c.count == 3);
+                }
+                PointerEvent::Released { click: None, .. } => self.aim("release without a click", true),
+                _ => {}
+            }
+        }
+        self.aim("time absent", w[0] & 1 == 0);
+        self.aim("the end of time", i.time == domain::MAX_TIME);
+        self.aim("time -0.0", i.time == 0.0 && i.time.is_sign_negative());
+        self.aim("1,000 samples in the history", i.pointer.x_view().pos_history.len() == 1000);
+        self.aim("64 events in a pass", i.events.len() == domain::MAX_EVENTS);
+        self.aim("4 devices", i.x_touch_states().len() == domain::MAX_DEVICES);
+        for (k, t) in i.x_touch_states().values().enumerate() {
+            let fingers = t.x_touches().count();
+            self.aim("10 touches on a device", fingers == domain::MAX_TOUCHES);
+            if let (Some(g), Some(m)) = (t.x_gesture(), t.info()) {
+                self.aim("gesture of a later device", k > 0);
+                self.aim("gesture of 2 fingers", fingers == 2);
+                self.aim("gesture of 10 fingers", fingers == 10);
+                self.aim("gesture without a previous state", g.previous.is_none());
+                self.aim("zoom of a gesture not a number", m.zoom_delta.is_nan());
+                self.aim("pinch Horizontal", g.pinch == 0);
+                self.aim("pinch Vertical", g.pinch == 1);
+                self.aim("pinch Proportional", g.pinch == 2);
+            }
+        }
+        let u = i.x_wheel().unprocessed_wheel_delta;
+        self.aim(
+            "wheel sum not finite, or zoom product not finite",
+            !(u.x.is_finite() && u.y.is_finite() && i.x_zoom_factor_delta().is_finite()),
+        );
+        self.feed(&w[words::PASS_WORDS..]);
+    }
+
+    fn feed(&mut self, feed: &[u32]) {
+        let mut at = 0;
+        while at < feed.len() {
+            let (kind, low) = ((feed[at] >> 28) as usize, (feed[at] & 0x0FFF_FFFF) as usize);
+            self.events[kind] += 1;
+            let force = kind == 9 && low & 4 != 0;
+            match kind {
+                1 => self.keys[low & 255] = true,
+                5 => self.buttons[(low >> 5 & 7) * 2 + (low >> 8)] += 1,
+                9 => self.touches[low & 3] += 1,
+                10 => self.wheels[(low >> 5 & 3) * 16 + (low >> 7 & 3) * 4 + (low >> 9)] += 1,
+                _ => {}
+            }
+            self.aim("touch with force", force);
+            at += 1 + domain::LENGTHS[kind] + force as usize;
+        }
+    }
+
+    pub fn add(&mut self, other: &Met) {
+        for (a, b) in self.calls.iter_mut().flatten().zip(other.calls.iter().flatten()) {
+            *a += b;
+        }
+        let counts = [(&mut self.events[..], &other.events[..]), (&mut self.touches, &other.touches), (&mut self.wheels, &other.wheels), (&mut self.buttons, &other.buttons)];
+        for (a, b) in counts.into_iter().flat_map(|(a, b)| a.iter_mut().zip(b)) {
+            *a += b;
+        }
+        self.keys.iter_mut().zip(other.keys).for_each(|(a, b)| *a |= b);
+        for (name, n) in &other.aims {
+            *self.aims.entry(name).or_default() += n;
+        }
+    }
+
+    /// Calls of a kind with this answer.
+    pub fn answered(&self, call: u32, number: u32) -> u64 {
+        self.calls[(call as usize).min(9)][number as usize]
+    }
+    pub fn taken(&self, call: u32) -> u64 {
+        self.answered(call, 0)
+    }
+    pub fn refused(&self, call: u32) -> u64 {
+        self.calls[(call as usize).min(9)].iter().sum::<u64>() - self.taken(call)
+    }
+
+    pub fn total(&self) -> u64 {
+        self.calls.iter().flatten().sum()
+    }
+
+    /// What should have been met, and was not.
+    pub fn missing(&self) -> Vec<String> {
+        let mut v = Vec::new();
+        let due: [(usize, &[usize]); 9] = [
+            (0, &[0, 255]),
+            (1, &[0, 1, 2, 3, 4, 5, 255]),
+            (2, &[0, 1, 2, 6, 7, 8, 9, 255]),
+            (3, &[0, 255]),
+            (4, &[0, 1, 4, 8, 9, 10, 255]),
+            (5, &[0, 255]),
+            (6, &[0, 255]),
+            (8, &[0, 255]),
+            (9, &[255]),
+        ];
+        for (call, numbers) in due {
+            for n in numbers.iter().filter(|n| self.calls[call][**n] == 0) {
+                v.push(format!("{} answered {n}", CALLS.get(call).unwrap_or(&"an unknown call")));
+            }
+        }
+        v.extend(self.missing_events());
+        v.extend(self.aims.iter().filter(|(_, n)| **n == 0).map(|(a, _)| a.to_string()));
+        v
+    }
+
+    /// Kinds and fields of events that were not taken.
+    pub fn missing_events(&self) -> Vec<String> {
+        let mut v = Vec::new();
+        v.extend((1..13).filter(|k| self.events[*k] == 0).map(|k| format!("event {}", KINDS[k])));
+        v.extend((0..4).filter(|k| self.touches[*k] == 0).map(|k| format!("touch {}", PHASES[k])));
+        v.extend((0..10).filter(|k| self.buttons[*k] == 0).map(|k| format!("button {} {}", k / 2, ["released", "pressed"][k % 2])));
+        v.extend((0..145).filter(|k| !self.keys[*k]).map(|k| format!("key {k}")));
+        for k in (0..48).filter(|k| self.wheels[*k] == 0) {
+            v.push(format!("wheel {} {} {}", UNITS[k / 16], PHASES[k / 4 % 4], SOURCES[k % 4]));
+        }
+        v
+    }
+    /// How often an aim was met.
+    pub fn aimed(&self, name: &str) -> u64 {
+        self.aims[name]
+    }
+
+    pub fn print(&self) {
+        println!("calls by answer (0 taken, 1 to 10 refused by 01's table, 255 not in the form):");
+        for (c, row) in self.calls.iter().enumerate() {
+            let all: u64 = row.iter().sum();
+            if all > 0 {
+                let parts: Vec<String> = row.iter().enumerate().filter(|(_, n)| **n > 0).map(|(k, n)| format!("{k}: {n}")).collect();
+                println!("  {:14} {all:9}   {}", CALLS.get(c).unwrap_or(&"unknown"), parts.join(", "));
+            }
+        }
+        let show = |names: &[&str], n: &[u64]| -> String {
+            names.iter().zip(n).filter(|(_, n)| **n > 0).map(|(s, n)| format!("{s} {n}")).collect::<Vec<_>>().join(", ")
+        };
+        println!("events taken: {}", show(&KINDS, &self.events));
+        println!("touch phases: {}", show(&PHASES, &self.touches));
+        let least = self.wheels.iter().min().unwrap_or(&0);
+        println!("wheel: 3 units, 4 phases, 4 sources: each of the 48 at least {least} times");
+        println!("keys: {} of 145", self.keys.iter().filter(|k| **k).count());
+        println!("aims:");
+        for (a, n) in &self.aims {
+            println!("  {n:9}  {a}");
+        }
+    }
+}
