@@ -48,7 +48,7 @@ modifiers-lt : (m : Modifiers) → modifiers-number m < 32
 unfolding modifiers-number
 modifiers-lt m = omega (arith, bit-le (m .alt), bit-le (m .ctrl), bit-le (m .shift), bit-le (m .«mac_cmd»), bit-le (m .command))
 
-modifiers-back : (m : Modifiers) (f rest : ℕ) → f ≡ modifiers-number m + 32 * rest → modifiers-of f ≡ m
+pub modifiers-back : (m : Modifiers) (f rest : ℕ) → f ≡ modifiers-number m + 32 * rest → modifiers-of f ≡ m
 unfolding modifiers-number modifiers-of
 modifiers-back m f rest h =
     let a = bit-le (m .alt) in
@@ -71,7 +71,7 @@ button-le Middle = omega arith
 button-le Extra1 = omega arith
 button-le Extra2 = omega arith
 
-button-back : (b : PointerButton) → button-of (button-number b) ≡ b
+pub button-back : (b : PointerButton) → button-of (button-number b) ≡ b
 unfolding button-of
 button-back Primary = refl
 button-back Secondary = refl

@@ -3,13 +3,12 @@ use Prim.Native.Nat.{ℕ, _+_, _*_, _/_, _%_}
 use mathlib.Core.Bool.{Bool, true}
 use mathlib.Core.List.{List, [], _∷_, _++_}
 use lib.Dec.{ltb}
-use lib.ListN.{take}
 use lib.Ieee.{Float, binary32, toBits}
 use Rattle.data.specs.Limits.{key-count}
 use Rattle.data.specs.Numbers.{button-number, phase-number, unit-number, source-number, kind-number}
 use Rattle.data.specs.Bits.{bit-number}
 use Rattle.data.specs.Modifiers.{modifiers-number}
-use Rattle.feed.specs.Types.{Pos2, Vec2, MaybeF32, no-force, some-force, EventWords}
+use Rattle.feed.specs.Types.{Pos2, Vec2, MaybeF32, no-force, some-force}
 use Rattle.feed.specs.Types.{Event, Key, ModifiersChanged, PointerMoved, MouseMoved, Button, PointerGone, Zoom, Rotate, Touch, MouseWheel, WindowFocused, Other}
 
 -- "A float is one word of f32 bits"; NaN is 7FC00000
@@ -81,7 +80,3 @@ fields-ok (Touch device id phase pos force) = true
 fields-ok (MouseWheel unit delta phase source m) = true
 fields-ok (WindowFocused focused) = true
 fields-ok Other = true
-
--- what the code's struct stands for
-unfoldable pub words-of : EventWords → List ℕ
-words-of w = take (w .count) (w .words)

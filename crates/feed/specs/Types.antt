@@ -20,4 +20,3 @@ pub use Rattle.feed.specs.declared.shape.MaybeEvent.{MaybeEvent}
 pub use Rattle.feed.specs.declared.shape.MaybeEvent.the-variants.{None as no-event, Some as some-event}
 pub use Rattle.feed.specs.declared.decode.EventAt.{EventAt}
 pub use Rattle.feed.specs.declared.decode.EventAt.the-variants as found
-pub use Rattle.feed.specs.declared.encode.EventWords.{EventWords}

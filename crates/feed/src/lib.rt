@@ -1,6 +1,5 @@
 // 01's feed: 32-bit words, an event each few of them.
 pub mod decode;
-pub mod encode;
 pub mod fields;
 pub mod shape;
 pub mod split;

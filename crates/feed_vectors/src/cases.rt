@@ -6,7 +6,7 @@ use data::event::Event;
 use data::modifiers::Modifiers;
 use feed::decode::EventAt;
 use feed::decode::event_at;
-use feed::encode::encode;
+use feed_encode::encode;
 ghost use Prim.Native.Nat.{_≤_};
 
 pub struct Tally {

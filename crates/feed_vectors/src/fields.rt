@@ -3,7 +3,7 @@
 use data::bits::bit_number;
 use data::event::Event;
 use data::touch::MaybeF32;
-use feed::encode::float_word;
+use feed_encode::float_word;
 
 fn low(id: u64) -> u32 {
     (id % 0x1_0000_0000) as u32

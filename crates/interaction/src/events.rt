@@ -4,12 +4,12 @@ use crate::state::Going;
 use crate::state::Interaction;
 use crate::state::Seen;
 use crate::state::or_else;
-use data::limits::MAX_EVENTS;
 use hit_lists::MaybeHit;
 use id_lists::MaybeId;
 use id_lists::hit_id;
 use id_lists::is_some;
 use pointer_events::CODES;
+use pointer_events::counted;
 use widget_index::table::Numbers;
 use widget_index::table::WidgetRects;
 use widget_index::table::Words;
@@ -17,9 +17,8 @@ ghost use mathlib.Core.Path.{_≡_};
 ghost use mathlib.Core.Bool.{Bool, true, false};
 ghost use mathlib.Core.Option.{Option};
 ghost use mathlib.Core.List.{List};
-ghost use Prim.Native.Nat.{ℕ, min};
+ghost use Prim.Native.Nat.{ℕ};
 ghost use lib.Ieee.{Float};
-ghost use Rattle.data.specs.Limits.{max-events};
 ghost use Rattle.hit_lists.specs.Hits.{view};
 ghost use Rattle.pointer_events.specs.declared.Entry.{Entry};
 ghost use Rattle.pointer_events.specs.Events.{event-of, events};
@@ -195,15 +194,6 @@ fn pointer_event(
         return released(g);
     }
     clicked(set, words, numbers, g)
-}
-
-fn counted(count: usize) -> usize
-    ensures { λ r. ⌜ r ≡ min count max-events ⌝ }
-{
-    if count < MAX_EVENTS {
-        return count;
-    }
-    MAX_EVENTS
 }
 
 fn pointer_events(

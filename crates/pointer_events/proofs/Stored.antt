@@ -11,11 +11,10 @@ use lib.Seq.{lt-length-set, getD-set-same, getD-set-other, take-all, take-append
 use lib.Ieee.{Float, nan}
 use Rattle.emath.specs.Ring.{position-at, set-position}
 use Rattle.data.specs.Limits.{max-events}
-use Rattle.data.specs.Bits.{bit-number}
-use Rattle.data.specs.Numbers.{button-number}
-use Rattle.data.specs.Modifiers.{modifiers-number, modifiers-of}
+use Rattle.data.specs.Modifiers.{modifiers-number}
 use Rattle.feed.specs.Shape.{button-of}
-use Rattle.model.specs.Types.{Pos2, PointerButton, Primary, Secondary, Middle, Extra1, Extra2, Modifiers}
+use Rattle.feed.proofs.RoundTrip.{button-back, modifiers-back}
+use Rattle.model.specs.Types.{Pos2}
 use Rattle.model.specs.Types.{no-click, some-click, PointerEvent, Moved, Pressed, Released}
 use Rattle.model.specs.Pointer.{any, is-press, is-release, is-click}
 use Rattle.model.specs.Questions.{presses-button, releases-button, clicks-button, clicks-button-times}
@@ -24,68 +23,12 @@ use Rattle.pointer_events.specs.Types.sought as sought
 use Rattle.pointer_events.specs.Events.{click-of, event-of, entry-of, entry-at, events-from, counted, events, event-or-none, asks, codes-with, Pushed}
 
 -- ---- an event is read back as it was written
-button-back : (b : PointerButton) → button-of (button-number b) ≡ b
-unfolding button-of
-button-back Primary = refl
-button-back Secondary = refl
-button-back Middle = refl
-button-back Extra1 = refl
-button-back Extra2 = refl
-
-bit-back : (b : Bool) → eqb (bit-number b) 1 ≡ b
-bit-back true = refl
-bit-back false = refl
-
-bit-small : (b : Bool) → bit-number b ≤ 1
-bit-small true = omega arith
-bit-small false = omega arith
-
-module _ (a b c d e : ℕ) (ha : a ≤ 1) (hb : b ≤ 1) (hc : c ≤ 1) (hd : d ≤ 1) (he : e ≤ 1) where
-  abbrev sum : ℕ
-  sum = a + 2 * b + 4 * c + 8 * d + 16 * e
-
-  bit-0 : sum / 1 % 2 ≡ a
-  bit-0 = omega arith
-
-  bit-1 : sum / 2 % 2 ≡ b
-  bit-1 = omega arith
-
-  bit-2 : sum / 4 % 2 ≡ c
-  bit-2 = omega arith
-
-  bit-3 : sum / 8 % 2 ≡ d
-  bit-3 = omega arith
-
-  bit-4 : sum / 16 % 2 ≡ e
-  bit-4 = omega arith
-
-pub modifiers-back : (m : Modifiers) → modifiers-of (modifiers-number m) ≡ m
-unfolding modifiers-of modifiers-number
-modifiers-back m =
-    let a = bit-small (m .alt) in
-    let b = bit-small (m .ctrl) in
-    let c = bit-small (m .shift) in
-    let d = bit-small (m .«mac_cmd») in
-    let e = bit-small (m .command) in
-    rw (
-      bit-0 _ _ _ _ _ a b c d e,
-      bit-1 _ _ _ _ _ a b c d e,
-      bit-2 _ _ _ _ _ a b c d e,
-      bit-3 _ _ _ _ _ a b c d e,
-      bit-4 _ _ _ _ _ a b c d e,
-      bit-back (m .alt),
-      bit-back (m .ctrl),
-      bit-back (m .shift),
-      bit-back (m .«mac_cmd»),
-      bit-back (m .command),
-    )
-
 pub event-back : (e : PointerEvent) → event-of (entry-of e) ≡ e
 unfolding event-of entry-of click-of
 event-back (Moved v) = refl
 event-back (Pressed v b) = rw (button-back b)
 event-back (Released no-click b) = rw (button-back b)
-event-back (Released (some-click k) b) = rw (button-back b, modifiers-back (k .modifiers))
+event-back (Released (some-click k) b) = rw (button-back b, modifiers-back (k .modifiers) (modifiers-number (k .modifiers)) 0 (omega arith))
 
 -- ---- how many, one more
 pub from-length : (cs : List ℕ) (ps : List Float) (i n : ℕ) → length (events-from cs ps i n) ≡ n

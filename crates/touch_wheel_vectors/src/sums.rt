@@ -2,7 +2,7 @@
 use data::bits::bit_number;
 use emath::pos2::Pos2;
 use emath::vec2::Vec2;
-use feed::encode::float_word;
+use feed_encode::float_word;
 
 pub const START: u64 = 2166136261;
 

@@ -1,4 +1,4 @@
--- `device/adds_or_removes` meets its contract: each way to a return is the case of the definition that its tests pick. Assumes nothing.
+-- `touch_device::adds_or_removes` meets its contract: each way to a return is the case of the definition that its tests pick. Assumes nothing.
 use Rattle.model.specs.Touch.{adds-or-removes}
 use borrow.Author.Needs.{needs}
 use Rattle.touch_device.proofs.adds_or_removes.Statement.{statement}

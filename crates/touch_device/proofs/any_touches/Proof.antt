@@ -1,4 +1,4 @@
--- `device::any_touches` meets its contract. Assumes nothing.
+-- `touch_device::any_touches` meets its contract. Assumes nothing.
 use borrow.Author.Needs.{needs}
 use Rattle.model.specs.Touch.{any-touches-at}
 use Rattle.touches.proofs.Upsert.{some-length}

@@ -1,4 +1,4 @@
--- `device::end_pass` meets its contract. Assumes nothing.
+-- `touch_device::end_pass` meets its contract. Assumes nothing.
 use borrow.Author.Needs.{needs}
 use Rattle.touch_device.specs.View.{end-marked}
 use Rattle.touch_device.proofs.end_pass.Statement.{statement}

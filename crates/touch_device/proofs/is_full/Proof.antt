@@ -1,4 +1,4 @@
--- `device::is_full` meets its contract. Assumes nothing.
+-- `touch_device::is_full` meets its contract. Assumes nothing.
 use borrow.Author.Needs.{needs}
 use Rattle.model.specs.Touch.{no-place}
 use Rattle.touch_device.proofs.is_full.Statement.{statement}

@@ -1,4 +1,4 @@
--- `device/is_start` meets its contract: each way to a return is the case of the definition that its tests pick. Assumes nothing.
+-- `touch_device::is_start` meets its contract: each way to a return is the case of the definition that its tests pick. Assumes nothing.
 use Rattle.model.specs.Touch.{is-start}
 use borrow.Author.Needs.{needs}
 use Rattle.touch_device.proofs.is_start.Statement.{statement}

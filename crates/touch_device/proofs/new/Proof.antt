@@ -1,4 +1,4 @@
--- `device/new` meets its contract: each way to a return is the case of the definition that its tests pick. Assumes nothing.
+-- `touch_device::new` meets its contract: each way to a return is the case of the definition that its tests pick. Assumes nothing.
 use Rattle.model.specs.Touch.{new-device}
 use Rattle.touch_device.specs.View.{new-marked}
 use borrow.Author.Needs.{needs}

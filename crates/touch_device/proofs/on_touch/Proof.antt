@@ -1,4 +1,4 @@
--- `device::on_touch` meets its contract. Assumes nothing.
+-- `touch_device::on_touch` meets its contract. Assumes nothing.
 use borrow.Author.Needs.{needs}
 use Rattle.touch_device.specs.View.{touch-marked}
 use Rattle.touch_device.proofs.on_touch.Statement.{statement}

@@ -1,4 +1,4 @@
--- `devices::any_touches_of` meets its contract. Assumes nothing.
+-- `touch_questions::any_touches_of` meets its contract. Assumes nothing.
 use borrow.Author.Needs.{needs}
 use mathlib.Core.Path.{_≡_, _∙_, refl, sym, ap}
 use native.Mathlib.Omega.{arith}

@@ -1,4 +1,4 @@
--- `devices::has_touch_screen` meets its contract. Assumes nothing.
+-- `touch_questions::has_touch_screen` meets its contract. Assumes nothing.
 use borrow.Author.Needs.{needs}
 use lib.ListN.{take}
 use Rattle.touch_state.proofs.Known.{some-devices}

@@ -1,4 +1,4 @@
--- `devices::info` meets its contract. Assumes nothing.
+-- `touch_questions::info` meets its contract. Assumes nothing.
 use borrow.Author.Needs.{needs}
 use mathlib.Core.Path.{_≡_, _∙_, refl, sym, ap}
 use native.Mathlib.Omega.{arith}

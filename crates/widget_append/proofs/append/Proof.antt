@@ -1,4 +1,4 @@
--- `widget_index::insert::append` meets its contract. Assumes nothing.
+-- `widget_append::append` meets its contract. Assumes nothing.
 use Rattle.widget_append.specs.Append.{append}
 use mathlib.Core.Path.{refl}
 use borrow.Author.Needs.{needs}

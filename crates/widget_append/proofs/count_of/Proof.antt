@@ -1,4 +1,4 @@
--- `widget_index::insert::count_of` meets its contract. Assumes nothing.
+-- `widget_append::count_of` meets its contract. Assumes nothing.
 use Rattle.widget_append.specs.Append.{count-of}
 use borrow.Author.Tests.{eq-eqb, ne-eqb}
 use native.Mathlib.Omega.{arith}

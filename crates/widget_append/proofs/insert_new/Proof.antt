@@ -1,4 +1,4 @@
--- `widget_index::insert::insert_new` meets its contract. Assumes nothing.
+-- `widget_append::insert_new` meets its contract. Assumes nothing.
 use Rattle.widget_append.proofs.Cases.{gives, as-before, full, full-layers, short-new, appends}
 use borrow.Author.Tests.{lt-leb, le-leb, lt-ltb, le-ltb}
 use borrow.Author.Needs.{needs}

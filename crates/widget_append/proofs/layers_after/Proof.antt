@@ -1,4 +1,4 @@
--- `widget_index::insert::layers_after` meets its contract. Assumes nothing.
+-- `widget_append::layers_after` meets its contract. Assumes nothing.
 use Rattle.widget_append.specs.Append.{layers-after}
 use borrow.Author.Tests.{lt-ltb, le-ltb}
 use borrow.Author.Needs.{needs}

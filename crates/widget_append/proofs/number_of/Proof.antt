@@ -1,4 +1,4 @@
--- `widget_index::insert::number_of` meets its contract. Assumes nothing.
+-- `widget_append::number_of` meets its contract. Assumes nothing.
 use Rattle.widget_append.specs.Append.{number-of}
 use borrow.Author.Tests.{eq-eqb, ne-eqb}
 use native.Mathlib.Omega.{arith}

@@ -1,4 +1,4 @@
--- `widget_index::insert::put_traits` meets its contract. Assumes nothing.
+-- `widget_append::put_traits` meets its contract. Assumes nothing.
 use borrow.Author.Needs.{needs}
 use Rattle.widget_append.proofs.put_traits.Statement.{statement}
 use Rattle.widget_append.proofs.put_traits.Tie as tie

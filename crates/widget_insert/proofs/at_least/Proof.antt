@@ -1,4 +1,4 @@
--- `widget_index::insert::at_least` meets its contract. Assumes nothing.
+-- `widget_insert::at_least` meets its contract. Assumes nothing.
 use Rattle.widget_insert.specs.Insert.{at-least}
 use borrow.Author.Tests.{lt-ltb, le-ltb}
 use native.Mathlib.Omega.{arith}

@@ -1,4 +1,4 @@
--- `widget_index::insert::decide` meets its contract. Assumes nothing.
+-- `widget_insert::decide` meets its contract. Assumes nothing.
 use Rattle.widget_append.proofs.Cases.{gives, as-before}
 use Rattle.widget_insert.proofs.Cases.{refuses, checks}
 use mathlib.Core.Path.{_≡_, sym, _∙_, ap}

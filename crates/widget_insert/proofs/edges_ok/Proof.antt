@@ -1,4 +1,4 @@
--- `widget_index::insert::edges_ok` meets its contract. Assumes nothing.
+-- `widget_insert::edges_ok` meets its contract. Assumes nothing.
 use Rattle.model.specs.Widgets.{edges-ok}
 use borrow.Author.Needs.{needs}
 use Rattle.widget_insert.proofs.edges_ok.Statement.{statement}

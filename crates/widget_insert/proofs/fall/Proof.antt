@@ -1,4 +1,4 @@
--- `widget_index::insert::fall` meets its contract. Assumes nothing.
+-- `widget_insert::fall` meets its contract. Assumes nothing.
 use Prim.Native.Nat.{ℕ, _+_, _-_, _≤_}
 use mathlib.Core.Path.{_≡_, refl, sym, _∙_, ap}
 use native.Mathlib.Numerals.{add-one}

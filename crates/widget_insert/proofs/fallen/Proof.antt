@@ -1,4 +1,4 @@
--- `widget_index::insert::fallen` meets its contract. Assumes nothing.
+-- `widget_insert::fallen` meets its contract. Assumes nothing.
 use Rattle.widget_insert.specs.Insert.{fallen}
 use borrow.Author.Tests.{lt-ltb, le-ltb}
 use borrow.Author.Needs.{needs}

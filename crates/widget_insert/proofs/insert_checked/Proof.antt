@@ -1,4 +1,4 @@
--- `widget_index::insert::insert_checked` meets its contract. Assumes nothing.
+-- `widget_insert::insert_checked` meets its contract. Assumes nothing.
 use Rattle.widget_append.proofs.Cases.{gives}
 use Rattle.widget_insert.proofs.Cases.{is-new, is-known}
 use mathlib.Core.Path.{_≡_, sym, _∙_}

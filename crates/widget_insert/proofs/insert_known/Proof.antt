@@ -1,4 +1,4 @@
--- `widget_index::insert::insert_known` meets its contract. Assumes nothing.
+-- `widget_insert::insert_known` meets its contract. Assumes nothing.
 use Rattle.widget_append.proofs.Cases.{gives, as-before}
 use Rattle.widget_insert.proofs.Cases.{moved, replaced, other-layer, short-known, moves, replaces}
 use borrow.Author.Tests.{lt-ltb, le-ltb, not-true, not-false}

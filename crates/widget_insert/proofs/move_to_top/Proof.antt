@@ -1,4 +1,4 @@
--- `widget_index::insert::move_to_top` meets its contract. Assumes nothing.
+-- `widget_insert::move_to_top` meets its contract. Assumes nothing.
 use Rattle.widget_insert.specs.Insert.{moved-numbers}
 use borrow.Author.Needs.{needs}
 use Rattle.widget_insert.proofs.move_to_top.Statement.{statement}

@@ -1,4 +1,4 @@
--- `widget_index::insert::record_refusal` meets its contract. Assumes nothing.
+-- `widget_insert::record_refusal` meets its contract. Assumes nothing.
 use Rattle.model.specs.Widgets.{record-refusal}
 use Rattle.widget_insert.specs.Numbers.{refusal-of}
 use borrow.Author.Tests.{not-true, not-false}

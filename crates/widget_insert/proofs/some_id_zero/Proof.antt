@@ -1,4 +1,4 @@
--- `widget_index::insert::some_id_zero` meets its contract. Assumes nothing.
+-- `widget_insert::some_id_zero` meets its contract. Assumes nothing.
 use Rattle.model.specs.Widgets.{some-id-zero}
 use mathlib.Core.Path.{refl}
 use Rattle.widget_insert.proofs.some_id_zero.Statement.{statement}

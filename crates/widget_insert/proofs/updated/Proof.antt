@@ -1,4 +1,4 @@
--- `widget_index::insert::updated` meets its contract. Assumes nothing.
+-- `widget_insert::updated` meets its contract. Assumes nothing.
 use Rattle.model.specs.Widgets.{updated}
 use borrow.Author.Needs.{needs}
 use Rattle.widget_insert.proofs.updated.Statement.{statement}

@@ -1,4 +1,4 @@
--- `widget_index::insert::well_shaped` meets its contract. Assumes nothing.
+-- `widget_insert::well_shaped` meets its contract. Assumes nothing.
 use Rattle.model.specs.Widgets.{well-shaped}
 use borrow.Author.Needs.{needs}
 use Rattle.widget_insert.proofs.well_shaped.Statement.{statement}

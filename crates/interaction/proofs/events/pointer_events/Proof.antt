@@ -12,7 +12,7 @@ use Rattle.interaction.proofs.Walk.{one-event, no-event}
 use borrow.Author.Needs.{needs}
 use Rattle.interaction.proofs.events.pointer_events.Statement.{statement}
 use Rattle.interaction.proofs.events.pointer_events.Tie as tie
-use Rattle.interaction.proofs.events.counted.Reads as counted-reads
+use Rattle.pointer_events.proofs.counted.Reads as counted-reads
 use Rattle.interaction.proofs.events.pointer_event.Reads as pointer-event-reads
 
 abbrev Inv-loop : tie.InvT-loop

@@ -1,12 +1,12 @@
--- `feed::encode::encode` meets its contract. Assumes nothing.
+-- `feed_encode::encode` meets its contract. Assumes nothing.
 use Rattle.feed.specs.Encode.{vec-words}
 use Rattle.feed.specs.Encode.{pos-words}
 use Rattle.feed.specs.Encode.{words-after}
 use Rattle.feed.specs.Encode.{fields}
 use Rattle.feed.specs.Encode.{encode}
 use borrow.Author.Needs.{needs}
-use Rattle.feed.proofs.encode.encode.Statement.{statement}
-use Rattle.feed.proofs.encode.encode.Tie as tie
+use Rattle.feed_encode.proofs.encode.Statement.{statement}
+use Rattle.feed_encode.proofs.encode.Tie as tie
 
 enum-known-e : tie.Need-enum-known-e
 enum-known-e c = search needs

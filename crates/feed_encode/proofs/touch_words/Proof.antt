@@ -1,14 +1,14 @@
--- `feed::encode::touch_words` meets its contract. Assumes nothing.
-use Rattle.feed.specs.Encode.{words-of}
+-- `feed_encode::touch_words` meets its contract. Assumes nothing.
+use Rattle.feed_encode.specs.Words.{words-of}
 use Rattle.feed.specs.Encode.{force-words}
 use Rattle.feed.specs.Encode.{id-words}
 use Rattle.feed.specs.Encode.{pos-words}
 use Rattle.feed.specs.Encode.{words-after}
 use Rattle.feed.specs.Encode.{fields}
 use Rattle.feed.specs.Encode.{encode}
 use borrow.Author.Needs.{needs}
-use Rattle.feed.proofs.encode.touch_words.Statement.{statement}
-use Rattle.feed.proofs.encode.touch_words.Tie as tie
+use Rattle.feed_encode.proofs.touch_words.Statement.{statement}
+use Rattle.feed_encode.proofs.touch_words.Tie as tie
 
 cast-a : tie.Need-cast-a
 cast-a c = search needs

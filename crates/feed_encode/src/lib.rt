@@ -6,8 +6,9 @@ use data::touch::TouchPhase;
 use emath::pos2::Pos2;
 ghost use mathlib.Core.Path.{_≡_};
 ghost use mathlib.Core.List.{[], _∷_};
 ghost use Rattle.feed.specs.Types.{Touch};
-ghost use Rattle.feed.specs.Encode.{float-word, words-of, encode};
+ghost use Rattle.feed.specs.Encode.{float-word, encode};
+ghost use Rattle.feed_encode.specs.Words.{words-of};
 
 // The first `count` of `words`.
 pub struct EventWords {

@@ -1,9 +1,9 @@
--- `feed::encode::float_word` meets its contract. Assumes nothing.
+-- `feed_encode::float_word` meets its contract. Assumes nothing.
 use mathlib.Core.Path.{refl}
 use Rattle.feed.specs.Encode.{float-word}
 use Rattle.feed.proofs.Nan.{word-of-nan, no-nan}
-use Rattle.feed.proofs.encode.float_word.Statement.{statement}
-use Rattle.feed.proofs.encode.float_word.Tie as tie
+use Rattle.feed_encode.proofs.float_word.Statement.{statement}
+use Rattle.feed_encode.proofs.float_word.Tie as tie
 
 returns : tie.Need-returns
 unfolding float-word
