@@ -12,8 +12,8 @@ ghost use Rattle.input_questions.specs.Answers.{of-touch-and-press};
 pub fn is_long_touch(ds: Devices, s: Press, options: InputOptions, time: f64, started: bool) -> bool
     ensures { λ r. ⌜ of-touch-and-press ask.is-long-touch ds s options time started (bool r) ⌝ }
 {
-    if any_touches(ds) {
-        return is_long_press(s, options, time, started);
+    if is_long_press(s, options, time, started) {
+        return any_touches(ds);
     }
     false
 }

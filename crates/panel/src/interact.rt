@@ -1,4 +1,5 @@
 // An interact. Of the input it reads the pointer, its time, the options, the touches, the pass's pointer events and the presses of Escape.
+use crate::touches::is_long_touch;
 use hit_lists::MaybeHit;
 use input_state::clock::Clock;
 use input_state::pointer::Pointer;
@@ -6,36 +7,19 @@ use input_state::screen::Screen;
 use interaction::state::Interacted;
 use interaction::state::Interaction;
 use interaction::state::Seen;
-use pointer_questions::buttons::is_long_press;
 use pointer_questions::moving::has_pointer;
 use pointer_events::CODES;
 use pointer_clicks::any_down;
 use pointer_clicks::could_any_button_be_click;
 use pointer_clicks::is_decidedly_dragging;
 use touch_state::devices::Devices;
-use touch_questions::any_touches;
 use widget_index::table::Numbers;
 use widget_index::table::WidgetRects;
 use widget_index::table::Words;
-ghost use Rattle.model.specs.Questions.{settled, bool};
-ghost use Rattle.model.specs.Questions as ask;
-ghost use Rattle.panel.specs.Answers.{of-long-touch};
 ghost use Rattle.panel.specs.Steps.{Sees, Interacts};
 
 // egui's Key::Escape
 const ESCAPE: u32 = 4;
-
-fn is_long_touch(clock: Clock, screen: Screen, pointer: Pointer, devices: Devices) -> bool
-    ensures { λ r. ⌜ of-long-touch (settled ask.is-long-touch) clock screen pointer devices (bool r) ⌝ }
-{
-    let options = screen.options;
-    let press = pointer.press;
-    let started = pointer.started_decidedly_dragging;
-    if is_long_press(press, options, clock.pointer_time, started) {
-        return any_touches(devices);
-    }
-    false
-}
 
 // What an interact reads of the panel's input, but for the pointer events.
 fn seen(

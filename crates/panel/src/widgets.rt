@@ -1,7 +1,7 @@
 // The widget set: a header by value, with its table in three lent arrays. Fresh arrays may hold anything.
 use data::layers::LayerId;
 use data::widget::WidgetRect;
-use widget_index::insert::Decision;
+use widget_append::Decision;
 use widget_index::table::Edges;
 use widget_index::table::Numbers;
 use widget_index::table::WidgetRects;

@@ -48,9 +48,9 @@ use Rattle.data.proofs.widget.WidgetRect.Laws as T′
 use Rattle.widget_index.specs.declared.table.WidgetRects.{WidgetRects}
 use Rattle.widget_index.proofs.table.WidgetRects as S
 use Rattle.widget_index.proofs.table.WidgetRects.Laws as S′
-use Rattle.widget_index.specs.declared.insert.Decision.{Decision}
-use Rattle.widget_index.proofs.insert.Decision as D
-use Rattle.widget_index.proofs.insert.Decision.Laws as D′
+use Rattle.widget_append.specs.declared.Decision.{Decision}
+use Rattle.widget_append.proofs.Decision as D
+use Rattle.widget_append.proofs.Decision.Laws as D′
 use Rattle.widget_rect.specs.Told.{Inserts}
 use Rattle.widget_rect.proofs.Again as again
 use Rattle.widget_rect.proofs.insert.insert as insert-fn
