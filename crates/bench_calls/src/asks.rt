@@ -81,9 +81,18 @@ fn of_buttons(n: u64, s: InputState, codes: &[u32; CODES]) -> u64 {
     let b = PointerButton::Primary;
     let i = one_if(one_if(n, any_pressed(h, codes)), any_released(h, codes));
     let j = one_if(one_if(i, any_click(h, codes)), any_down(h));
-    let k = one_if(one_if(j, button_pressed(h, codes, b)), button_released(h, codes, b));
-    let l = one_if(one_if(k, button_clicked(h, codes, b)), button_double_clicked(h, codes, b));
-    one_if(one_if(l, button_triple_clicked(h, codes, b)), button_down(h, b))
+    let k = one_if(
+        one_if(j, button_pressed(h, codes, b)),
+        button_released(h, codes, b),
+    );
+    let l = one_if(
+        one_if(k, button_clicked(h, codes, b)),
+        button_double_clicked(h, codes, b),
+    );
+    one_if(
+        one_if(l, button_triple_clicked(h, codes, b)),
+        button_down(h, b),
+    )
 }
 
 // could_any_button_be_click, is_decidedly_dragging, is_long_press, press_origin, press_start_time, time_since_last_click: 6
@@ -101,7 +110,10 @@ fn of_presses(n: u64, s: InputState, codes: &[u32; CODES]) -> u64 {
     let i = one_if(n, could_any_button_be_click(h, codes, options, time, moved));
     let j = one_if(i, is_decidedly_dragging(h, codes, options, time, moved));
     let k = one_if(j, is_long_press(press, options, time, started));
-    let l = one_if(one_if(k, is_place(press_origin(h))), is_time(press_start_time(h)));
+    let l = one_if(
+        one_if(k, is_place(press_origin(h))),
+        is_time(press_start_time(h)),
+    );
     one_if(l, time_since_last_click(past, time) < 0.3)
 }
 
@@ -114,8 +126,14 @@ fn of_moves(n: u64, s: InputState) -> u64 {
     let d = delta(p);
     let v = velocity(p);
     let i = one_if(one_if(one_if(n, has_pointer(p)), is_still(p)), is_moving(p));
-    let j = one_if(one_if(i, is_place(latest_pos(p))), is_place(interact_pos(p)));
-    one_if(one_if(one_if(j, is_vec(total_drag_delta(p, h))), d.x > 0.5), v.x > 0.5)
+    let j = one_if(
+        one_if(i, is_place(latest_pos(p))),
+        is_place(interact_pos(p)),
+    );
+    one_if(
+        one_if(one_if(j, is_vec(total_drag_delta(p, h))), d.x > 0.5),
+        v.x > 0.5,
+    )
 }
 
 // key_down, key_pressed, is_scrolling, time_since_last_scroll, any_touches, multi_touch: 6
@@ -124,7 +142,10 @@ fn of_rest(n: u64, s: InputState, ds: Devices, presses: &[u8; 145]) -> u64 {
     let keys = s.keys;
     let wheel = s.wheel;
     let i = one_if(one_if(n, key_down(keys, 20)), key_pressed(presses, 20));
-    let j = one_if(one_if(i, is_scrolling(wheel)), time_since_last_scroll(wheel, clock.time) < 0.3);
+    let j = one_if(
+        one_if(i, is_scrolling(wheel)),
+        time_since_last_scroll(wheel, clock.time) < 0.3,
+    );
     one_if(one_if(j, any_touches(ds)), is_info(multi_touch(ds)))
 }
 

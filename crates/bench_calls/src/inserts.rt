@@ -75,13 +75,31 @@ pub fn run(times: u32, widgets: u32, layers: u32, mode: u32) -> u64 {
     let mut edges = [77.0f32; 8192];
     let w = widget(0, 1);
     let mut slots = [w; 1024];
-    let mut h = round(empty(), &mut words, &mut numbers, &mut edges, &mut slots, widgets, layers, false);
+    let mut h = round(
+        empty(),
+        &mut words,
+        &mut numbers,
+        &mut edges,
+        &mut slots,
+        widgets,
+        layers,
+        false,
+    );
     let mut left = times;
     while left > 0 {
         if mode == 0 {
             h = empty();
         }
-        h = round(h, &mut words, &mut numbers, &mut edges, &mut slots, widgets, layers, mode == 2);
+        h = round(
+            h,
+            &mut words,
+            &mut numbers,
+            &mut edges,
+            &mut slots,
+            widgets,
+            layers,
+            mode == 2,
+        );
         left -= 1;
     }
     let mut sum: u64 = 0;

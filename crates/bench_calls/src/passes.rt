@@ -57,11 +57,17 @@ pub fn of_state(s: InputState, ds: Devices, presses: &[u8; 145]) -> u64 {
     let origin = held.press_origin;
     let rest = wheel.unprocessed_wheel_delta;
     let smooth = totals.smooth_scroll_delta;
-    let a = single(single(double(0, clock.time), clock.unstable_dt), clock.stable_dt);
+    let a = single(
+        single(double(0, clock.time), clock.unstable_dt),
+        clock.stable_dt,
+    );
     let b = vec2(vec2(vec2(a, delta), velocity), direction);
     let c = of_place(of_place(b, latest), origin);
     let d = mix(flag(c, any_down(held)), held.event_count as u64);
-    let e = double(flag(d, past.has_moved_too_much_for_a_click), past.last_click_time);
+    let e = double(
+        flag(d, past.has_moved_too_much_for_a_click),
+        past.last_click_time,
+    );
     let f = double(vec2(vec2(e, rest), smooth), wheel.last_wheel_event);
     let g = single(single(f, totals.zoom_factor), totals.rotation_radians);
     let i = mix(g, num_presses(presses, 20) as u64);
