@@ -184,14 +184,14 @@ pub fn seek(words: &[u64], from: usize, id: u64) -> usize
     ensures { λ r. ⌜ r ≡ seek-from id from (hits-of (drop (from * 2) (now (words .entry)))) ⌝ }
 {
     let n = words.len() / 2;
-    let mut i = from;
-    while i < n {
-        if id == words[i * 2] {
-            return i;
+    let mut at = from;
+    while at < n {
+        if id == words[at * 2] {
+            return at;
         }
-        i += 1;
+        at += 1;
     }
-    i
+    at
 }
 
 // Whether the first place of the id is `top` or a later one. `hint` is looked at before the others.

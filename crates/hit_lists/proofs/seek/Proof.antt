@@ -12,10 +12,10 @@ use Rattle.hit_lists.proofs.seek.Reads as reads
 use Rattle.hit_lists.proofs.seek.Lts as lts
 
 abbrev Inv-loop : tie.InvT-loop
-Inv-loop words from id n i₀ i = (n ≡ length words / 2) × (seek-from id i (rest words i) ≡ seek-from id from (rest words from))
+Inv-loop words from id n at₀ at = (n ≡ length words / 2) × (seek-from id at (rest words at) ≡ seek-from id from (rest words from))
 
 abbrev μ-loop : tie.MeasureT-loop
-μ-loop words from id n i₀ i = n - i
+μ-loop words from id n at₀ at = n - at
 
 loop-holds : tie.Need-loop-holds Inv-loop μ-loop
 loop-holds c = (refl, refl)
@@ -32,8 +32,8 @@ shared-slice-read-if1 c = search needs
 returns : tie.Need-returns Inv-loop μ-loop
 returns c = let o = c .before .before .before in sym (seek-here _ _ _ (c .before .before .loop-test .taken) (c .if1 .taken)) ∙ o .loop .inv .1
 
-add-i : tie.Need-add-i Inv-loop μ-loop
-add-i c = search needs
+add-at : tie.Need-add-at Inv-loop μ-loop
+add-at c = search needs
 
 loop-less : tie.Need-loop-less Inv-loop μ-loop
 loop-less c = search needs
@@ -55,7 +55,7 @@ seek-spec =
     mul-if1-2
     shared-slice-read-if1
     returns
-    add-i
+    add-at
     loop-less
     loop-again
     returns-2)
