@@ -163,11 +163,13 @@ fn round(set: &mut WidgetRects, widgets: u32, layers: u32, move_to_top: bool) {
 fn inserts(n: u32, widgets: u32, layers: u32, mode: u32) -> u64 {
     let mut set = WidgetRects::default();
     round(&mut set, widgets, layers, false);
-    for _ in 0..n {
+    for _ in 0..n / widgets {
         if mode == 0 {
             set.clear();
         }
-        round(black_box(&mut set), widgets, layers, mode == 2);
+        if mode < 3 {
+            round(black_box(&mut set), widgets, layers, mode == 2);
+        }
     }
     (0..widgets).fold(0, |h, i| {
         let w = widget(i, layers);

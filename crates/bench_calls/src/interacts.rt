@@ -1,4 +1,5 @@
 // Interacts while the pointer hovers, each from the state that the last one left. An entry's id and sense are two words.
+use crate::sums::long;
 use crate::sums::mix;
 use hit_lists::Hit;
 use hit_lists::MaybeHit;
@@ -8,6 +9,9 @@ use interaction::state::Answer;
 use interaction::state::Interacted;
 use interaction::state::Interaction;
 use interaction::state::Seen;
+use pointer_state::events::CODES;
+use widget_index::table::Numbers;
+use widget_index::table::Words;
 use widget_rect::questions::empty;
 ghost use Prim.Native.Nat.{_≤_};
 
@@ -30,7 +34,7 @@ fn hit(words: &[u32], n: u32) -> MaybeHit {
     if i < words.len() / 2 {
         let h = Hit {
             id: id_of(words[i * 2]),
-            sense: words[i * 2 + 1] as u64,
+            sense: long(words[i * 2 + 1]),
         };
         return MaybeHit::Some(h);
     }
@@ -44,7 +48,7 @@ fn fill(list: &mut [u64; 128], words: &[u32], n: usize)
     while i < n {
         if i < words.len() / 2 {
             list[i * 2] = id_of(words[i * 2]);
-            list[i * 2 + 1] = words[i * 2 + 1] as u64;
+            list[i * 2 + 1] = long(words[i * 2 + 1]);
         }
         i += 1;
     }
@@ -95,6 +99,14 @@ fn start() -> Going {
     }
 }
 
+fn set_sense(list: &mut [u64; 128], left: u32) {
+    list[1] = (left % 2) as u64;
+}
+
+fn ends(g: Going, top: &[u64; 66], all: &[u64; 66]) -> u64 {
+    mix(mix(g.sum, top[1]), all[2])
+}
+
 fn at_most(n: usize) -> usize
     ensures { λ r. ⌜ r ≤ 64 ⌝ }
 {
@@ -102,6 +114,67 @@ fn at_most(n: usize) -> usize
         return n;
     }
     64
+}
+
+fn shorter(n: usize, limit: usize) -> usize
+    ensures { λ r. ⌜ r ≤ limit ⌝ }
+{
+    if n < limit {
+        return n;
+    }
+    limit
+}
+
+fn call_on(
+    g: Going,
+    codes: &[u32; CODES],
+    words: &Words,
+    numbers: &Numbers,
+    close: &[u64],
+    within: &[u64],
+    n: usize,
+    c: MaybeHit,
+    d: MaybeHit,
+    top: &mut [u64],
+    all: &mut [u64],
+) -> Going {
+    let s = g.interaction;
+    let a = shorter(n, close.len());
+    let b = shorter(n, within.len());
+    let out = interact(
+        hovering(),
+        codes,
+        1,
+        empty(),
+        words,
+        numbers,
+        s,
+        g.tally,
+        &close[0..a],
+        &within[0..b],
+        c,
+        d,
+        top,
+        all,
+    );
+    next(g, out)
+}
+
+// The first `n` words of the two lists.
+fn call(
+    g: Going,
+    codes: &[u32; CODES],
+    words: &Words,
+    numbers: &Numbers,
+    close: &[u64; 128],
+    within: &[u64; 128],
+    n: usize,
+    c: MaybeHit,
+    d: MaybeHit,
+    top: &mut [u64; 66],
+    all: &mut [u64; 66],
+) -> Going {
+    call_on(g, codes, words, numbers, close, within, n, c, d, top, all)
 }
 
 // The first entry's sense changes from call to call, so that no call is the same as the last.
@@ -118,32 +191,25 @@ pub fn run(times: u32, given: &[u32], click: u32, drag: u32) -> u64 {
     fill(&mut within, given, n);
     let c = hit(given, click);
     let d = hit(given, drag);
-    let set = empty();
-    let seen = hovering();
     let mut g = start();
     let mut left = times;
     while left > 0 {
-        close[1] = (left % 2) as u64;
-        within[1] = (left % 2) as u64;
-        let s = g.interaction;
-        let out = interact(
-            seen,
+        set_sense(&mut close, left);
+        set_sense(&mut within, left);
+        g = call(
+            g,
             &codes,
-            1,
-            set,
             &words,
             &numbers,
-            s,
-            g.tally,
-            &close[0..n * 2],
-            &within[0..n * 2],
+            &close,
+            &within,
+            n * 2,
             c,
             d,
             &mut top,
             &mut all,
         );
-        g = next(g, out);
         left -= 1;
     }
-    mix(mix(g.sum, top[1]), all[2])
+    ends(g, &top, &all)
 }

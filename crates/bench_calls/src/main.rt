@@ -4,13 +4,11 @@ mod asks;
 mod inserts;
 mod interacts;
 mod passes;
+mod slots;
 mod sums;
 
 use libc::STDOUT_FILENO;
 ghost use Prim.Native.Nat.{_≤_, _<_};
-
-// Words before those that follow.
-const HEAD: usize = 6;
 
 const WORDS: usize = 512;
 
@@ -71,6 +69,17 @@ fn run(q: Request, words: &[u32]) -> u64 {
     }
 }
 
+fn answer_to(q: Request, words: &[u32], n: usize) -> u64 {
+    if n < words.len() {
+        return run(q, &words[0..n]);
+    }
+    run(q, words)
+}
+
+fn answer(q: Request, words: &[u32; WORDS], n: usize) -> u64 {
+    answer_to(q, words, n)
+}
+
 fn main() {
     let mut words = [0u32; WORDS];
     let q = Request {
@@ -82,7 +91,7 @@ fn main() {
     };
     let n = at_most(next());
     read(&mut words, n);
-    let sum = run(q, &words[0..n]);
+    let sum = answer(q, &words, n);
     io::print_decimal(STDOUT_FILENO, sum);
     io::write_all(STDOUT_FILENO, b"\n");
 }

@@ -11,6 +11,10 @@ pub fn mix(h: u64, w: u64) -> u64 {
     std::num::wrapping_add_u64(rotated(h) ^ w, 0x9e37_79b9_7f4a_7c15)
 }
 
+pub fn long(w: u32) -> u64 {
+    w as u64
+}
+
 pub fn flag(h: u64, b: bool) -> u64 {
     if b {
         return mix(h, 1);
@@ -22,7 +26,7 @@ pub fn single(h: u64, x: f32) -> u64 {
     if x != x {
         return mix(h, 0x7fc0_0000);
     }
-    mix(h, f32::to_bits(x) as u64)
+    mix(h, long(f32::to_bits(x)))
 }
 
 pub fn double(h: u64, x: f64) -> u64 {
