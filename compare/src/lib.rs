@@ -168,6 +168,7 @@ pub mod containers {
 // The driver, and the requests:
 
 pub mod aimed;
+pub mod bench;
 pub mod domain;
 pub mod edges;
 pub mod hands;

@@ -15,7 +15,7 @@ use Rattle.model.specs.Types.{InteractRefusal}
 use Rattle.data.specs.Sense.{sense-ok}
 use Rattle.model.specs.Types.interaction.{TooManyHits, Malformed, ZeroId}
 use Rattle.model.specs.Interact.{Hit, entry-refusal, hits-refusal, has-hit, order-from}
-use Rattle.hit_lists.specs.Hits.{hits-of, hit-of}
+use Rattle.hit_lists.specs.Hits.{hits-of, hit-of, seek-from}
 
 -- the entries from entry i on, and entry i
 abbrev pub rest : List ℕ → ℕ → List Hit
@@ -114,3 +114,15 @@ module _ (ws : List ℕ) (d i : ℕ) where
   pub no-order : length ws / 2 ≤ i → order-from d i (rest ws i) ≡ 0
   unfolding order-from
   no-order h = rw (done ws i h)
+
+  pub seek-here : i < length ws / 2 → d ≡ at ws i .id → seek-from d i (rest ws i) ≡ i
+  unfolding seek-from
+  seek-here h e = rw (next ws i h, eq-eqb _ _ e)
+
+  pub seek-later : i < length ws / 2 → (d ≡ at ws i .id → ⊥) → seek-from d i (rest ws i) ≡ seek-from d (i + 1) (rest ws (i + 1))
+  unfolding seek-from
+  seek-later h e = rw (next ws i h, ne-eqb _ _ e, add-one)
+
+  pub no-seek : length ws / 2 ≤ i → seek-from d i (rest ws i) ≡ i
+  unfolding seek-from
+  no-seek h = rw (done ws i h)

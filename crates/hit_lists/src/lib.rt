@@ -3,11 +3,14 @@ use data::limits::ID_PLACES;
 use data::limits::MAX_HITS;
 use data::refusal::InteractRefusal;
 ghost use mathlib.Core.Path.{_≡_};
+ghost use Prim.Native.Nat.{_*_};
+ghost use lib.Dec.{leb};
+ghost use lib.ListN.{drop};
 ghost use Rattle.data.specs.Limits.{max-hits};
 ghost use Rattle.data.specs.Sense.{sense-ok, interactive};
 ghost use Rattle.model.specs.Pass.{or-else};
 ghost use Rattle.model.specs.Interact.{entry-refusal, hits-refusal, hit-refusal, input-refusal, has-hit, is-hit, order, order-of};
-ghost use Rattle.hit_lists.specs.Hits.{hits-of, hit-of, view, refusal-of, input, unknown, buffers-refusal};
+ghost use Rattle.hit_lists.specs.Hits.{hits-of, hit-of, view, refusal-of, input, unknown, buffers-refusal, hit-at, seek-from};
 
 // An entry: the words' own widths.
 pub struct Hit {
@@ -164,6 +167,51 @@ pub fn order(words: &[u64], id: u64) -> usize
         i += 1;
     }
     0
+}
+
+// Whether the entry at a place has the id.
+fn hit_at(words: &[u64], at: usize, id: u64) -> bool
+    ensures { λ r. ⌜ r ≡ hit-at id at (now (words .entry)) ⌝ }
+{
+    if at < words.len() / 2 {
+        return id == words[at * 2];
+    }
+    false
+}
+
+// The first place of the id from `from` on, the number of entries if it has none there.
+pub fn seek(words: &[u64], from: usize, id: u64) -> usize
+    ensures { λ r. ⌜ r ≡ seek-from id from (hits-of (drop (from * 2) (now (words .entry)))) ⌝ }
+{
+    let n = words.len() / 2;
+    let mut at = from;
+    while at < n {
+        if id == words[at * 2] {
+            return at;
+        }
+        at += 1;
+    }
+    at
+}
+
+// Whether the first place of the id is `top` or a later one. `hint` is looked at before the others.
+pub fn lies_from(words: &[u64], top: usize, hint: usize, id: u64) -> bool
+    ensures { λ r. ⌜ r ≡ leb top (order id (hits-of (now (words .entry)))) ⌝ }
+{
+    if top == 0 {
+        return true;
+    }
+    if words.len() / 2 <= top {
+        return false;
+    }
+    let below = top * 2;
+    if has_hit(&words[..below], id) {
+        return false;
+    }
+    if hit_at(words, hint, id) {
+        return true;
+    }
+    has_hit(words, id)
 }
 
 pub fn order_of(words: &[u64], hit: MaybeHit) -> usize

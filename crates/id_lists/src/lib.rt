@@ -1,8 +1,9 @@
 // Sets of ids, written to the start of a lent buffer: ascending, without repeats. The places beyond keep their contents.
 use hit_lists::MaybeHit;
 use hit_lists::interactive;
-use hit_lists::order;
+use hit_lists::lies_from;
 use hit_lists::order_of;
+use hit_lists::seek;
 ghost use mathlib.Core.Path.{_≡_};
 ghost use mathlib.Core.List.{_∷_, _++_};
 ghost use Prim.Native.Nat.{_+_, _<_, _≤_, max};
@@ -117,17 +118,15 @@ fn insert_hits(words: &[u64], ids: &mut [u64], count: usize) -> usize
     r
 }
 
-// Whether an entry senses no click and no drag and lies on top of the interactive one, whose place in `close` is `top`.
-fn on_top(top: usize, close: &[u64], id: u64, sense: u64) -> bool
+// Whether an entry senses no click and no drag and lies on top of the interactive one, whose place in `close` is `top`. `hint` is a place of `close` to
+// look at first.
+fn on_top(top: usize, close: &[u64], hint: usize, id: u64, sense: u64) -> bool
     ensures { λ r. ⌜ r ≡ on-top top (hits-of (now (close .entry))) (hit-of id sense) ⌝ }
 {
     if interactive(sense) {
         return false;
     }
-    if top == 0 {
-        return true;
-    }
-    top <= order(close, id)
+    lies_from(close, top, hint, id)
 }
 
 fn insert_if(ids: &mut [u64], count: usize, keep: bool, id: u64) -> usize
@@ -140,16 +139,19 @@ fn insert_if(ids: &mut [u64], count: usize, keep: bool, id: u64) -> usize
     count
 }
 
+// Both lists are in painting order as a rule, so an entry is sought from the last one's place in `close` on.
 fn insert_on_top(top: usize, close: &[u64], words: &[u64], ids: &mut [u64], count: usize) -> usize
     requires { ⌜ count + length (hits-of (now words)) ≤ length (now ids) ⌝ }
     ensures { λ r. ⌜ Written (insert-on-top top (hits-of (now (close .entry))) (hits-of (now (words .entry))) (take count (now (ids .entry)))) (now (ids .entry)) r (now (ids .exit)) ⌝ }
 {
     let n = words.len() / 2;
     let mut r = count;
+    let mut at: usize = 0;
     let mut i: usize = 0;
     while i < n {
         let id = words[i * 2];
-        let keep = on_top(top, close, id, words[i * 2 + 1]);
+        at = seek(close, at, id);
+        let keep = on_top(top, close, at, id, words[i * 2 + 1]);
         r = insert_if(ids, r, keep, id);
         i += 1;
     }

@@ -16,12 +16,13 @@ use Rattle.id_lists.proofs.insert_on_top.Reads as reads
 use Rattle.id_lists.proofs.insert_on_top.Lts as lts
 use Rattle.id_lists.proofs.insert_if.Reads as insert-if-reads
 use Rattle.id_lists.proofs.on_top.Reads as on-top-reads
+use Rattle.hit_lists.proofs.seek.Reads as seek-reads
 
 abbrev Inv-loop : tie.InvT-loop
-Inv-loop top close words ids₀ count n r₀ i₀ ids r i = (n ≡ length words / 2) × (i ≤ n) × (count + n ≤ length ids₀) × (r ≤ count + i) × (length ids ≡ length ids₀) × Written (take r ids) ids₀ r ids × (insert-on-top top (hits-of close) (rest words i) (take r ids) ≡ insert-on-top top (hits-of close) (hits-of words) (take count ids₀))
+Inv-loop top close words ids₀ count n r₀ at₀ i₀ ids r at i = (n ≡ length words / 2) × (i ≤ n) × (count + n ≤ length ids₀) × (r ≤ count + i) × (length ids ≡ length ids₀) × Written (take r ids) ids₀ r ids × (insert-on-top top (hits-of close) (rest words i) (take r ids) ≡ insert-on-top top (hits-of close) (hits-of words) (take count ids₀))
 
 abbrev μ-loop : tie.MeasureT-loop
-μ-loop top close words ids₀ count n r₀ i₀ ids r i = n - i
+μ-loop top close words ids₀ count n r₀ at₀ i₀ ids r at i = n - i
 
 loop-holds : tie.Need-loop-holds Inv-loop μ-loop
 loop-holds c =
@@ -37,6 +38,9 @@ mul-id-2 c = search needs
 
 shared-slice-read-id : tie.Need-shared-slice-read-id Inv-loop μ-loop
 shared-slice-read-id c = search needs
+
+seek-requires : tie.Need-seek-requires Inv-loop μ-loop
+seek-requires c κs = search needs
 
 mul-on-top : tie.Need-mul-on-top Inv-loop μ-loop
 mul-on-top c = search needs
@@ -64,7 +68,7 @@ loop-less c = search needs
 
 loop-again : tie.Need-loop-again Inv-loop μ-loop
 loop-again c =
-    let o = c .before .before .before .before .before .before .before .before in
+    let o = c .before .before .before .before .before .before .before .before .before in
     let v = o .loop .inv in
     let w = c .before .before .insert-if .ensures in
     let k = c .before .before .before .before .on-top in
@@ -75,7 +79,7 @@ loop-again c =
       omega (arith, step-bound _ _ _ (v .5) (insert-if (k .result) d) (if-grows (k .result) d) _ _ w),
       omega arith,
       stepped _ _ _ (v .5) (insert-if (k .result) d) (if-grows (k .result) d) _ _ w,
-      rw (step-list _ _ _ (v .5) (insert-if (k .result) d) (if-grows (k .result) d) _ _ w, k .ensures) (sym (top-next _ _ _ _ (c .before .before .before .before .before .before .before .loop-test .taken) _) ∙ v .6),
+      rw (step-list _ _ _ (v .5) (insert-if (k .result) d) (if-grows (k .result) d) _ _ w, k .ensures) (sym (top-next _ _ _ _ (c .before .before .before .before .before .before .before .before .loop-test .taken) _) ∙ v .6),
     )
 
 same-length : tie.Need-same-length Inv-loop μ-loop
@@ -96,6 +100,7 @@ insert-on-top-spec =
     mul-id
     mul-id-2
     shared-slice-read-id
+    seek-requires
     mul-on-top
     add-on-top
     mul-on-top-2

@@ -1,0 +1,215 @@
+// Interacts while the pointer hovers, each from the state that the last one left. An entry's id and sense are two words.
+use crate::sums::long;
+use crate::sums::mix;
+use hit_lists::Hit;
+use hit_lists::MaybeHit;
+use id_lists::MaybeId;
+use interaction::interact::interact;
+use interaction::state::Answer;
+use interaction::state::Interacted;
+use interaction::state::Interaction;
+use interaction::state::Seen;
+use pointer_state::events::CODES;
+use widget_index::table::Numbers;
+use widget_index::table::Words;
+use widget_rect::questions::empty;
+ghost use Prim.Native.Nat.{_≤_};
+
+pub struct Going {
+    pub interaction: Interaction,
+    pub tally: u32,
+    pub sum: u64,
+}
+
+fn id_of(w: u32) -> u64 {
+    w as u64 * 0x1_0000_0001
+}
+
+// Entry `n` of the words, counted from 1; 0 is none.
+fn hit(words: &[u32], n: u32) -> MaybeHit {
+    if n == 0 {
+        return MaybeHit::None;
+    }
+    let i = (n - 1) as usize;
+    if i < words.len() / 2 {
+        let h = Hit {
+            id: id_of(words[i * 2]),
+            sense: long(words[i * 2 + 1]),
+        };
+        return MaybeHit::Some(h);
+    }
+    MaybeHit::None
+}
+
+fn fill(list: &mut [u64; 128], words: &[u32], n: usize)
+    requires { ⌜ n ≤ 64 ⌝ }
+{
+    let mut i: usize = 0;
+    while i < n {
+        if i < words.len() / 2 {
+            list[i * 2] = id_of(words[i * 2]);
+            list[i * 2 + 1] = long(words[i * 2 + 1]);
+        }
+        i += 1;
+    }
+}
+
+fn answered(sum: u64, a: Answer) -> Going {
+    let shot = a.snapshot;
+    let kept = a.interaction;
+    Going {
+        interaction: kept,
+        tally: a.tally,
+        sum: mix(mix(sum, shot.hovered as u64), shot.contains_pointer as u64),
+    }
+}
+
+fn next(g: Going, out: Interacted) -> Going {
+    match out {
+        Interacted::Refused(r) => {
+            let mut h = g;
+            h.sum = mix(g.sum, r.number() as u64);
+            h
+        }
+        Interacted::Taken(a) => answered(g.sum, a),
+    }
+}
+
+fn hovering() -> Seen {
+    Seen {
+        escape_pressed: false,
+        is_long_touch: false,
+        is_decidedly_dragging: false,
+        could_any_button_be_click: false,
+        any_down: false,
+        has_pointer: true,
+    }
+}
+
+fn start() -> Going {
+    let none = Interaction {
+        potential_click_id: MaybeId::None,
+        potential_drag_id: MaybeId::None,
+        dragged: MaybeId::None,
+    };
+    Going {
+        interaction: none,
+        tally: 0,
+        sum: 0,
+    }
+}
+
+fn set_sense(list: &mut [u64; 128], left: u32) {
+    list[1] = (left % 2) as u64;
+}
+
+fn ends(g: Going, top: &[u64; 66], all: &[u64; 66]) -> u64 {
+    mix(mix(g.sum, top[1]), all[2])
+}
+
+fn at_most(n: usize) -> usize
+    ensures { λ r. ⌜ r ≤ 64 ⌝ }
+{
+    if n < 64 {
+        return n;
+    }
+    64
+}
+
+fn shorter(n: usize, limit: usize) -> usize
+    ensures { λ r. ⌜ r ≤ limit ⌝ }
+{
+    if n < limit {
+        return n;
+    }
+    limit
+}
+
+fn call_on(
+    g: Going,
+    codes: &[u32; CODES],
+    words: &Words,
+    numbers: &Numbers,
+    close: &[u64],
+    within: &[u64],
+    n: usize,
+    c: MaybeHit,
+    d: MaybeHit,
+    top: &mut [u64],
+    all: &mut [u64],
+) -> Going {
+    let s = g.interaction;
+    let a = shorter(n, close.len());
+    let b = shorter(n, within.len());
+    let out = interact(
+        hovering(),
+        codes,
+        1,
+        empty(),
+        words,
+        numbers,
+        s,
+        g.tally,
+        &close[0..a],
+        &within[0..b],
+        c,
+        d,
+        top,
+        all,
+    );
+    next(g, out)
+}
+
+// The first `n` words of the two lists.
+fn call(
+    g: Going,
+    codes: &[u32; CODES],
+    words: &Words,
+    numbers: &Numbers,
+    close: &[u64; 128],
+    within: &[u64; 128],
+    n: usize,
+    c: MaybeHit,
+    d: MaybeHit,
+    top: &mut [u64; 66],
+    all: &mut [u64; 66],
+) -> Going {
+    call_on(g, codes, words, numbers, close, within, n, c, d, top, all)
+}
+
+// The first entry's sense changes from call to call, so that no call is the same as the last.
+pub fn run(times: u32, given: &[u32], click: u32, drag: u32) -> u64 {
+    let mut close = [0u64; 128];
+    let mut within = [0u64; 128];
+    let mut top = [0u64; 66];
+    let mut all = [0u64; 66];
+    let codes = [0u32; 256];
+    let words = [0u64; 2080];
+    let numbers = [0u32; 5184];
+    let n = at_most(given.len() / 2);
+    fill(&mut close, given, n);
+    fill(&mut within, given, n);
+    let c = hit(given, click);
+    let d = hit(given, drag);
+    let mut g = start();
+    let mut left = times;
+    while left > 0 {
+        set_sense(&mut close, left);
+        set_sense(&mut within, left);
+        g = call(
+            g,
+            &codes,
+            &words,
+            &numbers,
+            &close,
+            &within,
+            n * 2,
+            c,
+            d,
+            &mut top,
+            &mut all,
+        );
+        left -= 1;
+    }
+    ends(g, &top, &all)
+}

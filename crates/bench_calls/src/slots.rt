@@ -1,0 +1,15 @@
+// The slots of the widgets, lent to `settle` and taken back. The array goes in and out by value: its copies are measured by themselves.
+use data::widget::WidgetRect;
+use widget_rect::slice::settle;
+ghost use mathlib.Core.Path.{_≡_};
+ghost use Prim.Native.Nat.{_≤_};
+ghost use Rattle.widget_index.specs.Insert.{settled};
+
+pub fn settled(a: [WidgetRect; 1024], from: usize, to: usize, w: WidgetRect) -> [WidgetRect; 1024]
+    requires { ⌜ to ≤ 1024 ⌝ }
+    ensures { λ r. ⌜ r ≡ settled from to w a ⌝ }
+{
+    let mut b = a;
+    settle(&mut b, from, to, w);
+    b
+}
