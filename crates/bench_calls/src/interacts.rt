@@ -9,7 +9,7 @@ use interaction::state::Answer;
 use interaction::state::Interacted;
 use interaction::state::Interaction;
 use interaction::state::Seen;
-use pointer_state::events::CODES;
+use pointer_events::CODES;
 use widget_index::table::Numbers;
 use widget_index::table::Words;
 use widget_rect::questions::empty;

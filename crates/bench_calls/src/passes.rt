@@ -15,8 +15,8 @@ use input_state::state::InputState;
 use input_state::state::fresh;
 use key_state::keys::num_presses;
 use pointer_questions::buttons::any_down;
+use touch_questions::any_touches;
 use touch_state::devices::Devices;
-use touch_state::devices::any_touches;
 use touch_state::devices::none;
 
 pub fn input() -> PassInput {
