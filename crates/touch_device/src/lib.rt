@@ -37,7 +37,7 @@ pub fn new(id: u64) -> Device
     }
 }
 
-fn is_start(phase: TouchPhase) -> bool
+pub fn is_start(phase: TouchPhase) -> bool
     ensures { λ r. ⌜ r ≡ is-start phase ⌝ }
 {
     match phase {

@@ -4,10 +4,11 @@ use data::touch::ActiveTouch;
 use data::touch::TouchPhase;
 use emath::pos2::MaybePos2;
 use touch_device::Device;
+use touch_device::is_start;
 ghost use mathlib.Core.Path.{_≡_};
 ghost use mathlib.Core.List.{[], map};
 ghost use Prim.Native.Nat.{_≤_, _<_};
-ghost use lib.ListN.{length, set};
+ghost use lib.ListN.{length};
 ghost use Rattle.data.specs.Limits.{max-devices};
 ghost use Rattle.model.specs.Touch.{no-place, find-device};
 ghost use Rattle.touches.specs.Touches.{place, index, is-at, inserted-at};
@@ -109,27 +110,19 @@ fn insert_at(ds: Devices, i: usize, d: Device) -> Devices
     }
 }
 
-fn put(ds: Devices, i: usize, d: Device) -> Devices
-    requires { ⌜ i < length (known ds) ⌝ }
-    ensures { λ r. ⌜ known r ≡ set (known ds) i d ⌝ }
-{
-    let mut a = ds.places;
-    a[i] = d;
-    Devices {
-        count: ds.count,
-        places: a,
-    }
-}
-
 // A touch event makes its device known and changes the touches that it holds.
 pub fn on_touch(ds: Devices, device_id: u64, phase: TouchPhase, t: ActiveTouch) -> Devices
     ensures { λ r. ⌜ marked r ≡ touch-step «device_id» phase t (marked ds) ⌝ }
 {
     let i = place_of(ds, device_id);
     if is_at(ds, i, device_id) {
-        let a = ds.places;
+        let mut a = ds.places;
         let d = a[i];
-        return put(ds, i, touch_device::on_touch(d, phase, t));
+        a[i] = touch_device::on_touch(d, phase, t);
+        return Devices {
+            count: ds.count,
+            places: a,
+        };
     }
     if len(ds) < MAX_DEVICES {
         let d = touch_device::new(device_id);
@@ -138,18 +131,21 @@ pub fn on_touch(ds: Devices, device_id: u64, phase: TouchPhase, t: ActiveTouch) 
     ds
 }
 
-// Is there no place for a touch event: a device too many, or the Start of a touch too many?
+// Is there no place for a touch event: a device too many, or the Start of a touch too many? Only for a Start are the touches looked at.
 pub fn no_place(ds: Devices, device_id: u64, phase: TouchPhase, id: u64) -> bool
     ensures { λ r. ⌜ r ≡ no-place phase id (length (view ds)) (find-device «device_id» (view ds)) ⌝ }
 {
     let n = len(ds);
     let i = index_of(ds, device_id);
-    if i < n {
+    if n <= i {
+        return MAX_DEVICES <= n;
+    }
+    if is_start(phase) {
         let a = ds.places;
         let d = a[i];
         return touch_device::is_full(d, phase, id);
     }
-    MAX_DEVICES <= n
+    false
 }
 
 // The end of a pass for every device.

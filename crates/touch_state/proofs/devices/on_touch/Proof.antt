@@ -5,6 +5,7 @@ use native.Mathlib.Omega.{arith}
 use Prim.Native.Nat.{_+_, _-_, _≤_, _<_}
 use mathlib.Core.List.{map}
 use lib.ListN.{length, take, drop, length-take, length-map, length-set}
+use lib.Seq.{take-set-lt}
 use Rattle.touch_state.specs.View.{device-id}
 use Rattle.touches.proofs.Upsert.{at-lt, place-le}
 use Rattle.touch_state.proofs.Known.{touched-hit, touched-miss, touched-full}
@@ -34,15 +35,29 @@ array-copy-out-d c =
 on-touch-requires : tie.Need-on-touch-requires
 on-touch-requires c κs = search needs
 
-put-requires : tie.Need-put-requires
-put-requires c κs = at-lt device-id _ _ _ (sym (c .before .before .before .before .is-at .ensures) ∙ c .before .before .before .if1 .taken)
+mul-a : tie.Need-mul-a
+mul-a c =
+    let ds = c .before .before .before .before .before .before .args .ds in
+    let l : length (ds .places) ≡ 4 = simp length-map at (c .before .before .before .before .before .before .good .0 .1 .1 .1 .0 .1 .0 .1) in
+    let m : length (take (ds .count) (ds .places)) ≤ 4 = omega (arith, length-take (ds .count) (ds .places)) in
+    omega (arith, at-lt device-id _ _ (take (ds .count) (ds .places)) (sym (c .before .before .before .before .is-at .ensures) ∙ c .before .before .before .if1 .taken))
+
+array-set-from-a : tie.Need-array-set-from-a
+array-set-from-a c =
+    let ds = c .before .before .before .before .before .before .args .ds in
+    let l : length (ds .places) ≡ 4 = simp length-map at (c .before .before .before .before .before .before .good .0 .1 .1 .1 .0 .1 .0 .1) in
+    let m : length (take (ds .count) (ds .places)) ≤ 4 = omega (arith, length-take (ds .count) (ds .places)) in
+    omega (arith, at-lt device-id _ _ (take (ds .count) (ds .places)) (sym (c .before .before .before .before .is-at .ensures) ∙ c .before .before .before .if1 .taken))
 
 returns : tie.Need-returns
 returns c =
-    let ds = c .before .before .before .before .before .before .before .args .ds in
-    let l : length (ds .places) ≡ 4 = simp length-map at (c .before .before .before .before .before .before .before .good .0 .1 .1 .1 .0 .1 .0 .1) in
+    let ds = c .before .before .before .before .before .before .args .ds in
+    let l : length (ds .places) ≡ 4 = simp length-map at (c .before .before .before .before .before .before .good .0 .1 .1 .1 .0 .1 .0 .1) in
     let m : length (take (ds .count) (ds .places)) ≤ 4 = omega (arith, length-take (ds .count) (ds .places)) in
-    rw (c .put .ensures) (touched-hit _ _ (ds .count) (ds .places) _ _ (c .before .before .before .before .before .before .place-of .ensures) _ _ (sym (c .before .before .before .before .before .is-at .ensures) ∙ c .before .before .before .before .if1 .taken) m (c .before .on-touch .ensures))
+    let q = sym (c .before .before .before .before .is-at .ensures) ∙ c .before .before .before .if1 .taken in
+    let h = at-lt device-id _ _ (take (ds .count) (ds .places)) q in
+    rw (take-set-lt (ds .count) (ds .places) (c .before .before .before .before .before .place-of .result) (c .on-touch .result) (omega (arith, h, length-take (ds .count) (ds .places))))
+    (touched-hit _ _ (ds .count) (ds .places) _ _ (c .before .before .before .before .before .place-of .ensures) _ _ q m (c .on-touch .ensures))
 
 len-requires : tie.Need-len-requires
 len-requires c κs = search needs
@@ -75,7 +90,8 @@ on-touch-spec =
     mul-d
     array-copy-out-d
     on-touch-requires
-    put-requires
+    mul-a
+    array-set-from-a
     returns
     len-requires
     new-requires
