@@ -1,32 +1,34 @@
 -- An event that is shaped is of its first word's kind, or `Other`; a key's place is one of egui's. Assumes nothing.
 use mathlib.Core.Path.{_≡_, refl, sym, _∙_, subst}
 use mathlib.Core.Bool.{Bool, true, false, cond}
-use mathlib.Core.List.{List, []}
+use mathlib.Core.List.{List, [], _∷_}
 use mathlib.Core.Logic.{_⊎_, inl, inr, ⊎-elim}
 use Prim.Native.Nat.{ℕ, suc, _-_, _≤_, _<_}
 use native.Mathlib.Omega.{arith}
 use lib.Dec.{T, eqb, ltb}
 use lib.ListN.{getD, length, drop}
-use borrow.Author.Tests.{eqb-true, ltb-true, ltb-false}
+use borrow.Author.Tests.{eqb-true, eqb-false, ltb-true, ltb-false}
 use Rattle.data.specs.Numbers.{kind-number}
 use Rattle.feed.specs.Types.{Event, Other}
 use Rattle.feed.specs.declared.shape.MaybeEvent.{MaybeEvent}
 use Rattle.feed.specs.declared.shape.MaybeEvent.the-variants.{None as no-event, Some as some-event}
 use Rattle.feed.specs.Encode.{fields-ok}
 use Rattle.feed.specs.Split.{kind, low-bits, following}
-use Rattle.feed.specs.Shape.{clean, field-below, key-shape, modifiers-shape, moved-shape, motion-shape, button-shape, zoom-shape, rotate-shape, touch-shape, wheel-shape, focus-shape, shape-by-kind}
+use Rattle.feed.specs.Shape.{clean, field-below, key-shape, modifiers-shape, moved-shape, motion-shape, button-shape, zoom-shape, rotate-shape, touch-shape, wheel-shape, focus-shape, shape-by-kind, shape}
 use Rattle.event_loop.specs.Shaped.{event-or-other, shaped-at}
+use Rattle.event_loop.specs.Lists.{lists, list-of, reads}
+use Rattle.feed.proofs.Lengths.{all-le, getD-le}
 use Rattle.event_loop.proofs.Walk.{at-past, at-short, at-whole}
 
 abbrev Of-kind : ℕ → Event → Type 0
 Of-kind k e = ((kind-number e ≡ k) ⊎ (e ≡ Other)) × T (fields-ok e)
 
+-- what is shaped is of kind k
 abbrev Of : ℕ → MaybeEvent → Type 0
-Of k m = Of-kind k (event-or-other m)
+Of k m = (e : Event) → m ≡ some-event e → (kind-number e ≡ k) × T (fields-ok e)
 
 none-of : (k : ℕ) → Of k no-event
-unfolding event-or-other fields-ok
-none-of k = (inr refl, tt)
+none-of k e h = let z : _≡_ {A = ℕ} 0 1 = cc in absurd (omega arith)
 
 by-cond : (k : ℕ) (b : Bool) (x y : MaybeEvent) → (b ≡ true → Of k x) → Of k y → Of k (cond b x y)
 by-cond k true x y f g = f refl
@@ -42,8 +44,10 @@ unfolding field-below
 below-of k limit field m h = by-cond k (ltb field limit) m no-event h (none-of k)
 
 some-of : (k n : ℕ) (e : Event) → eqb k n ≡ true → kind-number e ≡ n → T (fields-ok e) → Of k (some-event e)
-unfolding event-or-other
-some-of k n e t h f = (inl (h ∙ sym (eqb-true k n t)), f)
+some-of k n e t h f d p =
+    let same : e ≡ d = cc in
+    let both : (kind-number e ≡ k) × T (fields-ok e) = (h ∙ sym (eqb-true k n t), f) in
+    rw same at both
 
 by-kind : (k low : ℕ) (ws : List ℕ) → Of k (shape-by-kind k low ws)
 unfolding shape-by-kind key-shape modifiers-shape moved-shape motion-shape button-shape zoom-shape rotate-shape touch-shape wheel-shape focus-shape fields-ok
@@ -63,6 +67,13 @@ by-kind k low ws =
     (by-cond k (eqb k 12) _ _ (λ t. clean-of k 1 low _ (some-of k 12 _ t refl tt))
     (none-of k)))))))))))))
 
+or-other : (k : ℕ) (m : MaybeEvent) → Of k m → Of-kind k (event-or-other m)
+unfolding event-or-other fields-ok
+or-other k no-event h = (inr refl, tt)
+or-other k (some-event e) h =
+    let f = h e refl in
+    (inl (f .0), f .1)
+
 other-of : (k : ℕ) → Of-kind k Other
 unfolding fields-ok
 other-of k = (inr refl, tt)
@@ -72,7 +83,7 @@ module _ (ws : List ℕ) (at : ℕ) where
   of-kind = go (ltb at (length ws)) refl
     where
       go2 : (b : Bool) → ltb (following (getD ws at 0)) (length ws - at) ≡ b → at < length ws → Of-kind (kind (getD ws at 0)) (shaped-at ws at)
-      go2 true t h = rw (at-whole ws at h (ltb-true _ _ t)) (by-kind (kind (getD ws at 0)) (low-bits (getD ws at 0)) (drop (suc at) ws))
+      go2 true t h = rw (at-whole ws at h (ltb-true _ _ t)) (or-other _ _ (by-kind (kind (getD ws at 0)) (low-bits (getD ws at 0)) (drop (suc at) ws)))
       go2 false t h = rw (at-short ws at h (ltb-false _ _ t)) (other-of _)
 
       go : (b : Bool) → ltb at (length ws) ≡ b → Of-kind (kind (getD ws at 0)) (shaped-at ws at)
@@ -85,3 +96,20 @@ module _ (ws : List ℕ) (at : ℕ) where
 
   pub fields : T (fields-ok (shaped-at ws at))
   fields = of-kind .1
+
+-- words that say an event: it is of their kind
+pub kind-of : (w : ℕ) (ws : List ℕ) (e : Event) → shape (w ∷ ws) ≡ some-event e → kind-number e ≡ kind w
+unfolding shape
+kind-of w ws e h = go (ltb (length ws) (following w)) h
+  where
+    go : (b : Bool) → cond b no-event (shape-by-kind (kind w) (low-bits w) ws) ≡ some-event e → kind-number e ≡ kind w
+    go true h = none-of (kind w) e h .0
+    go false h = by-kind (kind w) (low-bits w) ws e h .0
+
+-- an event that list l does not read is of none of its kinds
+pub not-read : (l : ℕ) (e : Event) (k : ℕ) → reads l e ≡ false → list-of k ≡ l → kind-number e ≡ k → ⊥
+not-read l e k h own same = eqb-false (list-of (kind-number e)) l h (rw same own)
+
+pub list-small : (k : ℕ) → list-of k ≤ 5
+unfolding all-le
+list-small k = getD-le 5 lists k tt

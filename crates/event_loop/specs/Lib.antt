@@ -1,2 +1,3 @@
 pub mod Shaped
+pub mod Lists
 pub mod Loop

@@ -1,13 +1,11 @@
 -- The events of a feed by their shapes alone, whatever their floats. Of a feed that a pass takes these are its events.
-use Prim.Native.Nat.{ℕ, _+_, _-_}
-use mathlib.Core.Bool.{cond}
+use Prim.Native.Nat.{ℕ}
 use mathlib.Core.List.{List, map}
-use lib.Dec.{ltb}
-use lib.ListN.{getD, length, drop}
+use lib.ListN.{drop}
 use Rattle.feed.specs.Types.{Event, Other}
 use Rattle.feed.specs.declared.shape.MaybeEvent.{MaybeEvent}
 use Rattle.feed.specs.declared.shape.MaybeEvent.the-variants.{None as no-event, Some as some-event}
-use Rattle.feed.specs.Split.{Piece, pieces, pieces-from, following, piece-length}
+use Rattle.feed.specs.Split.{Piece, pieces, pieces-from}
 use Rattle.feed.specs.Shape.{shape}
 use Rattle.feed.specs.Decode.{piece-at}
 
@@ -33,7 +31,3 @@ shaped-after ws at = map shaped-piece (pieces-from at 0 (drop at ws))
 -- the event at word `at`
 unfoldable pub shaped-at : List ℕ → ℕ → Event
 shaped-at ws at = shaped (piece-at ws at)
-
--- the place after it: the end, where the piece is cut short
-unfoldable pub next-place : List ℕ → ℕ → ℕ
-next-place ws at = cond (ltb (following (getD ws at 0)) (length ws - at)) (at + piece-length (getD ws at 0)) (length ws)

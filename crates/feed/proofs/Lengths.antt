@@ -9,11 +9,11 @@ use lib.Ieee.Fits.{and-l, and-r}
 use lib.ListN.{getD}
 use Rattle.feed.specs.Split.{kind, lengths, following}
 
-unfoldable all-le : ℕ → List ℕ → Bool
+unfoldable pub all-le : ℕ → List ℕ → Bool
 all-le n [] = true
 all-le n (x ∷ xs) = leb x n && all-le n xs
 
-getD-le : (n : ℕ) (xs : List ℕ) (k : ℕ) → T (all-le n xs) → getD xs k 0 ≤ n
+pub getD-le : (n : ℕ) (xs : List ℕ) (k : ℕ) → T (all-le n xs) → getD xs k 0 ≤ n
 unfolding all-le
 getD-le n [] k t = omega arith
 getD-le n (x ∷ xs) zero t = leb→le x n (and-l (leb x n) (all-le n xs) t)

@@ -28,7 +28,7 @@ pub enum MaybeEvent {
 }
 
 // An event with no field: no bit is set.
-fn bare(low: u32, e: Event) -> MaybeEvent
+pub fn bare(low: u32, e: Event) -> MaybeEvent
     ensures { λ r. ⌜ r ≡ clean 1 low (some-event e) ⌝ }
 {
     if low < 1 {
@@ -37,7 +37,7 @@ fn bare(low: u32, e: Event) -> MaybeEvent
     MaybeEvent::None
 }
 
-fn key_shape(low: u32) -> MaybeEvent
+pub fn key_shape(low: u32) -> MaybeEvent
     ensures { λ r. ⌜ r ≡ key-shape low ⌝ }
 {
     if low < 512 {
@@ -49,7 +49,7 @@ fn key_shape(low: u32) -> MaybeEvent
     MaybeEvent::None
 }
 
-fn modifiers_shape(low: u32) -> MaybeEvent
+pub fn modifiers_shape(low: u32) -> MaybeEvent
     ensures { λ r. ⌜ r ≡ modifiers-shape low ⌝ }
 {
     if low < 32 {
@@ -59,21 +59,21 @@ fn modifiers_shape(low: u32) -> MaybeEvent
     MaybeEvent::None
 }
 
-fn moved_shape(low: u32, x: u32, y: u32) -> MaybeEvent
+pub fn moved_shape(low: u32, x: u32, y: u32) -> MaybeEvent
     ensures { λ r. ⌜ r ≡ moved-shape low x y ⌝ }
 {
     let pos = pos_of(x, y);
     bare(low, Event::PointerMoved(pos))
 }
 
-fn motion_shape(low: u32, x: u32, y: u32) -> MaybeEvent
+pub fn motion_shape(low: u32, x: u32, y: u32) -> MaybeEvent
     ensures { λ r. ⌜ r ≡ motion-shape low x y ⌝ }
 {
     let delta = vec_of(x, y);
     bare(low, Event::MouseMoved(delta))
 }
 
-fn button_shape(low: u32, x: u32, y: u32) -> MaybeEvent
+pub fn button_shape(low: u32, x: u32, y: u32) -> MaybeEvent
     ensures { λ r. ⌜ r ≡ button-shape low x y ⌝ }
 {
     let number = low / 32 % 8;
@@ -94,14 +94,14 @@ fn button_shape(low: u32, x: u32, y: u32) -> MaybeEvent
     MaybeEvent::None
 }
 
-fn zoom_shape(low: u32, x: u32) -> MaybeEvent
+pub fn zoom_shape(low: u32, x: u32) -> MaybeEvent
     ensures { λ r. ⌜ r ≡ zoom-shape low x ⌝ }
 {
     let factor = float_of(x);
     bare(low, Event::Zoom(factor))
 }
 
-fn rotate_shape(low: u32, x: u32) -> MaybeEvent
+pub fn rotate_shape(low: u32, x: u32) -> MaybeEvent
     ensures { λ r. ⌜ r ≡ rotate-shape low x ⌝ }
 {
     let radians = float_of(x);
@@ -109,7 +109,7 @@ fn rotate_shape(low: u32, x: u32) -> MaybeEvent
 }
 
 // The words after the first are those after `at`; there is one more with force.
-fn touch_shape(feed: &[u32], at: usize, low: u32) -> MaybeEvent
+pub fn touch_shape(feed: &[u32], at: usize, low: u32) -> MaybeEvent
     requires { ⌜ at + 6 + low / 4 % 2 < length (now feed) ⌝ }
     ensures { λ r. ⌜ r ≡ touch-shape low (drop (suc at) (now (feed .entry))) ⌝ }
 {
@@ -127,7 +127,7 @@ fn touch_shape(feed: &[u32], at: usize, low: u32) -> MaybeEvent
     MaybeEvent::None
 }
 
-fn wheel_shape(low: u32, x: u32, y: u32) -> MaybeEvent
+pub fn wheel_shape(low: u32, x: u32, y: u32) -> MaybeEvent
     ensures { λ r. ⌜ r ≡ wheel-shape low x y ⌝ }
 {
     let number = low / 32 % 4;
@@ -145,7 +145,7 @@ fn wheel_shape(low: u32, x: u32, y: u32) -> MaybeEvent
     MaybeEvent::None
 }
 
-fn focus_shape(low: u32) -> MaybeEvent
+pub fn focus_shape(low: u32) -> MaybeEvent
     ensures { λ r. ⌜ r ≡ focus-shape low ⌝ }
 {
     if low < 2 {

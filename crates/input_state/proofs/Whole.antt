@@ -3,26 +3,33 @@ use mathlib.Core.Path.{_≡_, refl, sym, ap, _∙_}
 use mathlib.Core.Bool.{Bool, true, false, not, _&&_}
 use mathlib.Core.List.{List, [], map}
 use mathlib.Core.Option.{Option, none, some}
-use Prim.Native.Nat.{ℕ, _≤_}
+use Prim.Native.Nat.{ℕ, _≤_, _<_}
 use native.Mathlib.Omega.{arith}
-use lib.ListN.{length}
+use lib.ListN.{getD, length}
 use lib.Ieee.{Float}
 use Rattle.data.specs.Limits.{max-events}
 use Rattle.feed.specs.Decode.{items}
 use Rattle.feed.specs.Feed.{events-of}
-use Rattle.model.specs.Types.{MaybePos2, WheelState, PassRefusal, Event}
+use Rattle.model.specs.Numbers.{+0, one}
+use Rattle.model.specs.Types.{MaybePos2, Rect, InputOptions, WheelState, PassRefusal, Event}
 use Rattle.model.specs.Pointer.{Place, place-pass, Press, press-pass, is-decidedly-dragging}
 use Rattle.model.specs.Touch.{TouchState, touch-events, touch-pass, end-touches}
 use Rattle.model.specs.Wheel.{wheel-default, wheel-pass}
-use Rattle.model.specs.Pass.{Panel, Interaction, or-else, own-refusal, time-of, time-or, rect-or, clock-pass, screen-pass, keys-pass, sums-of, decidedly-dragging, fresh, fresh-place, fresh-press, pass-events, begin-pass, pass-refusal, pass-by, pass}
+use Rattle.model.specs.Pass.{Panel, Interaction, or-else, own-refusal, time-of, time-or, rect-or, clock-pass, screen-pass, is-empty, key-events, keys-pass, sums-of, decidedly-dragging, fresh, fresh-place, fresh-press, pass-events, begin-pass, pass-refusal, pass-by, pass}
 use Rattle.model.specs.Pass as Pass
 use Rattle.event_loop.specs.Shaped.{shaped-events}
+use Rattle.event_loop.specs.Lists.{pointer-list, keys-list, sums-list, touch-list, wheel-list, list-count, listed-events, Listed}
+use Rattle.event_loop.proofs.Loops.{own-fewer}
+use Rattle.pass_loops.proofs.Loops.{place-pass-own, press-pass-own, wheel-pass-own}
+use Rattle.key_state.specs.View.{begun}
+use Rattle.key_state.proofs.Idle.{zoom-own, rotation-own, key-own}
 use Rattle.touch_state.specs.View.{view}
 use Rattle.touch_state.specs.declared.devices.Devices.{Devices}
 use Rattle.survey.specs.Survey.{option, fits-events, fits-survey}
 use Rattle.survey.specs.Laws.{InOrder}
 use Rattle.survey.proofs.Formed.{survey-law, events-law, end-law}
 use Rattle.survey.proofs.Accepted.{accepted}
+use Rattle.survey.proofs.Marks.{ended-own}
 use Rattle.input_state.specs.declared.input.PassInput.{PassInput}
 use Rattle.input_state.specs.declared.state.InputState.{InputState}
 use Rattle.input_state.specs.View.{Lent, panel, time-given, input, begin-by, outcome, Acted, refusal-of, Begun}
@@ -77,22 +84,54 @@ pub acted : (es : List Event) (vs : List TouchState) (p : Panel) (i : Pass.PassI
 unfolding begin-by
 acted es vs p i c s q r b w k m e1 e2 e3 e4 e5 e6 e7 e8 = rw (e8, e7, e6, e5, e4, e3, e2, e1)
 
+-- ---- the lists hold all that each part reads
+module _ (ws ps counts : List ℕ) (ls : Listed ws ps counts) where
+  abbrev es : List Event
+  es = shaped-events ws
+
+  abbrev events : ℕ → List Event
+  events l = listed-events ws ps l (getD counts l 0)
+
+  pub few : (l : ℕ) → l < list-count → length es ≤ max-events → length (events l) ≤ max-events
+  few l h n = rw (ls l h) (let f = own-fewer l es in omega arith)
+
+  pub place-all : (time : Float) (p : Place) → place-pass time (events pointer-list) p ≡ place-pass time es p
+  place-all time p = rw (ls pointer-list (omega arith)) (place-pass-own time es p)
+
+  pub press-all : (o : InputOptions) (time : Float) (s : Press) → press-pass o time (events pointer-list) s ≡ press-pass o time es s
+  press-all o time s = rw (ls pointer-list (omega arith)) (press-pass-own o time es s)
+
+  pub wheel-all : (r : Rect) (o : InputOptions) (time factor : Float) (w : WheelState) → wheel-pass r o time factor (events wheel-list) w ≡ wheel-pass r o time factor es w
+  wheel-all r o time factor w = rw (ls wheel-list (omega arith)) (wheel-pass-own r o time factor es w)
+
+  pub keys-all : (k : Pass.Keys) → key-events (events keys-list) (begun (is-empty es) k) ≡ keys-pass es k
+  unfolding keys-pass
+  keys-all k = rw (ls keys-list (omega arith)) (key-own es (begun (is-empty es) k))
+
+  pub sums-all : (o : InputOptions) (w : WheelState) → sums-of o (events sums-list) w ≡ sums-of o es w
+  unfolding sums-of
+  sums-all o w = rw (ls sums-list (omega arith), zoom-own es one, rotation-own es +0)
+
+  pub ended-all : (time : Float) (p : MaybePos2) (vs : List TouchState) → map (end-touches time p (events touch-list)) vs ≡ map (end-touches time p es) vs
+  ended-all time p vs = rw (ls touch-list (omega arith)) (ended-own time p es vs)
+
 none-later : (a b : Option PassRefusal) → or-else a b ≡ none → b ≡ none
 unfolding or-else
 none-later none b h = h
 none-later (some r) b h = some-none h
 
-pub taken-is : (i : PassInput) (ws : List ℕ) (l l' : Lent) (s s' : InputState) (ds held ds' : Devices) (time : Float) →
+pub taken-is : (i : PassInput) (ws ps counts : List ℕ) (l l' : Lent) (s s' : InputState) (ds held ds' : Devices) (time : Float) →
     refusal-of i ws (s .clock .time) (view ds) ≡ none →
     view held ≡ fits-events (shaped-events ws) (view ds) →
+    Listed ws ps counts →
     time ≡ time-or (time-given (i .time)) (i .«predicted_dt») (s .clock .time) →
     view ds' ≡ map (end-touches time (s .pointer .place .«interact_pos») (shaped-events ws)) (view held) →
-    Acted i ws l s l' s' → (n : Interaction) (t : ℕ) →
+    Acted i ws ps counts l s l' s' → (n : Interaction) (t : ℕ) →
     panel l' s' (view ds') n t ≡ begin-by (pass-events (input ws i)) (fits-events (pass-events (input ws i)) (view ds)) (panel l s (view ds) n t) (input ws i)
 unfolding refusal-of time-of pass-events
-taken-is i ws l l' s s' ds held ds' time z h e k act n t =
+taken-is i ws ps counts l l' s s' ds held ds' time z h ls e k act n t =
     let a = accepted ws max-events (view ds) (none-later (own-refusal (input ws i) (s .clock .time)) _ z) in
-    rw (k, h, e) (act .result (a .1) (view ds) (fits-events (shaped-events ws) (view ds)) n t ∙ rw (a .0))
+    rw (k, h, e) (act .result ls (a .1) (view ds) (fits-events (shaped-events ws) (view ds)) n t ∙ rw (a .0))
 
 -- ---- the model's pass
 begin-is : (p : Panel) (i : Pass.PassInput) → begin-by (pass-events i) (touch-events (pass-events i) (p .touch-states)) p i ≡ begin-pass p i
@@ -145,15 +184,17 @@ module _ (i : PassInput) (ws : List ℕ) (l l' : Lent) (s : InputState) (ds : De
       }
 
   -- a pass that is taken
-  pub taken-pass : (held : Devices) (time : Float) → option (r .refusal) ≡ first → option (r .refusal) ≡ none →
+  pub taken-pass : (ps counts : List ℕ) (held : Devices) (time : Float) → option (r .refusal) ≡ first → option (r .refusal) ≡ none →
       (first ≡ none → view held ≡ fits-events (shaped-events ws) (view ds)) →
+      (first ≡ none → Listed ws ps counts) →
       time ≡ time-or (time-given (i .time)) (i .«predicted_dt») (s .clock .time) →
-      view (r .devices) ≡ map (end-touches time (s .pointer .place .«interact_pos») (shaped-events ws)) (view held) →
-      Acted i ws l s l' (r .state) → Begun i ws l s ds l' r
+      view (r .devices) ≡ map (end-touches time (s .pointer .place .«interact_pos») (listed-events ws ps touch-list (getD counts touch-list 0))) (view held) →
+      Acted i ws ps counts l s l' (r .state) → Begun i ws l s ds l' r
   unfolding pass-events
-  taken-pass held time q y e tm k act =
+  taken-pass ps counts held time q y e ls tm m act =
       let h : first ≡ none = sym q ∙ y in
-      let same = taken-is i ws l l' s (r .state) ds held (r .devices) time h (e h) tm k act in
+      let k = m ∙ ended-all ws ps counts (ls h) time (s .pointer .place .«interact_pos») (view held) in
+      let same = taken-is i ws ps counts l l' s (r .state) ds held (r .devices) time h (e h) (ls h) tm k act in
       record {
         refusal = q;
         refused = λ z. absurd (z h);

@@ -15,6 +15,7 @@ use Rattle.model.specs.Wheel.{wheel-pass}
 use Rattle.model.specs.Pass.{Panel, Interaction, or-else, own-refusal, time-of, rect-or, clock-pass, screen-pass, keys-pass, sums-of, decidedly-dragging, fresh, pass-events, pass}
 use Rattle.model.specs.Pass as Pass
 use Rattle.event_loop.specs.Shaped.{shaped-events}
+use Rattle.event_loop.specs.Lists.{Listed}
 use Rattle.pointer_place.specs.View.{place}
 use Rattle.pointer_state.specs.View.{press}
 use Rattle.touch_state.specs.View.{view}
@@ -122,20 +123,20 @@ begin-by es vs p i =
 abbrev pub Fresh : InputState → Type 0
 Fresh s = (l : Lent) → ((j : ℕ) → presses-of (l .presses) j ≡ 0) → panel l s [] (fresh .interaction) (fresh .tally) ≡ fresh
 
--- the pointer's part
-pub record PointerPassed (old : InputOptions) (before : Float) (o : InputOptions) (time : Float) (ws : List ℕ)
+-- the pointer's part, of the events in its list
+pub record PointerPassed (old : InputOptions) (before : Float) (o : InputOptions) (time : Float) (es : List Event)
     (times positions : List Float) (codes : List ℕ) (places : List Float) (p : Pointer)
     (times' positions' : List Float) (codes' : List ℕ) (places' : List Float) (r : Pointer) : Type 0 where
-  pub place-is : place times' positions' (r .place) ≡ place-pass time (shaped-events ws) (place times positions (p .place))
-  pub press-is : length (shaped-events ws) ≤ max-events →
-      press codes' places' (r .press) ≡ press-pass o time (shaped-events ws) (press codes places (p .press))
+  pub place-is : place times' positions' (r .place) ≡ place-pass time es (place times positions (p .place))
+  pub press-is : length es ≤ max-events →
+      press codes' places' (r .press) ≡ press-pass o time es (press codes places (p .press))
   pub started-is : r .«started_decidedly_dragging»
       ≡ (is-decidedly-dragging o time (press codes' places' (r .press) .held) (press codes' places' (r .press) .past .has-moved-too-much-for-a-click)
       && not (is-decidedly-dragging old before (press codes places (p .press) .held) (press codes places (p .press) .past .has-moved-too-much-for-a-click)))
 
--- a pass that is taken, of a feed of at most 64 events, for any devices `us` after the touch events
-pub record Acted (i : PassInput) (ws : List ℕ) (l : Lent) (s : InputState) (l' : Lent) (r : InputState) : Type 0 where
-  pub result : length (shaped-events ws) ≤ max-events → (vs us : List TouchState) (n : Interaction) (t : ℕ) →
+-- a pass that is taken, of a feed of at most 64 events whose places are listed, for any devices `us` after the touch events
+pub record Acted (i : PassInput) (ws ps counts : List ℕ) (l : Lent) (s : InputState) (l' : Lent) (r : InputState) : Type 0 where
+  pub result : Listed ws ps counts → length (shaped-events ws) ≤ max-events → (vs us : List TouchState) (n : Interaction) (t : ℕ) →
       panel l' r (map (end-touches (time-of (input ws i) (s .clock .time)) (s .pointer .place .«interact_pos») (shaped-events ws)) us) n t
       ≡ begin-by (shaped-events ws) us (panel l s vs n t) (input ws i)
 
@@ -143,9 +144,10 @@ pub record Acted (i : PassInput) (ws : List ℕ) (l : Lent) (s : InputState) (l'
 unfoldable pub refusal-of : PassInput → List ℕ → Float → List TouchState → Option PassRefusal
 refusal-of i ws old vs = or-else (own-refusal (input ws i) old) (fits-survey max-events (items ws) vs)
 
-pub record Looked (i : PassInput) (ws : List ℕ) (old : Float) (vs : List TouchState) (r : Surveyed) : Type 0 where
+pub record Looked (i : PassInput) (ws ps : List ℕ) (old : Float) (vs : List TouchState) (r : Surveyed) : Type 0 where
   pub refusal : option (r .refusal) ≡ refusal-of i ws old vs
   pub devices : refusal-of i ws old vs ≡ none → view (r .devices) ≡ fits-events (shaped-events ws) vs
+  pub lists : refusal-of i ws old vs ≡ none → Listed ws ps (r .counts)
 
 -- the outcome of a pass in the model's terms
 unfoldable pub outcome : Option PassRefusal → Panel → Pass.Passed

@@ -6,6 +6,9 @@ use crate::state::InputState;
 use crate::state::act;
 use emath::history::MAX_LEN;
 use emath::history::PARTS;
+use event_loop::LIST_COUNT;
+use event_loop::LISTED;
+use event_loop::TOUCHES;
 use pointer_events::CODES;
 use pointer_events::PLACES;
 use survey::crowd::Surveyed;
@@ -25,15 +28,16 @@ pub struct Begun {
 }
 
 // "2 for its own numbers, 3, then event by event 4, 1, 2, 5", with the devices after the events where nothing is refused.
-fn look(ds: Devices, old: f64, i: PassInput, feed: &[u32]) -> Surveyed
-    ensures { λ r. ⌜ Looked i (now (feed .entry)) old (view ds) r ⌝ }
+fn look(ds: Devices, old: f64, i: PassInput, feed: &[u32], lists: &mut [u16; LISTED]) -> Surveyed
+    ensures { λ r. ⌜ Looked i (now (feed .entry)) (now (lists .exit)) old (view ds) r ⌝ }
 {
     let own = own_refusal(i, old);
     match own {
-        MaybePassRefusal::None => survey(ds, feed),
+        MaybePassRefusal::None => survey(ds, feed, lists),
         MaybePassRefusal::Some(q) => Surveyed {
             refusal: MaybePassRefusal::Some(q),
             devices: ds,
+            counts: [0; LIST_COUNT],
         },
     }
 }
@@ -53,7 +57,8 @@ pub fn begin_pass(
     ensures { λ r. ⌜ BegunAs i (now (feed .entry)) (lent (now (times .entry)) (now (positions .entry)) (now (codes .entry)) (now (places .entry)) (now (presses .entry))) s ds (lent (now (times .exit)) (now (positions .exit)) (now (codes .exit)) (now (places .exit)) (now (presses .exit))) r ⌝ }
 {
     let clock = s.clock;
-    let looked = look(ds, clock.time, i, feed);
+    let mut lists = [0u16; LISTED];
+    let looked = look(ds, clock.time, i, feed, &mut lists);
     let refusal = looked.refusal;
     match refusal {
         MaybePassRefusal::Some(q) => Begun {
@@ -63,13 +68,25 @@ pub fn begin_pass(
         },
         MaybePassRefusal::None => {
             let held = looked.devices;
+            let counts = looked.counts;
             let given = i.time;
             let time = time_of(given, i.predicted_dt, clock.time);
             let pointer = s.pointer;
             let place = pointer.place;
             let pos = place.interact_pos;
-            let devices = end_devices(held, feed, time, pos);
-            let state = act(s, times, positions, codes, places, presses, i, feed);
+            let devices = end_devices(held, feed, &lists, counts[TOUCHES as usize], time, pos);
+            let state = act(
+                s,
+                times,
+                positions,
+                codes,
+                places,
+                presses,
+                i,
+                feed,
+                &lists,
+                counts,
+            );
             Begun {
                 state,
                 devices,

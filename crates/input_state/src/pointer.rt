@@ -2,6 +2,7 @@
 use data::options::InputOptions;
 use emath::history::MAX_LEN;
 use emath::history::PARTS;
+use event_loop::LISTED;
 use pass_loops::place::place_pass;
 use pass_loops::press::press_pass;
 use pointer_clicks::is_decidedly_dragging;
@@ -10,6 +11,7 @@ use pointer_events::CODES;
 use pointer_events::PLACES;
 use pointer_place::Place;
 use pointer_state::press::Press;
+ghost use Rattle.event_loop.specs.Lists.{listed-events, pointer-list};
 ghost use Rattle.input_state.specs.View.{PointerPassed};
 
 pub struct Pointer {
@@ -30,8 +32,10 @@ pub fn pointer_pass(
     options: InputOptions,
     time: f64,
     feed: &[u32],
+    lists: &[u16; LISTED],
+    count: u8,
 ) -> Pointer
-    ensures { λ r. ⌜ PointerPassed old before options time (now (feed .entry)) (now (times .entry)) (now (positions .entry)) (now (codes .entry)) (now (places .entry)) p (now (times .exit)) (now (positions .exit)) (now (codes .exit)) (now (places .exit)) r ⌝ }
+    ensures { λ r. ⌜ PointerPassed old before options time (listed-events (now (feed .entry)) (now (lists .entry)) pointer-list count) (now (times .entry)) (now (positions .entry)) (now (codes .entry)) (now (places .entry)) p (now (times .exit)) (now (positions .exit)) (now (codes .exit)) (now (places .exit)) r ⌝ }
 {
     let old_place = p.place;
     let old_press = p.press;
@@ -39,8 +43,8 @@ pub fn pointer_pass(
     let old_past = old_press.past;
     let moved = old_past.has_moved_too_much_for_a_click;
     let was = is_decidedly_dragging(old_held, codes, old, before, moved);
-    let place = place_pass(old_place, times, positions, time, feed);
-    let press = press_pass(old_press, codes, places, options, time, feed);
+    let place = place_pass(old_place, times, positions, time, feed, lists, count);
+    let press = press_pass(old_press, codes, places, options, time, feed, lists, count);
     let held = press.held;
     let past = press.past;
     let spoilt = past.has_moved_too_much_for_a_click;

@@ -16,6 +16,12 @@ use crate::sums::sums_of;
 use data::mouse_wheel::WheelState;
 use emath::history::MAX_LEN;
 use emath::history::PARTS;
+use event_loop::KEYS;
+use event_loop::LIST_COUNT;
+use event_loop::LISTED;
+use event_loop::POINTER;
+use event_loop::SUMS;
+use event_loop::WHEEL;
 use key_state::keys::Keys;
 use key_state::keys::keys_pass;
 use pass_loops::wheel::wheel_pass;
@@ -70,8 +76,10 @@ pub fn act(
     presses: &mut [u8; 145],
     i: PassInput,
     feed: &[u32],
+    lists: &[u16; LISTED],
+    counts: [u8; LIST_COUNT],
 ) -> InputState
-    ensures { λ r. ⌜ Acted i (now (feed .entry)) (lent (now (times .entry)) (now (positions .entry)) (now (codes .entry)) (now (places .entry)) (now (presses .entry))) s (lent (now (times .exit)) (now (positions .exit)) (now (codes .exit)) (now (places .exit)) (now (presses .exit))) r ⌝ }
+    ensures { λ r. ⌜ Acted i (now (feed .entry)) (now (lists .entry)) counts (lent (now (times .entry)) (now (positions .entry)) (now (codes .entry)) (now (places .entry)) (now (presses .entry))) s (lent (now (times .exit)) (now (positions .exit)) (now (codes .exit)) (now (places .exit)) (now (presses .exit))) r ⌝ }
 {
     let old_clock = s.clock;
     let old_screen = s.screen;
@@ -98,10 +106,21 @@ pub fn act(
         options,
         time,
         feed,
+        lists,
+        counts[POINTER as usize],
     );
-    let wheel = wheel_pass(old_wheel, rect, options, time, i.smoothing_factor, feed);
-    let keys = keys_pass(old_keys, presses, feed);
-    let sums = sums_of(options, feed, wheel);
+    let wheel = wheel_pass(
+        old_wheel,
+        rect,
+        options,
+        time,
+        i.smoothing_factor,
+        feed,
+        lists,
+        counts[WHEEL as usize],
+    );
+    let keys = keys_pass(old_keys, presses, feed, lists, counts[KEYS as usize]);
+    let sums = sums_of(options, feed, lists, counts[SUMS as usize], wheel);
     InputState {
         clock,
         screen,

@@ -2,11 +2,12 @@
 use data::mouse_wheel::WheelState;
 use data::options::InputOptions;
 use emath::vec2::Vec2;
+use event_loop::LISTED;
 use key_state::sums::rotation_of;
 use key_state::sums::zoom_of;
 ghost use mathlib.Core.Path.{_≡_};
 ghost use Rattle.model.specs.Pass.{fresh, sums-of};
-ghost use Rattle.event_loop.specs.Shaped.{shaped-events};
+ghost use Rattle.event_loop.specs.Lists.{listed-events, sums-list};
 ghost use Rattle.input_state.specs.View.{sums};
 
 // Zoom is the factor's product, and an exponent that the host takes the exponential of.
@@ -30,11 +31,17 @@ pub fn fresh_sums() -> Sums
 }
 
 // With the zoom modifier the wheel zooms, without it it scrolls.
-pub fn sums_of(options: InputOptions, feed: &[u32], w: WheelState) -> Sums
-    ensures { λ r. ⌜ sums r ≡ sums-of options (shaped-events (now (feed .entry))) w ⌝ }
+pub fn sums_of(
+    options: InputOptions,
+    feed: &[u32],
+    lists: &[u16; LISTED],
+    count: u8,
+    w: WheelState,
+) -> Sums
+    ensures { λ r. ⌜ sums r ≡ sums-of options (listed-events (now (feed .entry)) (now (lists .entry)) sums-list count) w ⌝ }
 {
-    let factor = zoom_of(feed);
-    let radians = rotation_of(feed);
+    let factor = zoom_of(feed, lists, count);
+    let radians = rotation_of(feed, lists, count);
     let smooth = w.smooth_wheel_delta;
     let modifiers = w.modifiers;
     let pattern = options.zoom_modifier;

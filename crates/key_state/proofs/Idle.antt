@@ -1,11 +1,14 @@
--- Events of the kinds that a component does not read leave it as it is; and its loop along the feed. Assumes nothing.
+-- Events of the kinds that a component does not read leave it as it is; and its loop along its list. Assumes nothing.
 use mathlib.Core.Path.{_≡_, refl}
+use mathlib.Core.List.{List}
 use lib.Ieee.{Float}
 use Rattle.data.specs.Numbers.{kind-number}
 use Rattle.model.specs.Types.{Event, Key, ModifiersChanged, PointerMoved, MouseMoved, Button, PointerGone, Zoom, Rotate, Touch, MouseWheel, WindowFocused, Other}
 use Rattle.model.specs.Pass.{Keys, key-event, key-events, zoom-event, zoom-of, rotation-event, rotation-of}
+use Rattle.event_loop.specs.Lists.{own, keys-list, sums-list}
 use Rattle.event_loop.specs.Loop.{Loop}
-use Rattle.event_loop.proofs.Walk.{loop}
+use Rattle.event_loop.proofs.Loops.{loop, own-law}
+use Rattle.event_loop.proofs.OfKind.{not-read}
 
 pub zoom-idle : (e : Event) (s : Float) → (kind-number e ≡ 7 → ⊥) → zoom-event e s ≡ s
 unfolding zoom-event
@@ -63,3 +66,18 @@ rotation-loop = loop rotation-of rotation-event (λ s. refl) (λ e es s. refl)
 pub key-loop : Loop key-events key-event
 unfolding key-events
 key-loop = loop key-events key-event (λ s. refl) (λ e es s. refl)
+
+-- the events of other lists change nothing
+pub zoom-own : (es : List Event) (s : Float) → zoom-of (own sums-list es) s ≡ zoom-of es s
+unfolding zoom-of
+zoom-own es s = own-law zoom-of zoom-event (λ s. refl) (λ e es s. refl) sums-list (λ e s h. zoom-idle e s (not-read sums-list e 7 h refl)) es s
+
+pub rotation-own : (es : List Event) (s : Float) → rotation-of (own sums-list es) s ≡ rotation-of es s
+unfolding rotation-of
+rotation-own es s = own-law rotation-of rotation-event (λ s. refl) (λ e es s. refl) sums-list (λ e s h. rotation-idle e s (not-read sums-list e 8 h refl)) es s
+
+pub key-own : (es : List Event) (s : Keys) → key-events (own keys-list es) s ≡ key-events es s
+unfolding key-events
+key-own es s =
+    own-law key-events key-event (λ s. refl) (λ e es s. refl) keys-list
+    (λ e s h. key-idle e s (not-read keys-list e 1 h refl) (not-read keys-list e 2 h refl) (not-read keys-list e 11 h refl)) es s

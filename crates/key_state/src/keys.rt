@@ -3,8 +3,10 @@ use crate::bits::Set256;
 use data::event::Event;
 use data::limits::KEY_COUNT;
 use data::modifiers::Modifiers;
+use event_loop::KEYS;
+use event_loop::LISTED;
 use event_loop::kind_at;
-use event_loop::next_place;
+use event_loop::listed;
 use event_loop::shaped_at;
 ghost use mathlib.Core.Path.{_≡_};
 ghost use mathlib.Core.List.{List};
@@ -14,6 +16,7 @@ ghost use lib.ListN.{getD, set, length};
 ghost use Rattle.model.specs.Types.{Key, WindowFocused};
 ghost use Rattle.model.specs.Pass.{key-event, fresh};
 ghost use Rattle.event_loop.specs.Shaped.{shaped-at};
+ghost use Rattle.event_loop.specs.Lists.{listed-events, keys-list};
 ghost use Rattle.key_state.specs.View.{presses-of, one-more, keys, Stepped, Passed};
 ghost use Rattle.key_state.specs.declared.keys.Keys.{Keys};
 
@@ -116,17 +119,24 @@ fn key_at(k: Keys, presses: &mut [u8; 145], feed: &[u32], at: usize) -> Keys
     k
 }
 
-// The keys' part of a pass.
-pub fn keys_pass(k: Keys, presses: &mut [u8; 145], feed: &[u32]) -> Keys
-    ensures { λ r. ⌜ Passed (now (feed .entry)) (now (presses .entry)) k (now (presses .exit)) r ⌝ }
+// The keys' part of a pass, of the first `count` events in their list.
+pub fn keys_pass(
+    k: Keys,
+    presses: &mut [u8; 145],
+    feed: &[u32],
+    lists: &[u16; LISTED],
+    count: u8,
+) -> Keys
+    ensures { λ r. ⌜ Passed (now (feed .entry)) (listed-events (now (feed .entry)) (now (lists .entry)) keys-list count) (now (presses .entry)) k (now (presses .exit)) r ⌝ }
 {
     *presses = [0; 145];
     let mut s = k;
     s.feed_empty = feed.len() == 0;
-    let mut at: usize = 0;
-    while at < feed.len() {
+    let mut i: u8 = 0;
+    while i < count {
+        let at = listed(lists, KEYS, i);
         s = key_at(s, presses, feed, at);
-        at = next_place(feed, at);
+        i += 1;
     }
     s
 }
@@ -135,8 +145,11 @@ pub fn keys_pass(k: Keys, presses: &mut [u8; 145], feed: &[u32]) -> Keys
 pub fn key_down(k: Keys, key: u32) -> bool
     ensures { λ r. ⌜ ((presses : List ℕ) → r ≡ keys presses k .keys-down key) ⌝ }
 {
-    let down = k.down;
-    crate::bits::has(down, key)
+    if key < KEY_COUNT {
+        let down = k.down;
+        return crate::bits::has(down, key);
+    }
+    false
 }
 
 // How often it was pressed in the pass.

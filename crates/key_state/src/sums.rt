@@ -1,12 +1,15 @@
 // The product of the pass's zoom factors and the sum of its radians.
 use data::event::Event;
+use event_loop::LISTED;
+use event_loop::SUMS;
 use event_loop::kind_at;
-use event_loop::next_place;
+use event_loop::listed;
 use event_loop::shaped_at;
 ghost use mathlib.Core.Path.{_≡_};
 ghost use Rattle.model.specs.Numbers.{+0, one};
 ghost use Rattle.model.specs.Pass.{zoom-event, zoom-of, rotation-event, rotation-of};
-ghost use Rattle.event_loop.specs.Shaped.{shaped-at, shaped-events};
+ghost use Rattle.event_loop.specs.Shaped.{shaped-at};
+ghost use Rattle.event_loop.specs.Lists.{listed-events, sums-list};
 
 fn zoom_event(e: Event, factor: f32) -> f32
     ensures { λ r. ⌜ r ≡ zoom-event e factor ⌝ }
@@ -38,14 +41,15 @@ fn zoom_at(factor: f32, feed: &[u32], at: usize) -> f32
     factor
 }
 
-pub fn zoom_of(feed: &[u32]) -> f32
-    ensures { λ r. ⌜ r ≡ zoom-of (shaped-events (now (feed .entry))) one ⌝ }
+pub fn zoom_of(feed: &[u32], lists: &[u16; LISTED], count: u8) -> f32
+    ensures { λ r. ⌜ r ≡ zoom-of (listed-events (now (feed .entry)) (now (lists .entry)) sums-list count) one ⌝ }
 {
     let mut factor: f32 = 1.0;
-    let mut at: usize = 0;
-    while at < feed.len() {
+    let mut i: u8 = 0;
+    while i < count {
+        let at = listed(lists, SUMS, i);
         factor = zoom_at(factor, feed, at);
-        at = next_place(feed, at);
+        i += 1;
     }
     factor
 }
@@ -80,14 +84,15 @@ fn rotation_at(radians: f32, feed: &[u32], at: usize) -> f32
     radians
 }
 
-pub fn rotation_of(feed: &[u32]) -> f32
-    ensures { λ r. ⌜ r ≡ rotation-of (shaped-events (now (feed .entry))) +0 ⌝ }
+pub fn rotation_of(feed: &[u32], lists: &[u16; LISTED], count: u8) -> f32
+    ensures { λ r. ⌜ r ≡ rotation-of (listed-events (now (feed .entry)) (now (lists .entry)) sums-list count) +0 ⌝ }
 {
     let mut radians: f32 = 0.0;
-    let mut at: usize = 0;
-    while at < feed.len() {
+    let mut i: u8 = 0;
+    while i < count {
+        let at = listed(lists, SUMS, i);
         radians = rotation_at(radians, feed, at);
-        at = next_place(feed, at);
+        i += 1;
     }
     radians
 }

@@ -1,20 +1,20 @@
--- Events of the kinds that a component does not read leave it as it is; and its loop along the feed. Assumes nothing.
-use mathlib.Core.Path.{_≡_, refl, sym, ap, _∙_}
+-- Events of the kinds that a component does not read leave it as it is; and its loop along its list. Assumes nothing.
+use mathlib.Core.Path.{_≡_, refl}
 use mathlib.Core.Bool.{Bool, true, false, _||_}
 use mathlib.Core.List.{List, [], _∷_, _++_}
-use Prim.Native.Nat.{ℕ, suc, _+_, _≤_, _<_}
+use Prim.Native.Nat.{ℕ, _+_, _≤_}
 use native.Mathlib.Omega.{arith}
 use lib.ListN.{length, length-append}
 use lib.Ieee.{Float}
-use Rattle.data.specs.Limits.{max-events}
 use Rattle.data.specs.Numbers.{kind-number}
 use Rattle.model.specs.Types.{Rect, InputOptions, WheelState}
 use Rattle.model.specs.Types.{Event, Key, ModifiersChanged, PointerMoved, MouseMoved, Button, PointerGone, Zoom, Rotate, Touch, MouseWheel, WindowFocused, Other}
-use Rattle.model.specs.Pointer.{Place, Press, place-event, place-events, clear-history-after, press-event, press-events, add-event, press-button, release-button, release}
-use Rattle.model.specs.Wheel.{wheel-event, wheel-events}
-use Rattle.event_loop.specs.Shaped.{shaped-events, shaped-after, shaped-at, next-place}
-use Rattle.event_loop.specs.Loop.{Loop}
-use Rattle.event_loop.proofs.Walk.{loop, first, next}
+use Rattle.model.specs.Pointer.{Place, Press, start-place, place-event, place-events, place-pass, clear-history-after, press-event, press-events, press-pass, add-event, press-button, release-button, release}
+use Rattle.model.specs.Wheel.{wheel-event, wheel-events, wheel-pass, clear-smooth}
+use Rattle.event_loop.specs.Lists.{pointer-list, wheel-list, own}
+use Rattle.event_loop.specs.Loop.{Loop, Any}
+use Rattle.event_loop.proofs.Loops.{loop, own-law, any-loop, own-any-law}
+use Rattle.event_loop.proofs.OfKind.{not-read}
 
 -- ---- the pointer's place: kinds 3 to 6
 pub place-idle : (e : Event) (s : Place) → (kind-number e ≡ 3 → ⊥) → (kind-number e ≡ 4 → ⊥) → (kind-number e ≡ 5 → ⊥) → (kind-number e ≡ 6 → ⊥) → place-event e s ≡ s
@@ -35,6 +35,12 @@ place-idle Other s h3 h4 h5 h6 = refl
 pub place-loop : Loop place-events place-event
 unfolding place-events
 place-loop = loop place-events place-event (λ s. refl) (λ e es s. refl)
+
+pub place-own : (es : List Event) (s : Place) → place-events (own pointer-list es) s ≡ place-events es s
+unfolding place-events
+place-own es s =
+    own-law place-events place-event (λ s. refl) (λ e es s. refl) pointer-list
+    (λ e s h. place-idle e s (not-read pointer-list e 3 h refl) (not-read pointer-list e 4 h refl) (not-read pointer-list e 5 h refl) (not-read pointer-list e 6 h refl)) es s
 
 -- ---- whether the pointer is gone: kind 6
 pub or-none : (b : Bool) → b ≡ (b || false)
@@ -71,9 +77,13 @@ gone-idle (MouseWheel u v ph g m) h = refl
 gone-idle (WindowFocused b) h = refl
 gone-idle Other h = refl
 
-pub gone-on : (ws : List ℕ) (at : ℕ) → at < length ws → (b : Bool) → b ≡ clear-history-after (shaped-at ws at ∷ []) →
-    clear-history-after (shaped-after ws at) ≡ (b || clear-history-after (shaped-after ws (next-place ws at)))
-gone-on ws at here b h = rw (next ws at here) (gone-first (shaped-at ws at) (shaped-after ws (next-place ws at)) ∙ rw (sym h))
+pub gone-loop : Any clear-history-after
+unfolding clear-history-after
+gone-loop = any-loop clear-history-after refl gone-first
+
+pub gone-own : (es : List Event) → clear-history-after (own pointer-list es) ≡ clear-history-after es
+unfolding clear-history-after
+gone-own es = own-any-law clear-history-after refl gone-first pointer-list (λ e h. gone-idle e (not-read pointer-list e 6 h refl)) es
 
 -- ---- the wheel: kind 10
 module _ (r : Rect) (o : InputOptions) (time : Float) where
@@ -96,6 +106,10 @@ module _ (r : Rect) (o : InputOptions) (time : Float) where
   unfolding wheel-events
   wheel-loop = loop (wheel-events r o time) (wheel-event r o time) (λ s. refl) (λ e es s. refl)
 
+  pub wheel-own : (es : List Event) (s : WheelState) → wheel-events r o time (own wheel-list es) s ≡ wheel-events r o time es s
+  unfolding wheel-events
+  wheel-own es s = own-law (wheel-events r o time) (wheel-event r o time) (λ s. refl) (λ e es s. refl) wheel-list (λ e s h. wheel-idle e s (not-read wheel-list e 10 h refl)) es s
+
 -- ---- presses: kinds 3 and 5
 module _ (o : InputOptions) (time : Float) where
   pub press-idle : (e : Event) (s : Press) → (kind-number e ≡ 3 → ⊥) → (kind-number e ≡ 5 → ⊥) → press-event o time e s ≡ s
@@ -117,6 +131,12 @@ module _ (o : InputOptions) (time : Float) where
   unfolding press-events
   press-loop = loop (press-events o time) (press-event o time) (λ s. refl) (λ e es s. refl)
 
+  pub press-own : (es : List Event) (s : Press) → press-events o time (own pointer-list es) s ≡ press-events o time es s
+  unfolding press-events
+  press-own es s =
+      own-law (press-events o time) (press-event o time) (λ s. refl) (λ e es s. refl) pointer-list
+      (λ e s h. press-idle e s (not-read pointer-list e 3 h refl) (not-read pointer-list e 5 h refl)) es s
+
   one-longer : {A : Type 0} (xs : List A) (x : A) → length (xs ++ (x ∷ [])) ≤ length xs + 1
   one-longer xs x = omega (arith, length-append xs (x ∷ []))
 
@@ -137,16 +157,21 @@ module _ (o : InputOptions) (time : Float) where
   grows (WindowFocused b) s = omega arith
   grows Other s = omega arith
 
-  -- the places are enough for the events that may still come
-  module _ (ws : List ℕ) (at : ℕ) (here : at < length ws) (s : Press) (room : length (s .held .pointer-events) + length (shaped-after ws at) ≤ max-events) where
-    one-less : length (shaped-after ws at) ≡ suc (length (shaped-after ws (next-place ws at)))
-    one-less = ap length (next ws at here)
+  -- n events make n pointer events at most
+  pub more : (e : Event) (s new : Press) (n : ℕ) → length (s .held .pointer-events) ≤ n → new ≡ press-event o time e s → length (new .held .pointer-events) ≤ n + 1
+  more e s new n h same =
+      let g : length (new .held .pointer-events) ≤ length (s .held .pointer-events) + 1 = rw same (grows e s) in
+      omega arith
 
-    pub room-now : length (s .held .pointer-events) < max-events
-    room-now = let l = one-less in omega arith
+-- ---- the parts of a pass, of their own events alone
+pub place-pass-own : (time : Float) (es : List Event) (p : Place) → place-pass time (own pointer-list es) p ≡ place-pass time es p
+unfolding place-pass
+place-pass-own time es p = rw (gone-own es, place-own es (start-place p))
 
-    pub room-next : (new : Press) → new ≡ press-event o time (shaped-at ws at) s → length (new .held .pointer-events) + length (shaped-after ws (next-place ws at)) ≤ max-events
-    room-next new e =
-        let l = one-less in
-        let g : length (new .held .pointer-events) ≤ length (s .held .pointer-events) + 1 = rw e (grows (shaped-at ws at) s) in
-        omega arith
+pub press-pass-own : (o : InputOptions) (time : Float) (es : List Event) (s : Press) → press-pass o time (own pointer-list es) s ≡ press-pass o time es s
+unfolding press-pass
+press-pass-own o time es s = press-own o time es _
+
+pub wheel-pass-own : (r : Rect) (o : InputOptions) (time factor : Float) (es : List Event) (w : WheelState) → wheel-pass r o time factor (own wheel-list es) w ≡ wheel-pass r o time factor es w
+unfolding wheel-pass
+wheel-pass-own r o time factor es w = rw (wheel-own r o time es (clear-smooth w))

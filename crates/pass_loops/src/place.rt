@@ -1,8 +1,10 @@
 // Where the pointer is.
 use emath::history::MAX_LEN;
 use emath::history::PARTS;
+use event_loop::LISTED;
+use event_loop::POINTER;
 use event_loop::kind_at;
-use event_loop::next_place;
+use event_loop::listed;
 use event_loop::shaped_at;
 use pointer_place::Place;
 use pointer_place::end_place;
@@ -12,7 +14,8 @@ ghost use mathlib.Core.Path.{_≡_};
 ghost use mathlib.Core.List.{List, [], _∷_};
 ghost use lib.Ieee.{Float};
 ghost use Rattle.model.specs.Pointer.{place-event, place-events, clear-history-after};
-ghost use Rattle.event_loop.specs.Shaped.{shaped-at, shaped-events};
+ghost use Rattle.event_loop.specs.Shaped.{shaped-at};
+ghost use Rattle.event_loop.specs.Lists.{listed-events, pointer-list};
 ghost use Rattle.pointer_place.specs.View.{place};
 ghost use Rattle.pass_loops.specs.Passed.{PlacePassed};
 
@@ -31,14 +34,15 @@ fn place_at(p: Place, feed: &[u32], at: usize) -> Place
     p
 }
 
-fn place_events(p: Place, feed: &[u32]) -> Place
-    ensures { λ r. ⌜ ((times positions : List Float) → place times positions r ≡ place-events (shaped-events (now (feed .entry))) (place times positions p)) ⌝ }
+fn place_events(p: Place, feed: &[u32], lists: &[u16; LISTED], count: u8) -> Place
+    ensures { λ r. ⌜ ((times positions : List Float) → place times positions r ≡ place-events (listed-events (now (feed .entry)) (now (lists .entry)) pointer-list count) (place times positions p)) ⌝ }
 {
     let mut s = p;
-    let mut at: usize = 0;
-    while at < feed.len() {
+    let mut i: u8 = 0;
+    while i < count {
+        let at = listed(lists, POINTER, i);
         s = place_at(s, feed, at);
-        at = next_place(feed, at);
+        i += 1;
     }
     s
 }
@@ -54,32 +58,35 @@ fn gone_at(feed: &[u32], at: usize) -> bool
     false
 }
 
-fn gone(feed: &[u32]) -> bool
-    ensures { λ r. ⌜ r ≡ clear-history-after (shaped-events (now (feed .entry))) ⌝ }
+fn gone(feed: &[u32], lists: &[u16; LISTED], count: u8) -> bool
+    ensures { λ r. ⌜ r ≡ clear-history-after (listed-events (now (feed .entry)) (now (lists .entry)) pointer-list count) ⌝ }
 {
-    let mut at: usize = 0;
-    while at < feed.len() {
-        if gone_at(feed, at) {
-            return true;
-        }
-        at = next_place(feed, at);
+    let mut found = false;
+    let mut i: u8 = 0;
+    while i < count {
+        let at = listed(lists, POINTER, i);
+        let here = gone_at(feed, at);
+        found = found | here;
+        i += 1;
     }
-    false
+    found
 }
 
-// The pointer's place after a pass.
+// The pointer's place after a pass, of the first `count` events in the pointer's list.
 pub fn place_pass(
     p: Place,
     times: &mut [f64; MAX_LEN],
     positions: &mut [f32; PARTS],
     time: f64,
     feed: &[u32],
+    lists: &[u16; LISTED],
+    count: u8,
 ) -> Place
-    ensures { λ r. ⌜ PlacePassed time (now (feed .entry)) (now (times .entry)) (now (positions .entry)) p (now (times .exit)) (now (positions .exit)) r ⌝ }
+    ensures { λ r. ⌜ PlacePassed time (listed-events (now (feed .entry)) (now (lists .entry)) pointer-list count) (now (times .entry)) (now (positions .entry)) p (now (times .exit)) (now (positions .exit)) r ⌝ }
 {
     let old = p.latest_pos;
     let started = start_place(p);
-    let moved = place_events(started, feed);
-    let is_gone = gone(feed);
+    let moved = place_events(started, feed, lists, count);
+    let is_gone = gone(feed, lists, count);
     end_place(moved, times, positions, time, old, is_gone)
 }

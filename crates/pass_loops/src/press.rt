@@ -1,7 +1,9 @@
 // Buttons, presses and clicks.
 use data::options::InputOptions;
+use event_loop::LISTED;
+use event_loop::POINTER;
 use event_loop::kind_at;
-use event_loop::next_place;
+use event_loop::listed;
 use event_loop::shaped_at;
 use pointer_clicks::clear_events;
 use pointer_events::CODES;
@@ -9,10 +11,11 @@ use pointer_events::PLACES;
 use pointer_state::press::Press;
 use pointer_state::press::press_event;
 ghost use Rattle.event_loop.specs.Shaped.{shaped-at};
+ghost use Rattle.event_loop.specs.Lists.{listed-events, pointer-list};
 ghost use Rattle.pointer_state.specs.View.{Stepped};
 ghost use Rattle.pass_loops.specs.Passed.{PressPassed};
 
-// Kinds 3 and 5 are read.
+// Of the pointer's kinds, 3 and 5 are read.
 fn press_at(
     s: Press,
     codes: &mut [u32; CODES],
@@ -36,7 +39,7 @@ fn press_at(
     s
 }
 
-// The presses' part of a pass.
+// The presses' part of a pass, of the first `count` events in the pointer's list.
 pub fn press_pass(
     s: Press,
     codes: &mut [u32; CODES],
@@ -44,17 +47,20 @@ pub fn press_pass(
     options: InputOptions,
     time: f64,
     feed: &[u32],
+    lists: &[u16; LISTED],
+    count: u8,
 ) -> Press
-    ensures { λ r. ⌜ PressPassed options time (now (feed .entry)) (now (codes .entry)) (now (positions .entry)) s (now (codes .exit)) (now (positions .exit)) r ⌝ }
+    ensures { λ r. ⌜ PressPassed options time (listed-events (now (feed .entry)) (now (lists .entry)) pointer-list count) (now (codes .entry)) (now (positions .entry)) s (now (codes .exit)) (now (positions .exit)) r ⌝ }
 {
     let old = s.held;
     let past = s.past;
     let held = clear_events(old);
     let mut t = Press { held, past };
-    let mut at: usize = 0;
-    while at < feed.len() {
+    let mut i: u8 = 0;
+    while i < count {
+        let at = listed(lists, POINTER, i);
         t = press_at(t, codes, positions, options, time, feed, at);
-        at = next_place(feed, at);
+        i += 1;
     }
     t
 }

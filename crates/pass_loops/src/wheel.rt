@@ -3,12 +3,15 @@ use data::event::Event;
 use data::mouse_wheel::WheelState;
 use data::options::InputOptions;
 use emath::rect::Rect;
+use event_loop::LISTED;
+use event_loop::WHEEL;
 use event_loop::kind_at;
-use event_loop::next_place;
+use event_loop::listed;
 use event_loop::shaped_at;
 ghost use mathlib.Core.Path.{_≡_};
 ghost use Rattle.model.specs.Wheel.{wheel-event, wheel-events, wheel-pass};
-ghost use Rattle.event_loop.specs.Shaped.{shaped-at, shaped-events};
+ghost use Rattle.event_loop.specs.Shaped.{shaped-at};
+ghost use Rattle.event_loop.specs.Lists.{listed-events, wheel-list};
 
 fn wheel_event(
     w: WheelState,
@@ -71,19 +74,22 @@ fn wheel_events(
     options: InputOptions,
     time: f64,
     feed: &[u32],
+    lists: &[u16; LISTED],
+    count: u8,
 ) -> WheelState
-    ensures { λ r. ⌜ r ≡ wheel-events «viewport_rect» options time (shaped-events (now (feed .entry))) w ⌝ }
+    ensures { λ r. ⌜ r ≡ wheel-events «viewport_rect» options time (listed-events (now (feed .entry)) (now (lists .entry)) wheel-list count) w ⌝ }
 {
     let mut v = w;
-    let mut at: usize = 0;
-    while at < feed.len() {
+    let mut i: u8 = 0;
+    while i < count {
+        let at = listed(lists, WHEEL, i);
         v = wheel_at(v, viewport_rect, options, time, feed, at);
-        at = next_place(feed, at);
+        i += 1;
     }
     v
 }
 
-// The wheel's part of a pass; `factor` is the smoothing factor.
+// The wheel's part of a pass, of the first `count` events in its list; `factor` is the smoothing factor.
 pub fn wheel_pass(
     w: WheelState,
     viewport_rect: Rect,
@@ -91,10 +97,12 @@ pub fn wheel_pass(
     time: f64,
     factor: f32,
     feed: &[u32],
+    lists: &[u16; LISTED],
+    count: u8,
 ) -> WheelState
-    ensures { λ r. ⌜ r ≡ wheel-pass «viewport_rect» options time factor (shaped-events (now (feed .entry))) w ⌝ }
+    ensures { λ r. ⌜ r ≡ wheel-pass «viewport_rect» options time factor (listed-events (now (feed .entry)) (now (lists .entry)) wheel-list count) w ⌝ }
 {
     let cleared = wheel_state::clear_smooth(w);
-    let scrolled = wheel_events(cleared, viewport_rect, options, time, feed);
+    let scrolled = wheel_events(cleared, viewport_rect, options, time, feed, lists, count);
     wheel_state::after_events(scrolled, time, factor)
 }

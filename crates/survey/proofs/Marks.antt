@@ -2,10 +2,8 @@
 use mathlib.Core.Path.{_≡_, refl, sym, ap, ap₂, _∙_}
 use mathlib.Core.Bool.{Bool, true, false, _&&_, _||_}
 use mathlib.Core.List.{List, [], _∷_, map}
-use Prim.Native.Nat.{ℕ, _≤_, _<_}
-use native.Mathlib.Omega.{arith}
+use Prim.Native.Nat.{ℕ}
 use lib.Dec.{eqb}
-use lib.ListN.{length}
 use lib.Ieee.{Float}
 use Rattle.data.specs.Numbers.{kind-number}
 use Rattle.model.specs.Types.{MaybePos2, Event, Key, ModifiersChanged, PointerMoved, MouseMoved, Button, PointerGone, Zoom, Rotate, Touch, MouseWheel, WindowFocused, Other}
@@ -14,8 +12,10 @@ use Rattle.touch_device.specs.declared.Device.{Device}
 use Rattle.touch_state.specs.declared.devices.Devices.{Devices}
 use Rattle.touch_device.specs.View.{Marked, device-view, marked-view, end-marked}
 use Rattle.touch_state.specs.View.{known, view, marked}
-use Rattle.event_loop.specs.Shaped.{shaped-after, shaped-at, next-place}
-use Rattle.event_loop.proofs.Walk.{next}
+use Rattle.event_loop.specs.Lists.{touch-list, own}
+use Rattle.event_loop.specs.Loop.{Any}
+use Rattle.event_loop.proofs.Loops.{any-loop, own-any-law}
+use Rattle.event_loop.proofs.OfKind.{not-read}
 use Rattle.survey.specs.Ends.{marked-by}
 
 pub or-none : (b : Bool) → b ≡ (b || false)
@@ -58,9 +58,13 @@ module _ (d : ℕ) where
   adds-idle (WindowFocused b) h = refl
   adds-idle Other h = refl
 
-  module _ (ws : List ℕ) (at : ℕ) (here : at < length ws) where
-    pub adds-on : (b : Bool) → b ≡ added-or-removed-touches d (shaped-at ws at ∷ []) → added-or-removed-touches d (shaped-after ws at) ≡ (b || added-or-removed-touches d (shaped-after ws (next-place ws at)))
-    adds-on b h = rw (next ws at here) (adds-first (shaped-at ws at) (shaped-after ws (next-place ws at)) ∙ rw (sym h))
+  pub adds-loop : Any (added-or-removed-touches d)
+  unfolding added-or-removed-touches
+  adds-loop = any-loop (added-or-removed-touches d) refl adds-first
+
+  pub adds-own : (es : List Event) → added-or-removed-touches d (own touch-list es) ≡ added-or-removed-touches d es
+  unfolding added-or-removed-touches
+  adds-own es = own-any-law (added-or-removed-touches d) refl adds-first touch-list (λ e h. adds-idle e (not-read touch-list e 9 h refl)) es
 
 -- ---- the end of a pass
 module _ (time : Float) (p : MaybePos2) (es : List Event) where
@@ -81,3 +85,9 @@ pub all-ended : (time : Float) (p : MaybePos2) (es : List Event) (old mid new : 
     marked new ≡ map (end-marked time p) (marked mid) → view new ≡ map (end-touches time p es) (view old)
 all-ended time p es old mid new h k =
     sym (bare-view (known new)) ∙ ap (map (λ (m : Marked). m .device)) (k ∙ ap (map (end-marked time p)) h) ∙ end-all time p es (known old)
+
+-- and of its touch events alone
+pub ended-own : (time : Float) (p : MaybePos2) (es : List Event) (vs : List TouchState) → map (end-touches time p (own touch-list es)) vs ≡ map (end-touches time p es) vs
+unfolding end-touches
+ended-own time p es [] = refl
+ended-own time p es (v ∷ vs) = ap₂ (λ (u : TouchState) (us : List TouchState). u ∷ us) (rw (adds-own (v .device-id) es)) (ended-own time p es vs)

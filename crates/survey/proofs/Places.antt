@@ -1,50 +1,56 @@
 -- The survey from place to place. Assumes nothing.
-use mathlib.Core.Path.{_≡_, refl, sym, ap, _∙_, subst}
-use mathlib.Core.Bool.{Bool, true, false, _||_, cond}
-use mathlib.Core.List.{List, [], _∷_, map}
+use mathlib.Core.Path.{_≡_, refl, sym, ap, _∙_}
+use mathlib.Core.Bool.{Bool, true, false, cond}
+use mathlib.Core.List.{List, [], _∷_, _++_, map, map-append, append-assoc, append-nil}
 use mathlib.Core.Option.{Option, none, some}
-use Prim.Native.Nat.{ℕ, zero, suc, _+_, _-_, _≤_, _<_}
+use Prim.Native.Nat.{ℕ, zero, suc, _+_, _*_, _%_, _≤_, _<_}
 use native.Mathlib.Omega.{arith}
 use lib.Dec.{eqb, ltb}
-use lib.ListN.{getD, length, take, drop}
-use borrow.Author.Tests.{eqb-false, ltb-true, ltb-false}
+use lib.ListN.{getD, set, length, drop, replicate, length-set, getD-replicate, List·getD-eq-default}
+use lib.Seq.{getD-set-same, getD-set-other, drop-cons}
+use borrow.Author.Tests.{eqb-true, eqb-false, ltb-true, ltb-false}
 use Rattle.data.specs.Limits.{max-events, event-ok}
 use Rattle.data.specs.Numbers.{kind-number}
 use Rattle.feed.specs.declared.shape.MaybeEvent.{MaybeEvent}
 use Rattle.feed.specs.declared.shape.MaybeEvent.the-variants.{None as no-event, Some as some-event}
 use Rattle.feed.specs.declared.decode.EventAt.the-variants as found
-use Rattle.feed.specs.Split.{kind, following, piece-length, pieces-from}
+use Rattle.feed.specs.Split.{kind, piece-length}
 use Rattle.feed.specs.Shape.{shape}
-use Rattle.feed.specs.Decode.{Decoded, good, malformed, outside-domain, Item, item-of, items, items-after, decode, check-floats, piece-at, found-at, event-at}
+use Rattle.feed.specs.Decode.{Decoded, good, malformed, outside-domain, items, items-after, decode, check-floats, piece-at, found-at, event-at}
 use Rattle.feed.specs.Feed.{then-refusal, first-refusal, feed-refusal}
 use Rattle.feed.proofs.Steps.{steps}
-use Rattle.feed.proofs.Reading.{items-first, items-none, items-next}
+use Rattle.feed.proofs.Lengths.{following-le}
+use Rattle.feed.proofs.Reading.{items-first, items-none, items-next, shape-taken}
 use Rattle.model.specs.Types.{PassRefusal, Malformed, OutsideDomain, TooManyEvents, NoPlace}
 use Rattle.model.specs.Types.{Event, Key, ModifiersChanged, PointerMoved, MouseMoved, Button, PointerGone, Zoom, Rotate, Touch, MouseWheel, WindowFocused, Other}
 use Rattle.model.specs.Touch.{TouchState}
 use Rattle.model.specs.Pass.{or-else, crowded, item-refusal}
-use Rattle.event_loop.specs.Shaped.{event-or-other, shaped, shaped-events, shaped-after, shaped-at, next-place}
-use Rattle.event_loop.proofs.Walk.{first, past, next, after-piece, items-after-next, further}
-use Rattle.event_loop.proofs.OfKind.{not-of-kind}
-use Rattle.survey.specs.Survey.{option, fits-event, fits-events, fits-item, fits-survey, end-of, Read}
+use Rattle.event_loop.specs.Shaped.{event-or-other, shaped, shaped-events, shaped-after, shaped-at}
+use Rattle.event_loop.specs.Lists.{list-count, touch-list, list-of, listed, listed-events, reads, own}
+use Rattle.event_loop.specs.Loop.{Loop}
+use Rattle.event_loop.proofs.Walk.{first, past, after-piece}
+use Rattle.event_loop.proofs.Loops.{none as none-listed, loop, own-law, listed-other, listed-same, listed-rest, listed-done}
+use Rattle.event_loop.proofs.OfKind.{not-of-kind, kind-of, not-read, list-small}
+use Rattle.survey.specs.Survey.{option, fits-event, fits-events, fits-item, fits-survey, crowd-then, Read}
 use Rattle.survey.specs.declared.reading.MaybePassRefusal.{MaybePassRefusal}
+use Rattle.survey.specs.declared.reading.Reading.{Reading}
 
 no : {P : Type 0} → _≡_ {A = ℕ} 0 1 → P
 no z = absurd (omega arith)
 
 -- ---- an event that is decoded is the one that is shaped
-checked : (m : MaybeEvent) (e : Event) → check-floats m ≡ good e → event-or-other m ≡ e
-unfolding check-floats event-or-other
+checked : (m : MaybeEvent) (e : Event) → check-floats m ≡ good e → m ≡ some-event e
+unfolding check-floats
 checked no-event e h = no (cc)
 checked (some-event f) e h = go (event-ok f) h
   where
-    go : (b : Bool) → cond b (good f) outside-domain ≡ good e → f ≡ e
+    go : (b : Bool) → cond b (good f) outside-domain ≡ good e → some-event f ≡ some-event e
     go true h = cc
     go false h = no (cc)
 
 pub agrees : (ws : List ℕ) (e : Event) → decode ws ≡ good e → shaped ws ≡ e
-unfolding decode shaped
-agrees ws e h = checked (shape ws) e h
+unfolding decode shaped event-or-other
+agrees ws e h = rw (checked (shape ws) e h)
 
 -- ---- what reading an event tells
 found-event : (d : Decoded) (n next : ℕ) (e : Event) → found-at d n ≡ found.Event e next → (d ≡ good e) × (n ≡ next)
@@ -84,223 +90,286 @@ fits-idle (MouseWheel u v ph s m) vs h = refl
 fits-idle (WindowFocused b) vs h = refl
 fits-idle Other vs h = refl
 
--- ---- the first refusal of items is at their first index or after it
-some-is : {r q : PassRefusal} → some q ≡ some r → q ≡ r
-some-is e = cc
-
 pub none-some : {P : Type 0} {r : PassRefusal} → none ≡ some r → P
 none-some e = no (cc)
 
-module _ (n : ℕ) where
-  at-index : (i : ℕ) (q r : PassRefusal) → i ≤ end-of n (some q) → some q ≡ some r → i ≤ end-of n (some r)
-  at-index i q r h e = subst (λ (x : PassRefusal). i ≤ end-of n (some x)) (some-is e) h
-
-  late : (left index skip : ℕ) (us : List ℕ) (r : PassRefusal) → first-refusal left (map item-of (pieces-from index skip us)) ≡ some r → index ≤ end-of n (some r)
-  unfolding pieces-from first-refusal end-of then-refusal item-of
-  late left index skip [] r h = none-some h
-  late left index (suc skip) (u ∷ us) r h =
-      let k = late left (suc index) skip us r h in
-      omega arith
-  late zero index zero (u ∷ us) r h = at-index index (TooManyEvents index) r (omega arith) h
-  late (suc left) index zero (u ∷ us) r h =
-      go (item-of (record { index = index; words = take (piece-length u) (u ∷ us) }) .what) (λ k. late left (suc index) (following u) us r k) h
-    where
-      go : (d : Decoded) → (first-refusal left (map item-of (pieces-from (suc index) (following u) us)) ≡ some r → suc index ≤ end-of n (some r)) →
-          then-refusal index d (first-refusal left (map item-of (pieces-from (suc index) (following u) us))) ≡ some r → index ≤ end-of n (some r)
-      go (good e) more h =
-          let k = more h in
-          omega arith
-      go malformed more h = at-index index (Malformed index) r (omega arith) h
-      go outside-domain more h = at-index index (OutsideDomain index) r (omega arith) h
-
-  late-after : (ws : List ℕ) (left at : ℕ) (r : PassRefusal) → first-refusal left (items-after ws at) ≡ some r → at ≤ end-of n (some r)
-  unfolding items-after
-  late-after ws left at r h = late left at 0 (drop at ws) r h
-
--- ---- at a place
-module _ (ws : List ℕ) (at : ℕ) (here : at < length ws) where
-  abbrev what : Decoded
-  what = decode (piece-at ws at)
-
-  abbrev rest : List Item
-  rest = items-after ws (next-place ws at)
-
-  here-is : items-after ws at ≡ record { index = at; what = what } ∷ rest
-  here-is = items-next ws at here ∙ rw (items-after-next ws at here)
-
-  good-is : (e : Event) → what ≡ good e → shaped-at ws at ≡ e
-  unfolding shaped-at
-  good-is e h = agrees (piece-at ws at) e h
-
-  -- where the refusal is not before this place, this event is the one that is refused
-  stuck-here : (left : ℕ) (r : Option PassRefusal) (held : List TouchState) → end-of (length ws) r ≤ at →
-      first-refusal left (record { index = at; what = what } ∷ rest) ≡ r → fits-survey left (record { index = at; what = what } ∷ rest) held ≡ r
-  unfolding first-refusal fits-survey then-refusal item-refusal or-else end-of
-  stuck-here zero r held e h = h
-  stuck-here (suc left) r held e h = go what r e h
-    where
-      good-case : (r : Option PassRefusal) → end-of (length ws) r ≤ at → first-refusal left rest ≡ r → {P : Type 0} → P
-      good-case none e h = absurd (omega arith)
-      good-case (some r) e h =
-          let l = late-after (length ws) ws left (next-place ws at) r h in
-          let f = further ws at here in
-          absurd (omega arith)
-
-      go : (d : Decoded) (r : Option PassRefusal) → end-of (length ws) r ≤ at → then-refusal at d (first-refusal left rest) ≡ r →
-          or-else (item-refusal at d held) (fits-survey left rest (fits-item d held)) ≡ r
-      go (good x) r e h = good-case r e h
-      go malformed r e h = h
-      go outside-domain r e h = h
-
-pub stuck : (ws : List ℕ) (left at : ℕ) (held : List TouchState) → end-of (length ws) (feed-refusal ws) ≤ at →
-    first-refusal left (items-after ws at) ≡ feed-refusal ws → fits-survey left (items-after ws at) held ≡ feed-refusal ws
-unfolding fits-survey first-refusal
-stuck ws left at held e h = go (ltb at (length ws)) refl
-  where
-    go : (b : Bool) → ltb at (length ws) ≡ b → fits-survey left (items-after ws at) held ≡ feed-refusal ws
-    go true t = rw (here-is ws at (ltb-true _ _ t)) (stuck-here ws at (ltb-true _ _ t) left (feed-refusal ws) held e (rw (here-is ws at (ltb-true _ _ t)) at h))
-    go false t = rw (items-none ws at (ltb-false _ _ t)) (rw (items-none ws at (ltb-false _ _ t)) at h)
-
--- at the end of a feed that is not refused all events are done
-done : (ws : List ℕ) (at : ℕ) (held : List TouchState) → end-of (length ws) (feed-refusal ws) ≤ at → feed-refusal ws ≡ none → fits-events (shaped-after ws at) held ≡ held
-unfolding fits-events end-of
-done ws at held e h = rw (past ws at (rw h at e))
-
--- ---- reading
-abbrev pub Reads : List ℕ → ℕ → ℕ → Bool → Type 0
-Reads ws left at touches =
-    (first-refusal left (items-after ws at) ≡ feed-refusal ws)
-    × (touches ≡ false → (vs : List TouchState) →
-    (fits-survey left (items-after ws at) vs ≡ fits-survey max-events (items ws) vs) × (fits-events (shaped-after ws at) vs ≡ fits-events (shaped-events ws) vs))
-
-pub reads-first : (ws : List ℕ) → Reads ws max-events 0 false
-unfolding feed-refusal
-reads-first ws =
-    (rw (items-first ws), λ t vs. (rw (items-first ws), rw (first ws)))
-
-or-false : (a b : Bool) → (a || b) ≡ false → (a ≡ false) × (b ≡ false)
-or-false false b h = (refl, h)
-or-false true b h = no (cc)
-
-module _ (ws : List ℕ) (at : ℕ) (here : at < length ws) where
-  shaped-next : (next : ℕ) (e : Event) → event-at ws at ≡ found.Event e next → (shaped-at ws at ≡ e) × (shaped-after ws at ≡ e ∷ shaped-after ws next)
+-- ---- an event that is read at a place
+module _ (ws : List ℕ) (at next : ℕ) (e : Event) (here : at < length ws) (found : event-at ws at ≡ found.Event e next) where
+  decoded : (decode (piece-at ws at) ≡ good e) × (at + piece-length (getD ws at 0) ≡ next)
   unfolding event-at
-  shaped-next next e h =
-      let both = found-event (decode (piece-at ws at)) (at + piece-length (getD ws at 0)) next e h in
-      let same = good-is ws at here e (both .0) in
-      (same, after-piece ws at here ∙ rw (same, both .1))
+  decoded = found-event (decode (piece-at ws at)) (at + piece-length (getD ws at 0)) next e found
 
-  pub reads-more : (left next : ℕ) (e : Event) (touches : Bool) → event-at ws at ≡ found.Event e next → Reads ws (suc left) at touches →
-      Reads ws left next (touches || eqb (kind (getD ws at 0)) 9)
-  unfolding first-refusal fits-survey then-refusal fits-events item-refusal or-else fits-item
-  reads-more left next e touches h (a, b) =
-      let s = steps .event ws at next e here h in
-      let q = shaped-next next e h in (
-        sym (rw (s .0) at (sym a)),
-        λ t vs.
-            let f = or-false touches (eqb (kind (getD ws at 0)) 9) t in
-            let c = b (f .0) vs in
-            let other : kind-number e ≡ 9 → ⊥ = rw (q .0) at (not-of-kind ws at 9 (eqb-false _ _ (f .1)) (λ k. omega arith)) in
-            (sym (rw (not-crowded e vs other, fits-idle e vs other) at (rw (s .0) at (sym (c .0)))), sym (ap (λ (es : List Event). fits-events es vs) (q .1) ∙ ap (fits-events (shaped-after ws next)) (fits-idle e vs other)) ∙ c .1),
-      )
+  pub shaped-is : shaped-at ws at ≡ e
+  unfolding shaped-at
+  shaped-is = agrees (piece-at ws at) e (decoded .0)
 
-pub read-done : (ws : List ℕ) (left at : ℕ) (touches : Bool) (q : MaybePassRefusal) → Reads ws left at touches →
-    first-refusal left (items-after ws at) ≡ option q → end-of (length ws) (option q) ≡ at → at ≤ length ws →
-    Read ws (record { refusal = q; end = at; touches = touches })
-read-done ws left at touches q (a, b) h e l =
-    let same : option q ≡ feed-refusal ws = sym h ∙ a in
-    let end : at ≡ end-of (length ws) (feed-refusal ws) = sym e ∙ rw same in
-    let passed : end-of (length ws) (feed-refusal ws) ≤ at = omega arith in
+  pub kind-is : kind-number e ≡ kind (getD ws at 0)
+  unfolding decode piece-at
+  kind-is =
+      let s : shape (piece-at ws at) ≡ some-event e = checked (shape (piece-at ws at)) e (decoded .0) in
+      kind-of (getD ws at 0) (drop (suc at) ws) e (sym (shape-taken (getD ws at 0) (drop (suc at) ws)) ∙ rw (drop-cons ws at 0 here) at s)
+
+  pub after-is : shaped-after ws at ≡ e ∷ shaped-after ws next
+  after-is = after-piece ws at here ∙ rw (shaped-is, decoded .1)
+
+  pub next-near : next ≤ at + 8
+  unfolding piece-length
+  next-near = let d = decoded .1 in omega (arith, following-le (getD ws at 0))
+
+-- ---- the touch events at some places, and what comes after them
+module _ (ws : List ℕ) where
+  pub crowd-same : (ps : List ℕ) (f g : List TouchState → Option PassRefusal) → ((us : List TouchState) → f us ≡ g us) → (vs : List TouchState) → crowd-then ws ps f vs ≡ crowd-then ws ps g vs
+  unfolding crowd-then
+  crowd-same [] f g h vs = h vs
+  crowd-same (p ∷ ps) f g h vs = ap (cond (crowded (shaped-at ws p) vs) (some (NoPlace p))) (crowd-same ps f g h (fits-event (shaped-at ws p) vs))
+
+  crowd-last : (ps : List ℕ) (p : ℕ) (f : List TouchState → Option PassRefusal) (vs : List TouchState) →
+      crowd-then ws (ps ++ (p ∷ [])) f vs ≡ crowd-then ws ps (crowd-then ws (p ∷ []) f) vs
+  unfolding crowd-then
+  crowd-last [] p f vs = refl
+  crowd-last (q ∷ ps) p f vs = ap (cond (crowded (shaped-at ws q) vs) (some (NoPlace q))) (crowd-last ps p f (fits-event (shaped-at ws q) vs))
+
+  -- if nothing is refused, then not what comes after them
+  pub crowd-none : (ps : List ℕ) (q : Option PassRefusal) (vs : List TouchState) → crowd-then ws ps (λ us. q) vs ≡ none → q ≡ none
+  unfolding crowd-then
+  crowd-none [] q vs h = h
+  crowd-none (p ∷ ps) q vs h = go (λ us k. crowd-none ps q us k) (crowded (shaped-at ws p) vs) h
+    where
+      go : ((us : List TouchState) → crowd-then ws ps (λ ts. q) us ≡ none → q ≡ none) → (b : Bool) →
+          cond b (some (NoPlace p)) (crowd-then ws ps (λ ts. q) (fits-event (shaped-at ws p) vs)) ≡ none → q ≡ none
+      go rest true h = none-some (sym h)
+      go rest false h = rest (fits-event (shaped-at ws p) vs) h
+
+or-cond : (b : Bool) (r : PassRefusal) (later : Option PassRefusal) → or-else (cond b (some r) none) later ≡ cond b (some r) later
+unfolding or-else
+or-cond true r later = refl
+or-cond false r later = refl
+
+-- ---- reading: after n events, `left` may still come
+pub record Reads (ws : List ℕ) (left n at : ℕ) (ps counts : List ℕ) : Type 0 where
+  pub all : n + left ≡ max-events
+  pub near : at ≤ 8 * n
+  pub within : at ≤ length ws
+  pub lists : length counts ≡ list-count
+  pub counted : (l : ℕ) → getD counts l 0 ≤ n
+  pub refusal : first-refusal left (items-after ws at) ≡ feed-refusal ws
+  pub own-events : (l : ℕ) → l < list-count → own l (shaped-events ws) ≡ listed-events ws ps l (getD counts l 0) ++ own l (shaped-after ws at)
+  pub crowd : (vs : List TouchState) →
+      fits-survey max-events (items ws) vs ≡ crowd-then ws (listed ps touch-list (getD counts touch-list 0)) (fits-survey left (items-after ws at)) vs
+
+no-counts : (l : ℕ) → _≡_ {A = ℕ} (getD (replicate 6 0) l 0) 0
+no-counts l = go (ltb l 6) refl
+  where
+    go : (b : Bool) → ltb l 6 ≡ b → _≡_ {A = ℕ} (getD (replicate 6 0) l 0) 0
+    go true t = getD-replicate {A = ℕ} 6 l 0 0 (ltb-true _ _ t)
+    go false t = List·getD-eq-default {A = ℕ} (replicate 6 0) 0 {n = l} (ltb-false l 6 t)
+
+pub reads-first : (ws ps : List ℕ) → Reads ws max-events 0 0 ps (replicate 6 0)
+unfolding feed-refusal crowd-then listed
+reads-first ws ps =
+    record {
+      all = refl;
+      near = omega arith;
+      within = omega arith;
+      lists = refl;
+      counted = λ l. rw (no-counts l) (omega arith);
+      refusal = rw (items-first ws);
+      own-events = λ l k. rw (no-counts l, none-listed ws ps l, first ws);
+      crowd = λ vs. rw (items-first ws);
+    }
+
+-- one event more
+module _ (ws : List ℕ) (at next : ℕ) (e : Event) (here : at < length ws) (found : event-at ws at ≡ found.Event e next)
+    (left n : ℕ) (ps counts : List ℕ) (long : length ps ≡ 384) (r : Reads ws (suc left) n at ps counts) where
+  abbrev list : ℕ
+  list = list-of (kind (getD ws at 0))
+
+  abbrev k : ℕ
+  k = getD counts list 0
+
+  abbrev new-places : List ℕ
+  new-places = set ps (list * max-events + k) (at % 65536)
+
+  abbrev new-counts : List ℕ
+  new-counts = set counts list (k + 1)
+
+  small : list ≤ 5
+  small = list-small (kind (getD ws at 0))
+
+  pub fits : list * max-events + k < length ps
+  fits = let s = small in let c = r .counted list in let a = r .all in omega arith
+
+  same-count : getD new-counts list 0 ≡ k + 1
+  same-count = getD-set-same counts list (k + 1) 0 (let s = small in let c = r .lists in omega arith)
+
+  place-is : at % 65536 ≡ at
+  place-is = let a = r .all in let q = r .near in omega arith
+
+  more-listed : listed new-places list (k + 1) ≡ listed ps list k ++ (at ∷ [])
+  more-listed = rw (listed-same ps (at % 65536) list k fits, place-is)
+
+  appended : (l : ℕ) → list ≡ l → listed new-places l (getD new-counts l 0) ≡ listed ps l (getD counts l 0) ++ (at ∷ [])
+  appended l same = rw (← same, same-count) more-listed
+
+  module _ (l : ℕ) (other : l ≡ list → ⊥) where
+    other-count : getD new-counts l 0 ≡ getD counts l 0
+    other-count = getD-set-other counts list l (k + 1) 0 other
+
+    same-listed : listed new-places l (getD counts l 0) ≡ listed ps l (getD counts l 0)
+    same-listed =
+        listed-other ps (at % 65536) (list * max-events + k) l (getD counts l 0)
+        (λ i h q.
+        let a = r .all in
+        let b = r .counted l in
+        let c = r .counted list in
+        other (omega arith))
+
+  new-counted : (l : ℕ) → getD new-counts l 0 ≤ n + 1
+  new-counted l = go (eqb l list) refl
+    where
+      go : (b : Bool) → eqb l list ≡ b → getD new-counts l 0 ≤ n + 1
+      go true t = let c = r .counted list in rw (eqb-true l list t, same-count) (omega arith)
+      go false t = let c = r .counted l in rw (other-count l (eqb-false l list t)) (omega arith)
+
+  new-own : (l : ℕ) → l < list-count → own l (shaped-events ws) ≡ listed-events ws new-places l (getD new-counts l 0) ++ own l (shaped-after ws next)
+  unfolding listed-events own
+  new-own l h = go (eqb list l) refl
+    where
+      before : own l (shaped-events ws) ≡ listed-events ws ps l (getD counts l 0) ++ own l (e ∷ shaped-after ws next)
+      before = r .own-events l h ∙ rw (after-is ws at next e here found)
+
+      reads-is : reads l e ≡ eqb list l
+      reads-is = rw (kind-is ws at next e here found)
+
+      go : (b : Bool) → eqb list l ≡ b → own l (shaped-events ws) ≡ listed-events ws new-places l (getD new-counts l 0) ++ own l (shaped-after ws next)
+      go true t =
+          let same : list ≡ l = eqb-true list l t in
+          before ∙ rw (reads-is, t)
+          (rw (appended l same, map-append (shaped-at ws) (listed ps l (getD counts l 0)) (at ∷ []), shaped-is ws at next e here found)
+          (sym (append-assoc (map (shaped-at ws) (listed ps l (getD counts l 0))) (e ∷ []) (own l (shaped-after ws next)))))
+      go false t =
+          let other : l ≡ list → ⊥ = λ (q : l ≡ list). eqb-false list l t (sym q) in
+          before ∙ rw (reads-is, t, other-count l other, same-listed l other)
+
+  -- the survey at this event
+  after-event : (us : List TouchState) →
+      fits-survey (suc left) (items-after ws at) us ≡ cond (crowded e us) (some (NoPlace at)) (fits-survey left (items-after ws next) (fits-event e us))
+  unfolding fits-survey item-refusal fits-item
+  after-event us = rw (steps .event ws at next e here found .0) (or-cond (crowded e us) (NoPlace at) (fits-survey left (items-after ws next) (fits-event e us)))
+
+  new-crowd : (vs : List TouchState) →
+      fits-survey max-events (items ws) vs ≡ crowd-then ws (listed new-places touch-list (getD new-counts touch-list 0)) (fits-survey left (items-after ws next)) vs
+  unfolding crowd-then
+  new-crowd vs = r .crowd vs ∙ go (eqb list touch-list) refl
+    where
+      go : (b : Bool) → eqb list touch-list ≡ b →
+          crowd-then ws (listed ps touch-list (getD counts touch-list 0)) (fits-survey (suc left) (items-after ws at)) vs
+          ≡ crowd-then ws (listed new-places touch-list (getD new-counts touch-list 0)) (fits-survey left (items-after ws next)) vs
+      go true t =
+          let same : list ≡ touch-list = eqb-true list touch-list t in
+          crowd-same ws (listed ps touch-list (getD counts touch-list 0)) _ (crowd-then ws (at ∷ []) (fits-survey left (items-after ws next)))
+          (λ us. after-event us ∙ rw (shaped-is ws at next e here found)) vs
+          ∙ sym (rw (appended touch-list same) (crowd-last ws (listed ps touch-list (getD counts touch-list 0)) at (fits-survey left (items-after ws next)) vs))
+      go false t =
+          let no-touch : kind-number e ≡ 9 → ⊥ = λ (q : kind-number e ≡ 9). eqb-false list touch-list t (ap list-of (sym (kind-is ws at next e here found) ∙ q)) in
+          let other : touch-list ≡ list → ⊥ = λ (q : touch-list ≡ list). eqb-false list touch-list t (sym q) in
+          rw (other-count touch-list other, same-listed touch-list other)
+          (crowd-same ws (listed ps touch-list (getD counts touch-list 0)) _ _ (λ us. after-event us ∙ rw (not-crowded e us no-touch, fits-idle e us no-touch)) vs)
+
+  pub reads-more : Reads ws left (n + 1) next new-places new-counts
+  unfolding first-refusal then-refusal
+  reads-more =
+      let s = steps .event ws at next e here found in
+      let a = r .all in
+      let b = r .near in
+      let d = next-near ws at next e here found in
+      record {
+        all = omega arith;
+        near = omega arith;
+        within = s .2;
+        lists = length-set counts _ _ ∙ r .lists;
+        counted = new-counted;
+        refusal = sym (rw (s .0) at (sym (r .refusal)));
+        own-events = new-own;
+        crowd = new-crowd;
+      }
+
+-- the end of reading: a refusal at this place whatever the devices are, or none at the feed's end
+pub read-done : (ws : List ℕ) (left n at : ℕ) (ps counts : List ℕ) (q : MaybePassRefusal) → Reads ws left n at ps counts →
+    ((us : List TouchState) → fits-survey left (items-after ws at) us ≡ option q) → first-refusal left (items-after ws at) ≡ option q → (option q ≡ none → length ws ≤ at) →
+    Read ws ps (record { refusal = q; counts = counts })
+unfolding own
+read-done ws left n at ps counts q r h f e =
+    let same : option q ≡ feed-refusal ws = sym f ∙ r .refusal in
     record {
       refusal = same;
-      end = end;
-      within = l;
-      untouched = λ t vs. (sym (b t vs .0) ∙ stuck ws left at vs passed a, λ z. sym (b t vs .1) ∙ done ws at vs passed z);
+      lists = λ z l k. sym (r .own-events l k ∙ rw (past ws at (e (same ∙ z)), append-nil (listed-events ws ps l (getD counts l 0))));
+      crowd = λ vs. r .crowd vs ∙ crowd-same ws _ _ _ (λ us. h us ∙ same) vs;
     }
 
 module _ (ws : List ℕ) (at : ℕ) (here : at < length ws) where
-  pub over-is : first-refusal 0 (items-after ws at) ≡ some (TooManyEvents at)
-  unfolding first-refusal
-  over-is = rw (here-is ws at here)
+  over-item : items-after ws at ≡ record { index = at; what = decode (piece-at ws at) } ∷ items-after ws (at + piece-length (getD ws at 0))
+  over-item = items-next ws at here
 
-  pub malformed-is : (left : ℕ) → event-at ws at ≡ found.Malformed → first-refusal (suc left) (items-after ws at) ≡ some (Malformed at)
-  unfolding first-refusal then-refusal
-  malformed-is left h = rw (steps .refused-1 ws at here h)
+  pub over-is : (us : List TouchState) → (fits-survey 0 (items-after ws at) us ≡ some (TooManyEvents at)) × (first-refusal 0 (items-after ws at) ≡ some (TooManyEvents at))
+  unfolding first-refusal fits-survey
+  over-is us = (rw over-item, rw over-item)
 
-  pub outside-is : (left : ℕ) → event-at ws at ≡ found.OutsideDomain → first-refusal (suc left) (items-after ws at) ≡ some (OutsideDomain at)
-  unfolding first-refusal then-refusal
-  outside-is left h = rw (steps .refused-2 ws at here h)
+  pub malformed-is : (left : ℕ) → event-at ws at ≡ found.Malformed → (us : List TouchState) →
+      (fits-survey (suc left) (items-after ws at) us ≡ some (Malformed at)) × (first-refusal (suc left) (items-after ws at) ≡ some (Malformed at))
+  unfolding first-refusal then-refusal fits-survey item-refusal or-else
+  malformed-is left h us = (rw (steps .refused-1 ws at here h), rw (steps .refused-1 ws at here h))
 
-pub none-is : (ws : List ℕ) (left at : ℕ) → length ws ≤ at → first-refusal left (items-after ws at) ≡ none
-unfolding first-refusal
-none-is ws left at h = rw (items-none ws at h)
+  pub outside-is : (left : ℕ) → event-at ws at ≡ found.OutsideDomain → (us : List TouchState) →
+      (fits-survey (suc left) (items-after ws at) us ≡ some (OutsideDomain at)) × (first-refusal (suc left) (items-after ws at) ≡ some (OutsideDomain at))
+  unfolding first-refusal then-refusal fits-survey item-refusal or-else
+  outside-is left h us = (rw (steps .refused-2 ws at here h), rw (steps .refused-2 ws at here h))
+
+pub none-is : (ws : List ℕ) (left at : ℕ) → length ws ≤ at → (us : List TouchState) →
+    (fits-survey left (items-after ws at) us ≡ none) × (first-refusal left (items-after ws at) ≡ none)
+unfolding first-refusal fits-survey
+none-is ws left at h us = (rw (items-none ws at h), rw (items-none ws at h))
 
 -- ---- the touch events
-abbrev pub Holds : List ℕ → ℕ → ℕ → List TouchState → List TouchState → Type 0
-Holds ws left at vs held =
-    (first-refusal left (items-after ws at) ≡ feed-refusal ws)
-    × (fits-survey left (items-after ws at) held ≡ fits-survey max-events (items ws) vs)
-    × (fits-events (shaped-after ws at) held ≡ fits-events (shaped-events ws) vs)
-
-pub holds-first : (ws : List ℕ) (vs : List TouchState) → Holds ws max-events 0 vs vs
-unfolding feed-refusal
-holds-first ws vs = (rw (items-first ws), rw (items-first ws), rw (first ws))
-
-module _ (ws : List ℕ) (at : ℕ) (here : at < length ws) (before : at < end-of (length ws) (feed-refusal ws)) where
-  refused-here : (r : PassRefusal) → end-of (length ws) (some r) ≡ at → some r ≡ feed-refusal ws → {P : Type 0} → P
-  refused-here r e h =
-      let z : end-of (length ws) (feed-refusal ws) ≡ at = sym (ap (end-of (length ws)) h) ∙ e in
-      absurd (omega arith)
-
-  -- an event before the first refusal is good
-  pub good-before : (left : ℕ) → first-refusal left (items-after ws at) ≡ feed-refusal ws → (0 < left) × (what ws at here ≡ good (shaped-at ws at))
-  unfolding end-of first-refusal then-refusal
-  good-before left h = go left (what ws at here) refl (rw (here-is ws at here) at h)
-    where
-      go : (left : ℕ) (d : Decoded) → what ws at here ≡ d → first-refusal left (record { index = at; what = d } ∷ rest ws at here) ≡ feed-refusal ws →
-          (0 < left) × (d ≡ good (shaped-at ws at))
-      go zero d p h = refused-here (TooManyEvents at) refl h
-      go (suc left) (good e) p h = (omega arith, ap good (sym (good-is ws at here e p)))
-      go (suc left) malformed p h = refused-here (Malformed at) refl h
-      go (suc left) outside-domain p h = refused-here (OutsideDomain at) refl h
-
-  module _ (left : ℕ) (vs held : List TouchState) (holds : Holds ws (suc left) at vs held) where
-    abbrev event : Event
-    event = shaped-at ws at
-
-    item-is : items-after ws at ≡ record { index = at; what = good event } ∷ rest ws at here
-    item-is = here-is ws at here ∙ rw (good-before (suc left) (holds .0) .1)
-
-    pub holds-more : crowded event held ≡ false → Holds ws left (next-place ws at) vs (fits-event event held)
-    unfolding first-refusal fits-survey then-refusal fits-events item-refusal or-else fits-item
-    holds-more free =
-        (sym (rw item-is at (sym (holds .0))), sym (rw free at (rw item-is at (sym (holds .1)))), sym (rw (next ws at here) at (sym (holds .2))))
-
-    pub holds-no-place : crowded event held ≡ true → some (NoPlace at) ≡ fits-survey max-events (items ws) vs
-    unfolding fits-survey item-refusal or-else fits-item
-    holds-no-place full = rw full at (rw item-is at (holds .1))
-
--- a turn of the loop, with n events done
-pub turn : (ws : List ℕ) (at : ℕ) → at < length ws → at < end-of (length ws) (feed-refusal ws) → (n : ℕ) (vs held new : List TouchState) → n ≤ max-events →
-    Holds ws (max-events - n) at vs held → crowded (shaped-at ws at) held ≡ false → new ≡ fits-event (shaped-at ws at) held →
-    (n + 1 ≤ max-events) × Holds ws (max-events - (n + 1)) (next-place ws at) vs new
-turn ws at here before n vs held new l holds free e =
-    let g = good-before ws at here before (max-events - n) (holds .0) .0 in
-    let z : max-events - n ≡ suc (max-events - (n + 1)) = omega arith in
-    (omega arith, rw e (holds-more ws at here before (max-events - (n + 1)) vs held (rw z at holds) free))
-
-pub no-place-at : (ws : List ℕ) (at : ℕ) → at < length ws → at < end-of (length ws) (feed-refusal ws) → (n : ℕ) (vs held : List TouchState) →
-    Holds ws (max-events - n) at vs held → crowded (shaped-at ws at) held ≡ true → some (NoPlace at) ≡ fits-survey max-events (items ws) vs
-no-place-at ws at here before n vs held holds full =
-    let g = good-before ws at here before (max-events - n) (holds .0) .0 in
-    let z : max-events - n ≡ suc (max-events - (n + 1)) = omega arith in
-    holds-no-place ws at here before (max-events - (n + 1)) vs held (rw z at holds) full
-
 pub no-event-9 : (ws : List ℕ) (at : ℕ) → (kind (getD ws at 0) ≡ 9 → ⊥) → kind-number (shaped-at ws at) ≡ 9 → ⊥
 no-event-9 ws at h = not-of-kind ws at 9 h (λ k. omega arith)
 
-pub crowd-done : (ws : List ℕ) (left at : ℕ) (vs held : List TouchState) → Holds ws left at vs held → end-of (length ws) (feed-refusal ws) ≤ at →
-    (feed-refusal ws ≡ fits-survey max-events (items ws) vs) × (fits-survey max-events (items ws) vs ≡ none → held ≡ fits-events (shaped-events ws) vs)
-crowd-done ws left at vs held (a, b, c) passed =
-    let same : feed-refusal ws ≡ fits-survey max-events (items ws) vs = sym (stuck ws left at held passed a) ∙ b in
-    (same, λ z. sym (done ws at held passed (same ∙ z)) ∙ c)
+pub fits-loop : Loop fits-events fits-event
+unfolding fits-events
+fits-loop = loop fits-events fits-event (λ s. refl) (λ e es s. refl)
+
+fits-own : (es : List Event) (vs : List TouchState) → fits-events (own touch-list es) vs ≡ fits-events es vs
+unfolding fits-events
+fits-own es vs = own-law fits-events fits-event (λ s. refl) (λ e es s. refl) touch-list (λ e s h. fits-idle e s (not-read touch-list e 9 h refl)) es vs
+
+-- with i of the n touch events done
+abbrev pub Holds : List ℕ → List ℕ → ℕ → ℕ → List TouchState → List TouchState → Type 0
+Holds ws ps n i vs held =
+    (fits-survey max-events (items ws) vs ≡ crowd-then ws (drop i (listed ps touch-list n)) (λ us. feed-refusal ws) held)
+    × (held ≡ fits-events (listed-events ws ps touch-list i) vs)
+
+pub holds-first : (ws ps : List ℕ) (n : ℕ) (vs : List TouchState) →
+    fits-survey max-events (items ws) vs ≡ crowd-then ws (listed ps touch-list n) (λ us. feed-refusal ws) vs → Holds ws ps n 0 vs vs
+holds-first ws ps n vs h = (h, sym (fits-loop .begins ws ps touch-list vs))
+
+module _ (ws ps : List ℕ) (n i : ℕ) (here : i < n) (vs held : List TouchState) (holds : Holds ws ps n i vs held) where
+  abbrev place : ℕ
+  place = getD ps (touch-list * max-events + i) 0
+
+  pub holds-more : crowded (shaped-at ws place) held ≡ false → (new : List TouchState) → new ≡ fits-event (shaped-at ws place) held → Holds ws ps n (i + 1) vs new
+  unfolding crowd-then
+  holds-more free new e =
+      rw e (holds .0 ∙ rw (listed-rest ps touch-list n i here, free), ap (fits-event (shaped-at ws place)) (holds .1) ∙ sym (fits-loop .goes-on ws ps touch-list i vs))
+
+  pub no-place-at : crowded (shaped-at ws place) held ≡ true → some (NoPlace place) ≡ fits-survey max-events (items ws) vs
+  unfolding crowd-then
+  no-place-at full = sym (holds .0 ∙ rw (listed-rest ps touch-list n i here, full))
+
+pub crowd-done : (ws ps : List ℕ) (r : Reading) (vs held : List TouchState) → Read ws ps r → Holds ws ps (getD (r .counts) touch-list 0) (getD (r .counts) touch-list 0) vs held →
+    (feed-refusal ws ≡ fits-survey max-events (items ws) vs)
+    × (fits-survey max-events (items ws) vs ≡ none → held ≡ fits-events (shaped-events ws) vs)
+unfolding crowd-then
+crowd-done ws ps r vs held read holds =
+    let n = getD (r .counts) touch-list 0 in
+    let same : feed-refusal ws ≡ fits-survey max-events (items ws) vs = sym (holds .0 ∙ rw (listed-done ps touch-list n)) in
+    (same, λ z. holds .1 ∙ rw (read .lists (same ∙ z) touch-list (omega arith)) (fits-own (shaped-events ws) vs))

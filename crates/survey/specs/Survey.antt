@@ -1,22 +1,23 @@
 -- The survey of a feed on the devices that the arrays hold: the model's `survey`, where what does not fit is left out.
 -- Of devices in order these are the model's own (specs/Laws.antt).
-use Prim.Native.Nat.{ℕ, zero, suc, _≤_}
+use Prim.Native.Nat.{ℕ, zero, suc}
 use mathlib.Core.Path.{_≡_}
-use mathlib.Core.Bool.{Bool, true, false, cond}
+use mathlib.Core.Bool.{cond}
 use mathlib.Core.List.{List, [], _∷_}
 use mathlib.Core.Option.{Option, none, some}
 use lib.Dec.{leb}
-use lib.ListN.{length}
+use lib.ListN.{getD, length}
 use Rattle.data.specs.Limits.{max-events, max-devices}
 use Rattle.feed.specs.Decode.{Decoded, good, malformed, outside-domain, Item, items}
 use Rattle.feed.specs.Feed.{feed-refusal}
-use Rattle.model.specs.Types.{TouchPhase, ActiveTouch, PassRefusal, Malformed, OutsideDomain, TimeBelow, TooManyEvents, NoPlace}
+use Rattle.model.specs.Types.{TouchPhase, ActiveTouch, PassRefusal, TooManyEvents, NoPlace}
 use Rattle.model.specs.Types.{Event, Key, ModifiersChanged, PointerMoved, MouseMoved, Button, PointerGone, Zoom, Rotate, Touch, MouseWheel, WindowFocused, Other}
 use Rattle.model.specs.Touch.{TouchState, at-device}
-use Rattle.model.specs.Pass.{or-else, item-refusal}
+use Rattle.model.specs.Pass.{or-else, crowded, item-refusal}
 use Rattle.touches.specs.Touches.{on-touch-if-room}
 use Rattle.touch_state.specs.View.{view}
-use Rattle.event_loop.specs.Shaped.{shaped-events}
+use Rattle.event_loop.specs.Shaped.{shaped-events, shaped-at}
+use Rattle.event_loop.specs.Lists.{touch-list, listed, Listed}
 use Rattle.survey.specs.declared.reading.MaybePassRefusal.{MaybePassRefusal}
 use Rattle.survey.specs.declared.reading.MaybePassRefusal.the-variants.{None as no-refusal, Some as some-refusal}
 use Rattle.survey.specs.declared.reading.Reading.{Reading}
@@ -66,24 +67,20 @@ fits-survey left [] vs = none
 fits-survey zero (i ∷ is) vs = some (TooManyEvents (i .index))
 fits-survey (suc left) (i ∷ is) vs = or-else (item-refusal (i .index) (i .what) vs) (fits-survey left is (fits-item (i .what) vs))
 
--- where a refusal is, or the feed's end
-unfoldable pub end-of : ℕ → Option PassRefusal → ℕ
-end-of n none = n
-end-of n (some (Malformed i)) = i
-end-of n (some (OutsideDomain i)) = i
-end-of n (some TimeBelow) = n
-end-of n (some (TooManyEvents i)) = i
-end-of n (some (NoPlace i)) = i
+-- the events at some places, one after the other: the first that finds no place is refused, and `after` them comes the rest
+unfoldable pub crowd-then : List ℕ → List ℕ → (List TouchState → Option PassRefusal) → List TouchState → Option PassRefusal
+crowd-then ws [] after vs = after vs
+crowd-then ws (p ∷ ps) after vs = cond (crowded (shaped-at ws p) vs) (some (NoPlace p)) (crowd-then ws ps after (fits-event (shaped-at ws p) vs))
 
--- What reading tells: 4, 1, 2; where no event before the end is a touch event, the devices decide nothing.
-pub record Read (ws : List ℕ) (r : Reading) : Type 0 where
+-- What reading tells: 4, 1, 2; of a feed that is not refused, the lists; and the survey is decided by the touch events in their list.
+pub record Read (ws ps : List ℕ) (r : Reading) : Type 0 where
   pub refusal : option (r .refusal) ≡ feed-refusal ws
-  pub end : r .end ≡ end-of (length ws) (feed-refusal ws)
-  pub within : r .end ≤ length ws
-  pub untouched : r .touches ≡ false → (vs : List TouchState) →
-      (fits-survey max-events (items ws) vs ≡ feed-refusal ws) × (feed-refusal ws ≡ none → fits-events (shaped-events ws) vs ≡ vs)
+  pub lists : feed-refusal ws ≡ none → Listed ws ps (r .counts)
+  pub crowd : (vs : List TouchState) →
+      fits-survey max-events (items ws) vs ≡ crowd-then ws (listed ps touch-list (getD (r .counts) touch-list 0)) (λ us. feed-refusal ws) vs
 
--- What the survey tells: the first refusal, and if there is none the devices after the events.
-pub record Answers (ws : List ℕ) (vs : List TouchState) (r : Surveyed) : Type 0 where
+-- What the survey tells: the first refusal, and if there is none the devices after the events, and the lists.
+pub record Answers (ws ps : List ℕ) (vs : List TouchState) (r : Surveyed) : Type 0 where
   pub refusal : option (r .refusal) ≡ fits-survey max-events (items ws) vs
   pub devices : fits-survey max-events (items ws) vs ≡ none → view (r .devices) ≡ fits-events (shaped-events ws) vs
+  pub lists : fits-survey max-events (items ws) vs ≡ none → Listed ws ps (r .counts)

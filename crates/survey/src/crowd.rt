@@ -5,8 +5,10 @@ use crate::reading::read;
 use data::event::Event;
 use data::refusal::PassRefusal;
 use data::touch::ActiveTouch;
-use event_loop::kind_at;
-use event_loop::next_place;
+use event_loop::LIST_COUNT;
+use event_loop::LISTED;
+use event_loop::TOUCHES;
+use event_loop::listed;
 use event_loop::shaped_at;
 use touch_state::devices::Devices;
 ghost use mathlib.Core.Path.{_≡_};
@@ -62,49 +64,43 @@ fn held_after(held: Devices, e: Event) -> Devices
 pub struct Surveyed {
     pub refusal: MaybePassRefusal,
     pub devices: Devices,
+    pub counts: [u8; LIST_COUNT],
 }
 
 // The touch events before the end of what could be read.
-fn crowd(ds: Devices, feed: &[u32], reading: Reading) -> Surveyed
-    requires { ⌜ Read (now feed) reading ⌝ }
-    ensures { λ r. ⌜ Answers (now (feed .entry)) (view ds) r ⌝ }
+fn crowd(ds: Devices, feed: &[u32], lists: &[u16; LISTED], reading: Reading) -> Surveyed
+    requires { ⌜ Read (now feed) (now lists) reading ⌝ }
+    ensures { λ r. ⌜ Answers (now (feed .entry)) (now (lists .entry)) (view ds) r ⌝ }
 {
-    let end = reading.end;
+    let counts = reading.counts;
     let refusal = reading.refusal;
+    let n = counts[TOUCHES as usize];
     let mut held = ds;
-    let mut n: usize = 0;
-    let mut at: usize = 0;
-    while at < end {
-        if kind_at(feed, at) == 9 {
-            let e = shaped_at(feed, at);
-            if is_crowded(held, e) {
-                return Surveyed {
-                    refusal: MaybePassRefusal::Some(PassRefusal::NoPlace(at)),
-                    devices: held,
-                };
-            }
-            held = held_after(held, e);
+    let mut i: u8 = 0;
+    while i < n {
+        let at = listed(lists, TOUCHES, i);
+        let e = shaped_at(feed, at);
+        if is_crowded(held, e) {
+            return Surveyed {
+                refusal: MaybePassRefusal::Some(PassRefusal::NoPlace(at)),
+                devices: held,
+                counts,
+            };
         }
-        n += 1;
-        at = next_place(feed, at);
+        held = held_after(held, e);
+        i += 1;
     }
     Surveyed {
         refusal,
         devices: held,
+        counts,
     }
 }
 
-// Without a touch event the devices are not looked at.
-pub fn survey(ds: Devices, feed: &[u32]) -> Surveyed
-    ensures { λ r. ⌜ Answers (now (feed .entry)) (view ds) r ⌝ }
+// The lent lists are written anew.
+pub fn survey(ds: Devices, feed: &[u32], lists: &mut [u16; LISTED]) -> Surveyed
+    ensures { λ r. ⌜ Answers (now (feed .entry)) (now (lists .exit)) (view ds) r ⌝ }
 {
-    let reading = read(feed);
-    if reading.touches {
-        return crowd(ds, feed, reading);
-    }
-    let refusal = reading.refusal;
-    Surveyed {
-        refusal,
-        devices: ds,
-    }
+    let reading = read(feed, lists);
+    crowd(ds, feed, lists, reading)
 }

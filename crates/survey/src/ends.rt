@@ -2,8 +2,10 @@
 use data::event::Event;
 use data::touch::TouchPhase;
 use emath::pos2::MaybePos2;
+use event_loop::LISTED;
+use event_loop::TOUCHES;
 use event_loop::kind_at;
-use event_loop::next_place;
+use event_loop::listed;
 use event_loop::shaped_at;
 use touch_device::Device;
 use touch_state::devices::Devices;
@@ -14,7 +16,8 @@ ghost use lib.Dec.{eqb};
 ghost use Rattle.model.specs.Touch.{adds-or-removes, added-or-removed-touches, end-touches};
 ghost use Rattle.touch_device.specs.View.{marked-view};
 ghost use Rattle.touch_state.specs.View.{view, marked};
-ghost use Rattle.event_loop.specs.Shaped.{shaped-at, shaped-events};
+ghost use Rattle.event_loop.specs.Shaped.{shaped-at};
+ghost use Rattle.event_loop.specs.Lists.{listed-events, touch-list};
 ghost use Rattle.survey.specs.Ends.{marked-by};
 
 fn adds_or_removes(phase: TouchPhase) -> bool
@@ -63,37 +66,38 @@ fn adds_at(device_id: u64, feed: &[u32], at: usize) -> bool
     false
 }
 
-fn added_or_removed_touches(device_id: u64, feed: &[u32]) -> bool
-    ensures { λ r. ⌜ r ≡ added-or-removed-touches «device_id» (shaped-events (now (feed .entry))) ⌝ }
+fn added_or_removed_touches(device_id: u64, feed: &[u32], lists: &[u16; LISTED], count: u8) -> bool
+    ensures { λ r. ⌜ r ≡ added-or-removed-touches «device_id» (listed-events (now (feed .entry)) (now (lists .entry)) touch-list count) ⌝ }
 {
-    let mut at: usize = 0;
-    while at < feed.len() {
-        if adds_at(device_id, feed, at) {
-            return true;
-        }
-        at = next_place(feed, at);
+    let mut found = false;
+    let mut i: u8 = 0;
+    while i < count {
+        let at = listed(lists, TOUCHES, i);
+        let adds = adds_at(device_id, feed, at);
+        found = found | adds;
+        i += 1;
     }
-    false
+    found
 }
 
-fn mark_device(d: Device, feed: &[u32]) -> Device
-    ensures { λ r. ⌜ marked-view r ≡ marked-by (shaped-events (now (feed .entry))) (marked-view d) ⌝ }
+fn mark_device(d: Device, feed: &[u32], lists: &[u16; LISTED], count: u8) -> Device
+    ensures { λ r. ⌜ marked-view r ≡ marked-by (listed-events (now (feed .entry)) (now (lists .entry)) touch-list count) (marked-view d) ⌝ }
 {
     let mut e = d;
-    e.added_or_removed_touches = added_or_removed_touches(d.id, feed);
+    e.added_or_removed_touches = added_or_removed_touches(d.id, feed, lists, count);
     e
 }
 
 // Each device marked by whether the feed adds touches to it or removes them.
-fn mark(ds: Devices, feed: &[u32]) -> Devices
-    ensures { λ r. ⌜ marked r ≡ map (marked-by (shaped-events (now (feed .entry)))) (marked ds) ⌝ }
+fn mark(ds: Devices, feed: &[u32], lists: &[u16; LISTED], count: u8) -> Devices
+    ensures { λ r. ⌜ marked r ≡ map (marked-by (listed-events (now (feed .entry)) (now (lists .entry)) touch-list count)) (marked ds) ⌝ }
 {
     let n = touch_state::devices::len(ds);
     let mut a = ds.places;
     let mut i: usize = 0;
     while i < n {
         let d = a[i];
-        let e = mark_device(d, feed);
+        let e = mark_device(d, feed, lists, count);
         a[i] = e;
         i += 1;
     }
@@ -104,12 +108,19 @@ fn mark(ds: Devices, feed: &[u32]) -> Devices
 }
 
 // `pointer_pos` is the pointer's interact position of the pass before.
-pub fn end_devices(ds: Devices, feed: &[u32], time: f64, pointer_pos: MaybePos2) -> Devices
-    ensures { λ r. ⌜ view r ≡ map (end-touches time «pointer_pos» (shaped-events (now (feed .entry)))) (view ds) ⌝ }
+pub fn end_devices(
+    ds: Devices,
+    feed: &[u32],
+    lists: &[u16; LISTED],
+    count: u8,
+    time: f64,
+    pointer_pos: MaybePos2,
+) -> Devices
+    ensures { λ r. ⌜ view r ≡ map (end-touches time «pointer_pos» (listed-events (now (feed .entry)) (now (lists .entry)) touch-list count)) (view ds) ⌝ }
 {
     if ds.count == 0 {
         return ds;
     }
-    let m = mark(ds, feed);
+    let m = mark(ds, feed, lists, count);
     touch_state::devices::end_pass(m, time, pointer_pos)
 }

@@ -1,10 +1,15 @@
 // What the words alone decide: "event by event 4, 1, 2".
 use data::limits::MAX_EVENTS;
 use data::refusal::PassRefusal;
-use event_loop::kind_at;
+use event_loop::LIST_COUNT;
+use event_loop::LISTED;
+use event_loop::list_at;
 use feed::decode::EventAt;
 use feed::decode::event_at;
 ghost use mathlib.Core.Path.{_≡_};
+ghost use Prim.Native.Nat.{_+_, _*_, _%_, _<_};
+ghost use lib.ListN.{length, set};
+ghost use Rattle.data.specs.Limits.{max-events};
 ghost use Rattle.survey.specs.Survey.{Read};
 
 // Option<PassRefusal>
@@ -13,53 +18,61 @@ pub enum MaybePassRefusal {
     Some(PassRefusal),
 }
 
-// `end` is the place of the refused event, or the feed's end; `touches` tells whether an event before it is a touch event.
+// `counts` has the number of places in each list.
 pub struct Reading {
     pub refusal: MaybePassRefusal,
-    pub end: usize,
-    pub touches: bool,
+    pub counts: [u8; LIST_COUNT],
 }
 
-pub fn read(feed: &[u32]) -> Reading
-    ensures { λ r. ⌜ Read (now (feed .entry)) r ⌝ }
+// A place more in a list that has `k`.
+fn put(lists: &mut [u16], list: u8, k: u8, at: usize)
+    requires { ⌜ list * max-events + k < length (now lists) ⌝ }
+    ensures { λ _. ⌜ now (lists .exit) ≡ set (now (lists .entry)) (list * max-events + k) (at % 65536) ⌝ }
 {
-    let mut touches = false;
+    let j = (list as usize) * MAX_EVENTS + (k as usize);
+    lists[j] = (at % 65536) as u16;
+}
+
+// The events before the first refusal are put into the lists of the components that read them.
+pub fn read(feed: &[u32], lists: &mut [u16; LISTED]) -> Reading
+    ensures { λ r. ⌜ Read (now (feed .entry)) (now (lists .exit)) r ⌝ }
+{
+    let mut counts = [0u8; LIST_COUNT];
     let mut n: usize = 0;
     let mut at: usize = 0;
     while at < feed.len() {
         if n == MAX_EVENTS {
             return Reading {
                 refusal: MaybePassRefusal::Some(PassRefusal::TooManyEvents(at)),
-                end: at,
-                touches,
+                counts,
             };
         }
         let e = event_at(feed, at);
         match e {
             EventAt::Event(_, next) => {
-                touches = touches | (kind_at(feed, at) == 9);
+                let list = list_at(feed, at);
+                let k = counts[list as usize];
+                put(lists, list, k, at);
+                counts[list as usize] = k + 1;
                 n += 1;
                 at = next;
             }
             EventAt::Malformed => {
                 return Reading {
                     refusal: MaybePassRefusal::Some(PassRefusal::Malformed(at)),
-                    end: at,
-                    touches,
+                    counts,
                 };
             }
             EventAt::OutsideDomain => {
                 return Reading {
                     refusal: MaybePassRefusal::Some(PassRefusal::OutsideDomain(at)),
-                    end: at,
-                    touches,
+                    counts,
                 };
             }
         }
     }
     Reading {
         refusal: MaybePassRefusal::None,
-        end: at,
-        touches,
+        counts,
     }
 }

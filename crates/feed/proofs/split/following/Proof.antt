@@ -10,11 +10,11 @@ use Rattle.feed.proofs.split.following.Tie as tie
 cast-kind : tie.Need-cast-kind
 cast-kind c = search needs
 
-mul-n : tie.Need-mul-n
-mul-n c = search needs
-
 array-read-n : tie.Need-array-read-n
 array-read-n c = search needs
+
+cast-n : tie.Need-cast-n
+cast-n c = omega (arith, length-le (kind (c .args .head)))
 
 cast-result : tie.Need-cast-result
 cast-result c = search needs
@@ -32,4 +32,4 @@ returns-2 c = rw (ne-eqb _ _ (c .if1 .left)) (omega arith)
 
 pub following-spec : {M : Type 1} → statement M
 following-spec =
-    tie.close (tie.spec cast-kind mul-n array-read-n cast-result add-result returns returns-2)
+    tie.close (tie.spec cast-kind array-read-n cast-n cast-result add-result returns returns-2)

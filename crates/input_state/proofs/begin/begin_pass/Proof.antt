@@ -1,10 +1,14 @@
--- `begin/begin_pass` meets its contract: each way to a return is the case of the definition that its tests pick. Assumes nothing.
+-- `begin::begin_pass` meets its contract. Assumes nothing.
 use Rattle.input_state.proofs.Whole.{refused-pass, taken-pass}
 use Rattle.survey.specs.Survey.{option}
 use mathlib.Core.Path.{_≡_, refl, sym, ap, _∙_}
 use borrow.Author.Needs.{needs}
 use Rattle.input_state.proofs.begin.begin_pass.Statement.{statement}
 use Rattle.input_state.proofs.begin.begin_pass.Tie as tie
+use Rattle.input_state.proofs.begin.look.Reads as look-reads
+use Rattle.input_state.proofs.input.time_of.Reads as time-of-reads
+use Rattle.input_state.proofs.state.act.Reads as act-reads
+use Rattle.survey.proofs.ends.end_devices.Reads as end-devices-reads
 
 look-requires : tie.Need-look-requires
 look-requires c κs = search needs
@@ -17,6 +21,12 @@ enum-told c = search needs
 
 time-of-requires : tie.Need-time-of-requires
 time-of-requires c κs = search needs
+
+cast-end-devices : tie.Need-cast-end-devices
+cast-end-devices c = search needs
+
+array-read-end-devices : tie.Need-array-read-end-devices
+array-read-end-devices c = search needs
 
 end-devices-requires : tie.Need-end-devices-requires
 end-devices-requires c κs = search needs
@@ -34,10 +44,10 @@ returns c =
 returns-2 : tie.Need-returns-2
 unfolding option
 returns-2 c =
-    let look = c .before .before .before .before .before .before .before .before .before .before .before .before .before .look in
-    let end = c .before .before .before .before .before .before .end-devices in
-    let q = rw (c .before .before .before .before .before .before .before .before .before .before .before .enum-told .given .1) at (look .ensures .refusal) in
-    taken-pass _ _ _ _ _ _ _ (look .result .devices) _ q refl (look .ensures .devices) (c .before .before .before .before .before .before .before .before .before .time-of .ensures) (end .ensures) (c .act .ensures)
+    let look = c .before .before .before .before .before .before .before .before .before .before .before .before .before .before .before .before .look in
+    let end = c .before .before .before .before .before .before .before .end-devices in
+    let q = rw (c .before .before .before .before .before .before .before .before .before .before .before .before .before .before .enum-told .given .1) at (look .ensures .refusal) in
+    taken-pass _ _ _ _ _ _ _ _ (look .result .counts) (look .result .devices) _ q refl (look .ensures .devices) (look .ensures .lists) (c .before .before .before .before .before .before .before .before .before .before .before .time-of .ensures) (end .ensures) (c .act .ensures)
 
 pub begin-pass-spec : {M : Type 1} → statement M
 begin-pass-spec =
@@ -47,6 +57,8 @@ begin-pass-spec =
     enum-known-refusal
     enum-told
     time-of-requires
+    cast-end-devices
+    array-read-end-devices
     end-devices-requires
     act-requires
     returns

@@ -23,15 +23,15 @@ enum-known-own c = search needs
 returns : tie.Need-returns
 unfolding refusal-of or-else option
 returns c =
-    let none-own = rw (c .before .enum-told .given .1) at (c .before .before .before .own-refusal .ensures (c .before .before .before .before .before .args .feed .now)) in
+    let none-own = rw (c .before .before .enum-told .given .1) at (c .before .before .before .before .own-refusal .ensures (c .before .before .before .before .before .before .args .feed .now)) in
     let s = c .survey .ensures in
-    record { refusal = s .refusal ∙ rw (← none-own); devices = λ z. s .devices (rw (← none-own) at z) }
+    record { refusal = s .refusal ∙ rw (← none-own); devices = λ z. s .devices (rw (← none-own) at z); lists = λ z. s .lists (rw (← none-own) at z) }
 
 returns-2 : tie.Need-returns-2
 unfolding refusal-of or-else option
 returns-2 c =
     let some-own = rw (c .before .own .given .1) at (c .before .before .before .own-refusal .ensures (c .before .before .before .before .before .args .feed .now)) in
-    record { refusal = rw (← some-own); devices = λ z. some-none (rw (← some-own) at z) }
+    record { refusal = rw (← some-own); devices = λ z. some-none (rw (← some-own) at z); lists = λ z. some-none (rw (← some-own) at z) }
 
 pub look-spec : {M : Type 1} → statement M
 look-spec =

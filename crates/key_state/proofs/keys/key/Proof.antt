@@ -24,12 +24,12 @@ returns c f room =
     let small : a .place < 145 = c .before .before .before .before .before .before .if1 .taken in
     let long : length (a .presses .now) ≡ 145 = search needs in
     rw (c .before .count-press .ensures)
-    (is-pressed (a .presses .now) (a .k) _ (a .place) _ (omega arith) (c .before .before .before .before .set .ensures) small (omega arith) (room (a .place)) (c .before .before .before .if2 .taken))
+    (is-pressed (a .presses .now) (a .k) _ (a .place) _ small (c .before .before .before .before .set .ensures) (omega arith) (room (a .place)) (c .before .before .before .if2 .taken))
 
 returns-2 : tie.Need-returns-2
 returns-2 c f room =
     let a = c .before .before .before .before .before .args in
-    released (a .presses .now) (a .k) _ (a .place) _ (omega arith) (c .before .before .set .ensures) (c .before .if2 .left)
+    released (a .presses .now) (a .k) _ (a .place) _ (c .before .before .before .before .if1 .taken) (c .before .before .set .ensures) (c .before .if2 .left)
 
 returns-3 : tie.Need-returns-3
 unfolding fields-ok

@@ -1,43 +1,50 @@
--- `sums/rotation_of` meets its contract: each way to a return is the case of the definition that its tests pick. Assumes nothing.
-use lib.Ieee.{ofBits}
-use Rattle.key_state.proofs.Idle.{rotation-loop}
-use Rattle.event_loop.proofs.Walk.{less}
-use Rattle.event_loop.specs.Shaped.{shaped-after, shaped-events}
-use Rattle.model.specs.Numbers.{+0}
-use Rattle.model.specs.Pass.{rotation-of, rotation-event}
-use lib.ListN.{length}
-use Prim.Native.Nat.{_-_}
+-- `sums::rotation_of` meets its contract. Assumes nothing.
+use Prim.Native.Nat.{_-_, _≤_}
 use mathlib.Core.Path.{_≡_, sym, _∙_}
+use lib.Ieee.{ofBits}
+use native.Mathlib.Omega.{arith}
+use borrow.Author.Needs.{needs}
+use Rattle.model.specs.Numbers.{+0}
+use Rattle.model.specs.Pass.{rotation-of}
+use Rattle.event_loop.specs.Lists.{listed-events, sums-list}
+use Rattle.key_state.proofs.Idle.{rotation-loop}
 use Rattle.key_state.proofs.sums.rotation_of.Statement.{statement}
 use Rattle.key_state.proofs.sums.rotation_of.Tie as tie
+use Rattle.event_loop.proofs.listed.Reads as listed-reads
+use Rattle.key_state.proofs.sums.rotation_at.Reads as rotation-at-reads
 
 abbrev Inv-loop : tie.InvT-loop
-Inv-loop feed radians₀ at₀ radians at = rotation-of (shaped-after feed at) radians ≡ rotation-of (shaped-events feed) +0
+Inv-loop feed lists count radians₀ i₀ radians i = (i ≤ count) × (radians ≡ rotation-of (listed-events feed lists sums-list i) +0)
 
 abbrev μ-loop : tie.MeasureT-loop
-μ-loop feed radians₀ at₀ radians at = length feed - at
+μ-loop feed lists count radians₀ i₀ radians i = count - i
 
 loop-holds : tie.Need-loop-holds Inv-loop μ-loop
 unfolding ofBits
-loop-holds c = rotation-loop .begins _ _
+loop-holds c = (omega arith, sym (rotation-loop .begins _ _ _ _))
+
+listed-requires : tie.Need-listed-requires Inv-loop μ-loop
+listed-requires c κs = search needs
 
 rotation-at-requires : tie.Need-rotation-at-requires Inv-loop μ-loop
-rotation-at-requires c κs = tt
+rotation-at-requires c κs = search needs
 
-next-place-requires : tie.Need-next-place-requires Inv-loop μ-loop
-next-place-requires c κs = tt
+add-i : tie.Need-add-i Inv-loop μ-loop
+add-i c = search needs
 
 loop-less : tie.Need-loop-less Inv-loop μ-loop
-loop-less c =
-    let o = c .before .before in
-    rw (c .next-place .ensures) (less (o .before .before .before .args .feed .now) (o .before .loop .at) (o .loop-test .taken))
+loop-less c = search needs
 
 loop-again : tie.Need-loop-again Inv-loop μ-loop
 loop-again c =
-    rw (c .next-place .ensures, c .before .rotation-at .ensures) (rotation-loop .goes-on _ _ _ (c .before .before .loop-test .taken) ∙ c .before .before .before .loop .inv)
+    let l = c .before .before .before .before .loop in
+    (omega arith, c .rotation-at .ensures ∙ rw (c .before .listed .ensures, l .inv .1) (sym (rotation-loop .goes-on _ _ _ _ _)))
 
 returns : tie.Need-returns Inv-loop μ-loop
-returns c = sym (rotation-loop .ends _ _ _ (c .loop-test .left)) ∙ c .before .loop .inv
+returns c =
+    let l = c .before .loop in
+    let e : l .i ≡ c .before .before .before .args .count = omega arith in
+    rw e at (l .inv .1)
 
 pub rotation-of-spec : {M : Type 1} → statement M
 rotation-of-spec =
@@ -46,8 +53,9 @@ rotation-of-spec =
     Inv-loop
     μ-loop
     loop-holds
+    listed-requires
     rotation-at-requires
-    next-place-requires
+    add-i
     loop-less
     loop-again
     returns)

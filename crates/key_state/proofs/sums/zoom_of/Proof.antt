@@ -1,42 +1,49 @@
--- `sums/zoom_of` meets its contract: each way to a return is the case of the definition that its tests pick. Assumes nothing.
-use Rattle.key_state.proofs.Idle.{zoom-loop}
-use Rattle.event_loop.proofs.Walk.{less}
-use Rattle.event_loop.specs.Shaped.{shaped-after, shaped-events}
-use Rattle.model.specs.Numbers.{one}
-use Rattle.model.specs.Pass.{zoom-of, zoom-event}
-use lib.ListN.{length}
-use Prim.Native.Nat.{_-_}
+-- `sums::zoom_of` meets its contract. Assumes nothing.
+use Prim.Native.Nat.{_-_, _≤_}
 use mathlib.Core.Path.{_≡_, sym, _∙_}
+use native.Mathlib.Omega.{arith}
+use borrow.Author.Needs.{needs}
+use Rattle.model.specs.Numbers.{one}
+use Rattle.model.specs.Pass.{zoom-of}
+use Rattle.event_loop.specs.Lists.{listed-events, sums-list}
+use Rattle.key_state.proofs.Idle.{zoom-loop}
 use Rattle.key_state.proofs.sums.zoom_of.Statement.{statement}
 use Rattle.key_state.proofs.sums.zoom_of.Tie as tie
+use Rattle.event_loop.proofs.listed.Reads as listed-reads
+use Rattle.key_state.proofs.sums.zoom_at.Reads as zoom-at-reads
 
 abbrev Inv-loop : tie.InvT-loop
-Inv-loop feed factor₀ at₀ factor at = zoom-of (shaped-after feed at) factor ≡ zoom-of (shaped-events feed) one
+Inv-loop feed lists count factor₀ i₀ factor i = (i ≤ count) × (factor ≡ zoom-of (listed-events feed lists sums-list i) one)
 
 abbrev μ-loop : tie.MeasureT-loop
-μ-loop feed factor₀ at₀ factor at = length feed - at
+μ-loop feed lists count factor₀ i₀ factor i = count - i
 
 loop-holds : tie.Need-loop-holds Inv-loop μ-loop
 unfolding one
-loop-holds c = zoom-loop .begins _ _
+loop-holds c = (omega arith, sym (zoom-loop .begins _ _ _ _))
+
+listed-requires : tie.Need-listed-requires Inv-loop μ-loop
+listed-requires c κs = search needs
 
 zoom-at-requires : tie.Need-zoom-at-requires Inv-loop μ-loop
-zoom-at-requires c κs = tt
+zoom-at-requires c κs = search needs
 
-next-place-requires : tie.Need-next-place-requires Inv-loop μ-loop
-next-place-requires c κs = tt
+add-i : tie.Need-add-i Inv-loop μ-loop
+add-i c = search needs
 
 loop-less : tie.Need-loop-less Inv-loop μ-loop
-loop-less c =
-    let o = c .before .before in
-    rw (c .next-place .ensures) (less (o .before .before .before .args .feed .now) (o .before .loop .at) (o .loop-test .taken))
+loop-less c = search needs
 
 loop-again : tie.Need-loop-again Inv-loop μ-loop
 loop-again c =
-    rw (c .next-place .ensures, c .before .zoom-at .ensures) (zoom-loop .goes-on _ _ _ (c .before .before .loop-test .taken) ∙ c .before .before .before .loop .inv)
+    let l = c .before .before .before .before .loop in
+    (omega arith, c .zoom-at .ensures ∙ rw (c .before .listed .ensures, l .inv .1) (sym (zoom-loop .goes-on _ _ _ _ _)))
 
 returns : tie.Need-returns Inv-loop μ-loop
-returns c = sym (zoom-loop .ends _ _ _ (c .loop-test .left)) ∙ c .before .loop .inv
+returns c =
+    let l = c .before .loop in
+    let e : l .i ≡ c .before .before .before .args .count = omega arith in
+    rw e at (l .inv .1)
 
 pub zoom-of-spec : {M : Type 1} → statement M
 zoom-of-spec =
@@ -45,8 +52,9 @@ zoom-of-spec =
     Inv-loop
     μ-loop
     loop-holds
+    listed-requires
     zoom-at-requires
-    next-place-requires
+    add-i
     loop-less
     loop-again
     returns)

@@ -1,56 +1,47 @@
--- `place/gone` meets its contract: each way to a return is the case of the definition that its tests pick. Assumes nothing.
-use Rattle.pass_loops.proofs.Loops.{gone-on}
-use Rattle.event_loop.proofs.Walk.{first, past, less}
-use Rattle.model.specs.Pointer.{clear-history-after}
-use Rattle.event_loop.specs.Shaped.{shaped-after, shaped-events}
-use lib.ListN.{length}
-use Prim.Native.Nat.{_+_, _-_, _≤_}
-use borrow.Author.Needs.{needs}
-use mathlib.Core.Path.{_≡_, refl, sym, ap, _∙_}
+-- `place::gone` meets its contract. Assumes nothing.
+use Prim.Native.Nat.{_-_, _≤_}
+use mathlib.Core.Path.{_≡_, sym, _∙_}
 use native.Mathlib.Omega.{arith}
+use borrow.Author.Needs.{needs}
+use Rattle.model.specs.Pointer.{clear-history-after}
+use Rattle.event_loop.specs.Lists.{listed-events, pointer-list}
+use Rattle.pass_loops.proofs.Loops.{gone-loop}
 use Rattle.pass_loops.proofs.place.gone.Statement.{statement}
 use Rattle.pass_loops.proofs.place.gone.Tie as tie
+use Rattle.event_loop.proofs.listed.Reads as listed-reads
+use Rattle.pass_loops.proofs.place.gone_at.Reads as gone-at-reads
 
 abbrev Inv-loop : tie.InvT-loop
-Inv-loop feed at₀ at =
-    clear-history-after (shaped-after feed at) ≡ clear-history-after (shaped-events feed)
+Inv-loop feed lists count found₀ i₀ found i = (i ≤ count) × (found ≡ clear-history-after (listed-events feed lists pointer-list i))
 
 abbrev μ-loop : tie.MeasureT-loop
-μ-loop feed at₀ at = length feed - at
+μ-loop feed lists count found₀ i₀ found i = count - i
 
 loop-holds : tie.Need-loop-holds Inv-loop μ-loop
-loop-holds c = rw (first (c .before .args .feed .now))
+loop-holds c = (omega arith, sym (gone-loop .begins _ _ _))
+
+listed-requires : tie.Need-listed-requires Inv-loop μ-loop
+listed-requires c κs = search needs
 
 gone-at-requires : tie.Need-gone-at-requires Inv-loop μ-loop
 gone-at-requires c κs = search needs
 
-returns : tie.Need-returns Inv-loop μ-loop
-returns c =
-    let o = c .before .before in
-    let l = o .before in
-    sym (gone-on (l .before .before .args .feed .now) (l .loop .at) (o .loop-test .taken) _ (sym (c .if1 .taken) ∙ c .before .gone-at .ensures)) ∙ l .loop .inv
-
-next-place-requires : tie.Need-next-place-requires Inv-loop μ-loop
-next-place-requires c κs = search needs
+add-i : tie.Need-add-i Inv-loop μ-loop
+add-i c = search needs
 
 loop-less : tie.Need-loop-less Inv-loop μ-loop
-loop-less c =
-    let o = c .before .before .before in
-    let l = o .before in
-    rw (c .next-place .ensures) (less (l .before .before .args .feed .now) (l .loop .at) (o .loop-test .taken))
+loop-less c = search needs
 
 loop-again : tie.Need-loop-again Inv-loop μ-loop
 loop-again c =
-    let o = c .before .before .before in
-    let l = o .before in
-    rw (c .next-place .ensures)
-    (sym (gone-on (l .before .before .args .feed .now) (l .loop .at) (o .loop-test .taken) _ (sym (c .before .if1 .left) ∙ c .before .before .gone-at .ensures)) ∙ l .loop .inv)
+    let l = c .before .before .before .before .loop in
+    (omega arith, rw (c .gone-at .ensures, c .before .listed .ensures, l .inv .1) (sym (gone-loop .goes-on _ _ _ _)))
 
-returns-2 : tie.Need-returns-2 Inv-loop μ-loop
-unfolding clear-history-after
-returns-2 c =
-    let l = c .before in
-    sym (rw (past (l .before .before .args .feed .now) (l .loop .at) (c .loop-test .left)) at (sym (l .loop .inv)))
+returns : tie.Need-returns Inv-loop μ-loop
+returns c =
+    let l = c .before .loop in
+    let e : l .i ≡ c .before .before .before .args .count = omega arith in
+    rw e at (l .inv .1)
 
 pub gone-spec : {M : Type 1} → statement M
 gone-spec =
@@ -59,9 +50,9 @@ gone-spec =
     Inv-loop
     μ-loop
     loop-holds
+    listed-requires
     gone-at-requires
-    returns
-    next-place-requires
+    add-i
     loop-less
     loop-again
-    returns-2)
+    returns)

@@ -1,48 +1,51 @@
--- `place/place_events` meets its contract: each way to a return is the case of the definition that its tests pick. Assumes nothing.
-use Rattle.pass_loops.proofs.Loops.{place-loop}
-use Rattle.event_loop.proofs.Walk.{less}
-use Rattle.pointer_place.specs.View.{place}
-use Rattle.model.specs.Pointer.{place-events}
-use lib.Ieee.{Float}
-use mathlib.Core.List.{List}
-use Rattle.event_loop.specs.Shaped.{shaped-after, shaped-events}
-use lib.ListN.{length}
-use Prim.Native.Nat.{_+_, _-_, _≤_}
-use borrow.Author.Needs.{needs}
-use mathlib.Core.Path.{_≡_, refl, sym, ap, _∙_}
+-- `place::place_events` meets its contract. Assumes nothing.
+use Prim.Native.Nat.{_-_, _≤_}
+use mathlib.Core.Path.{_≡_, sym, _∙_}
 use native.Mathlib.Omega.{arith}
+use borrow.Author.Needs.{needs}
+use mathlib.Core.List.{List}
+use lib.Ieee.{Float}
+use Rattle.model.specs.Pointer.{place-events}
+use Rattle.pointer_place.specs.View.{place}
+use Rattle.event_loop.specs.Lists.{listed-events, pointer-list}
+use Rattle.pass_loops.proofs.Loops.{place-loop}
 use Rattle.pass_loops.proofs.place.place_events.Statement.{statement}
 use Rattle.pass_loops.proofs.place.place_events.Tie as tie
+use Rattle.event_loop.proofs.listed.Reads as listed-reads
+use Rattle.pass_loops.proofs.place.place_at.Reads as place-at-reads
 
 abbrev Inv-loop : tie.InvT-loop
-Inv-loop feed s₀ at₀ s at =
-    (times positions : List Float) → place-events (shaped-after feed at) (place times positions s) ≡ place-events (shaped-events feed) (place times positions s₀)
+Inv-loop feed lists count s₀ i₀ s i =
+    (i ≤ count) × ((times positions : List Float) → place times positions s ≡ place-events (listed-events feed lists pointer-list i) (place times positions s₀))
 
 abbrev μ-loop : tie.MeasureT-loop
-μ-loop feed s₀ at₀ s at = length feed - at
+μ-loop feed lists count s₀ i₀ s i = count - i
 
 loop-holds : tie.Need-loop-holds Inv-loop μ-loop
-loop-holds c times positions = place-loop .begins _ _
+loop-holds c = (omega arith, λ times positions. sym (place-loop .begins _ _ _ _))
+
+listed-requires : tie.Need-listed-requires Inv-loop μ-loop
+listed-requires c κs = search needs
 
 place-at-requires : tie.Need-place-at-requires Inv-loop μ-loop
 place-at-requires c κs = search needs
 
-next-place-requires : tie.Need-next-place-requires Inv-loop μ-loop
-next-place-requires c κs = search needs
+add-i : tie.Need-add-i Inv-loop μ-loop
+add-i c = search needs
 
 loop-less : tie.Need-loop-less Inv-loop μ-loop
-loop-less c =
-    let o = c .before .before in
-    let l = o .before in
-    rw (c .next-place .ensures) (less (l .before .before .args .feed .now) (l .loop .at) (o .loop-test .taken))
+loop-less c = search needs
 
 loop-again : tie.Need-loop-again Inv-loop μ-loop
-loop-again c times positions =
-    let o = c .before .before in
-    rw (c .next-place .ensures, c .before .place-at .ensures times positions) (place-loop .goes-on _ _ _ (o .loop-test .taken) ∙ o .before .loop .inv times positions)
+loop-again c =
+    let l = c .before .before .before .before .loop in
+    (omega arith, λ times positions. c .place-at .ensures times positions ∙ rw (c .before .listed .ensures, l .inv .1 times positions) (sym (place-loop .goes-on _ _ _ _ _)))
 
 returns : tie.Need-returns Inv-loop μ-loop
-returns c times positions = sym (place-loop .ends _ _ _ (c .loop-test .left)) ∙ c .before .loop .inv times positions
+returns c times positions =
+    let l = c .before .loop in
+    let e : l .i ≡ c .before .before .before .args .count = omega arith in
+    rw e at (l .inv .1 times positions)
 
 pub place-events-spec : {M : Type 1} → statement M
 place-events-spec =
@@ -51,8 +54,9 @@ place-events-spec =
     Inv-loop
     μ-loop
     loop-holds
+    listed-requires
     place-at-requires
-    next-place-requires
+    add-i
     loop-less
     loop-again
     returns)

@@ -1,45 +1,47 @@
--- `wheel/wheel_events` meets its contract: each way to a return is the case of the definition that its tests pick. Assumes nothing.
-use Rattle.pass_loops.proofs.Loops.{wheel-loop}
-use Rattle.event_loop.proofs.Walk.{less}
-use Rattle.model.specs.Wheel.{wheel-events}
-use Rattle.event_loop.specs.Shaped.{shaped-after, shaped-events}
-use lib.ListN.{length}
-use Prim.Native.Nat.{_+_, _-_, _≤_}
-use borrow.Author.Needs.{needs}
-use mathlib.Core.Path.{_≡_, refl, sym, ap, _∙_}
+-- `wheel::wheel_events` meets its contract. Assumes nothing.
+use Prim.Native.Nat.{_-_, _≤_}
+use mathlib.Core.Path.{_≡_, sym, _∙_}
 use native.Mathlib.Omega.{arith}
+use borrow.Author.Needs.{needs}
+use Rattle.model.specs.Wheel.{wheel-events}
+use Rattle.event_loop.specs.Lists.{listed-events, wheel-list}
+use Rattle.pass_loops.proofs.Loops.{wheel-loop}
 use Rattle.pass_loops.proofs.wheel.wheel_events.Statement.{statement}
 use Rattle.pass_loops.proofs.wheel.wheel_events.Tie as tie
+use Rattle.event_loop.proofs.listed.Reads as listed-reads
+use Rattle.pass_loops.proofs.wheel.wheel_at.Reads as wheel-at-reads
 
 abbrev Inv-loop : tie.InvT-loop
-Inv-loop viewport-rect options time feed v₀ at₀ v at =
-    wheel-events viewport-rect options time (shaped-after feed at) v ≡ wheel-events viewport-rect options time (shaped-events feed) v₀
+Inv-loop viewport-rect options time feed lists count v₀ i₀ v i = (i ≤ count) × (v ≡ wheel-events viewport-rect options time (listed-events feed lists wheel-list i) v₀)
 
 abbrev μ-loop : tie.MeasureT-loop
-μ-loop viewport-rect options time feed v₀ at₀ v at = length feed - at
+μ-loop viewport-rect options time feed lists count v₀ i₀ v i = count - i
 
 loop-holds : tie.Need-loop-holds Inv-loop μ-loop
-loop-holds c = wheel-loop _ _ _ .begins _ _
+loop-holds c = (omega arith, sym (wheel-loop _ _ _ .begins _ _ _ _))
+
+listed-requires : tie.Need-listed-requires Inv-loop μ-loop
+listed-requires c κs = search needs
 
 wheel-at-requires : tie.Need-wheel-at-requires Inv-loop μ-loop
 wheel-at-requires c κs = search needs
 
-next-place-requires : tie.Need-next-place-requires Inv-loop μ-loop
-next-place-requires c κs = search needs
+add-i : tie.Need-add-i Inv-loop μ-loop
+add-i c = search needs
 
 loop-less : tie.Need-loop-less Inv-loop μ-loop
-loop-less c =
-    let o = c .before .before in
-    let l = o .before in
-    rw (c .next-place .ensures) (less (l .before .before .args .feed .now) (l .loop .at) (o .loop-test .taken))
+loop-less c = search needs
 
 loop-again : tie.Need-loop-again Inv-loop μ-loop
 loop-again c =
-    let o = c .before .before in
-    rw (c .next-place .ensures, c .before .wheel-at .ensures) (wheel-loop _ _ _ .goes-on _ _ _ (o .loop-test .taken) ∙ o .before .loop .inv)
+    let l = c .before .before .before .before .loop in
+    (omega arith, c .wheel-at .ensures ∙ rw (c .before .listed .ensures, l .inv .1) (sym (wheel-loop _ _ _ .goes-on _ _ _ _ _)))
 
 returns : tie.Need-returns Inv-loop μ-loop
-returns c = sym (wheel-loop _ _ _ .ends _ _ _ (c .loop-test .left)) ∙ c .before .loop .inv
+returns c =
+    let l = c .before .loop in
+    let e : l .i ≡ c .before .before .before .args .count = omega arith in
+    rw e at (l .inv .1)
 
 pub wheel-events-spec : {M : Type 1} → statement M
 wheel-events-spec =
@@ -48,8 +50,9 @@ wheel-events-spec =
     Inv-loop
     μ-loop
     loop-holds
+    listed-requires
     wheel-at-requires
-    next-place-requires
+    add-i
     loop-less
     loop-again
     returns)

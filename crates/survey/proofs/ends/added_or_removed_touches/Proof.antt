@@ -1,56 +1,47 @@
--- `ends/added_or_removed_touches` meets its contract: each way to a return is the case of the definition that its tests pick. Assumes nothing.
-use Rattle.survey.proofs.Marks.{adds-on}
-use Rattle.event_loop.proofs.Walk.{first, past, less}
-use Rattle.event_loop.specs.Shaped.{shaped-after, shaped-events}
-use Rattle.model.specs.Touch.{added-or-removed-touches}
-use borrow.Author.Needs.{needs}
-use lib.ListN.{length}
-use Prim.Native.Nat.{_-_}
+-- `ends::added_or_removed_touches` meets its contract. Assumes nothing.
+use Prim.Native.Nat.{_-_, _≤_}
 use mathlib.Core.Path.{_≡_, sym, _∙_}
+use native.Mathlib.Omega.{arith}
+use borrow.Author.Needs.{needs}
+use Rattle.model.specs.Touch.{added-or-removed-touches}
+use Rattle.event_loop.specs.Lists.{listed-events, touch-list}
+use Rattle.survey.proofs.Marks.{adds-loop}
 use Rattle.survey.proofs.ends.added_or_removed_touches.Statement.{statement}
 use Rattle.survey.proofs.ends.added_or_removed_touches.Tie as tie
+use Rattle.event_loop.proofs.listed.Reads as listed-reads
+use Rattle.survey.proofs.ends.adds_at.Reads as adds-at-reads
 
 abbrev Inv-loop : tie.InvT-loop
-Inv-loop device-id feed at₀ at = added-or-removed-touches device-id (shaped-after feed at) ≡ added-or-removed-touches device-id (shaped-events feed)
+Inv-loop device-id feed lists count found₀ i₀ found i = (i ≤ count) × (found ≡ added-or-removed-touches device-id (listed-events feed lists touch-list i))
 
 abbrev μ-loop : tie.MeasureT-loop
-μ-loop device-id feed at₀ at = length feed - at
+μ-loop device-id feed lists count found₀ i₀ found i = count - i
 
 loop-holds : tie.Need-loop-holds Inv-loop μ-loop
-loop-holds c = rw (first (c .before .args .feed .now))
+loop-holds c = (omega arith, sym (adds-loop _ .begins _ _ _))
+
+listed-requires : tie.Need-listed-requires Inv-loop μ-loop
+listed-requires c κs = search needs
 
 adds-at-requires : tie.Need-adds-at-requires Inv-loop μ-loop
 adds-at-requires c κs = search needs
 
-returns : tie.Need-returns Inv-loop μ-loop
-returns c =
-    let o = c .before .before in
-    let l = o .before in
-    let a = l .before .before .args in
-    sym (adds-on (a .device-id) (a .feed .now) (l .loop .at) (o .loop-test .taken) _ (sym (c .if1 .taken) ∙ c .before .adds-at .ensures)) ∙ l .loop .inv
-
-next-place-requires : tie.Need-next-place-requires Inv-loop μ-loop
-next-place-requires c κs = search needs
+add-i : tie.Need-add-i Inv-loop μ-loop
+add-i c = search needs
 
 loop-less : tie.Need-loop-less Inv-loop μ-loop
-loop-less c =
-    let o = c .before .before .before in
-    let l = o .before in
-    rw (c .next-place .ensures) (less (l .before .before .args .feed .now) (l .loop .at) (o .loop-test .taken))
+loop-less c = search needs
 
 loop-again : tie.Need-loop-again Inv-loop μ-loop
 loop-again c =
-    let o = c .before .before .before in
-    let l = o .before in
-    let a = l .before .before .args in
-    rw (c .next-place .ensures)
-    (sym (adds-on (a .device-id) (a .feed .now) (l .loop .at) (o .loop-test .taken) _ (sym (c .before .if1 .left) ∙ c .before .before .adds-at .ensures)) ∙ l .loop .inv)
+    let l = c .before .before .before .before .loop in
+    (omega arith, rw (c .adds-at .ensures, c .before .listed .ensures, l .inv .1) (sym (adds-loop _ .goes-on _ _ _ _)))
 
-returns-2 : tie.Need-returns-2 Inv-loop μ-loop
-unfolding added-or-removed-touches
-returns-2 c =
-    let l = c .before in
-    sym (rw (past (l .before .before .args .feed .now) (l .loop .at) (c .loop-test .left)) at (sym (l .loop .inv)))
+returns : tie.Need-returns Inv-loop μ-loop
+returns c =
+    let l = c .before .loop in
+    let e : l .i ≡ c .before .before .before .args .count = omega arith in
+    rw e at (l .inv .1)
 
 pub added-or-removed-touches-spec : {M : Type 1} → statement M
 added-or-removed-touches-spec =
@@ -59,9 +50,9 @@ added-or-removed-touches-spec =
     Inv-loop
     μ-loop
     loop-holds
+    listed-requires
     adds-at-requires
-    returns
-    next-place-requires
+    add-i
     loop-less
     loop-again
-    returns-2)
+    returns)

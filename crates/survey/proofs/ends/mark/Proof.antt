@@ -1,6 +1,6 @@
 -- `ends/mark` meets its contract: each way to a return is the case of the definition that its tests pick. Assumes nothing.
 use Rattle.survey.specs.Ends.{marked-by}
-use Rattle.event_loop.specs.Shaped.{shaped-events}
+use Rattle.event_loop.specs.Lists.{touch-list, listed-events}
 use Rattle.touch_state.proofs.Known.{ended, ended-start, ended-step, ended-end}
 use Rattle.touches.proofs.Places.{first-of, first-le}
 use lib.ListN.{length, length-map, length-set}
@@ -12,11 +12,11 @@ use Rattle.survey.proofs.ends.mark.Statement.{statement}
 use Rattle.survey.proofs.ends.mark.Tie as tie
 
 abbrev Inv-loop : tie.InvT-loop
-Inv-loop feed n a₀ i₀ a i =
-    (i ≤ n) × (n ≤ length a) × (length a ≡ 4) × (ended (marked-by (shaped-events feed)) n a i ≡ ended (marked-by (shaped-events feed)) n a₀ 0)
+Inv-loop feed lists count n a₀ i₀ a i =
+    (i ≤ n) × (n ≤ length a) × (length a ≡ 4) × (ended (marked-by (listed-events feed lists touch-list count)) n a i ≡ ended (marked-by (listed-events feed lists touch-list count)) n a₀ 0)
 
 abbrev μ-loop : tie.MeasureT-loop
-μ-loop feed n a₀ i₀ a i = n - i
+μ-loop feed lists count n a₀ i₀ a i = n - i
 
 len-requires : tie.Need-len-requires Inv-loop μ-loop
 len-requires c κs = search needs

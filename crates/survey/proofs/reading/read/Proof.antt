@@ -1,33 +1,38 @@
--- `reading/read` meets its contract: each way to a return is the case of the definition that its tests pick. Assumes nothing.
-use borrow.Author.Needs.{needs}
-use Rattle.feed.proofs.Steps.{steps}
-use Rattle.survey.specs.Survey.{option, end-of}
-use Rattle.survey.proofs.Places.{Reads, reads-first, reads-more, read-done, over-is, malformed-is, outside-is, none-is}
-use native.Mathlib.Omega.{arith}
-use lib.ListN.{length}
+-- `reading::read` meets its contract. Assumes nothing.
 use Prim.Native.Nat.{suc, _+_, _-_, _≤_}
 use mathlib.Core.Path.{_≡_, refl, sym, _∙_}
+use native.Mathlib.Omega.{arith}
+use borrow.Author.Needs.{needs}
+use mathlib.Core.List.{[]}
+use lib.ListN.{getD, length}
+use Rattle.feed.specs.Split.{kind}
+use Rattle.event_loop.proofs.OfKind.{list-small}
+use Rattle.feed.proofs.Steps.{steps}
+use Rattle.survey.specs.Survey.{option}
+use Rattle.survey.proofs.Places.{Reads, reads-first, fits, reads-more, read-done, over-is, malformed-is, outside-is, none-is, none-some}
 use Rattle.survey.proofs.reading.read.Statement.{statement}
 use Rattle.survey.proofs.reading.read.Tie as tie
-use Rattle.event_loop.proofs.kind_at.Reads as kind-at-reads
+use Rattle.event_loop.proofs.list_at.Reads as list-at-reads
 use Rattle.feed.proofs.decode.event_at.Reads as event-at-reads
+use Rattle.survey.proofs.reading.put.Reads as put-reads
 
 abbrev Inv-loop : tie.InvT-loop
-Inv-loop feed touches₀ n₀ at₀ touches n at = (n ≤ 64) × (at ≤ length feed) × Reads feed (64 - n) at touches
+Inv-loop feed lists₀ counts₀ n₀ at₀ lists counts n at = (n ≤ 64) × Reads feed (64 - n) n at lists counts
 
 abbrev μ-loop : tie.MeasureT-loop
-μ-loop feed touches₀ n₀ at₀ touches n at = length feed - at
+μ-loop feed lists₀ counts₀ n₀ at₀ lists counts n at = length feed - at
 
 loop-holds : tie.Need-loop-holds Inv-loop μ-loop
-loop-holds c = (omega arith, omega arith, reads-first _)
+loop-holds c = (omega arith, reads-first _ _)
 
 returns : tie.Need-returns Inv-loop μ-loop
-unfolding option end-of
+unfolding option
 returns c =
     let l = c .before .before in
     let ws = l .before .before .args .feed .now in
+    let here = c .before .loop-test .taken in
     let z : 64 - l .loop .n ≡ 0 = omega arith in
-    read-done ws 0 (l .loop .at) (l .loop .touches) _ (rw z at (l .loop .inv .2)) (over-is ws (l .loop .at) (c .before .loop-test .taken)) refl (l .loop .inv .1)
+    read-done ws 0 (l .loop .n) (l .loop .at) _ _ _ (rw z at (l .loop .inv .1)) (λ us. over-is ws (l .loop .at) here us .0) (over-is ws (l .loop .at) here [] .1) (λ h. none-some (sym h))
 
 event-at-requires : tie.Need-event-at-requires Inv-loop μ-loop
 event-at-requires c κs = search needs
@@ -35,67 +40,105 @@ event-at-requires c κs = search needs
 enum-known-e : tie.Need-enum-known-e Inv-loop μ-loop
 enum-known-e c = search needs
 
-kind-at-requires : tie.Need-kind-at-requires Inv-loop μ-loop
-kind-at-requires c κs = search needs
+list-at-requires : tie.Need-list-at-requires Inv-loop μ-loop
+list-at-requires c κs = search needs
+
+cast-k : tie.Need-cast-k Inv-loop μ-loop
+cast-k c = search needs
+
+array-read-k : tie.Need-array-read-k Inv-loop μ-loop
+array-read-k c =
+    let l = c .before .before .before .before .before .before .before in
+    let s = list-small (kind (getD (l .before .before .args .feed .now) (l .loop .at) 0)) in
+    rw (c .list-at .ensures) (omega arith)
+
+put-requires : tie.Need-put-requires Inv-loop μ-loop
+put-requires c κs =
+    let m = c .before in
+    let o = m .before .before .before .before .before .before in
+    let l = o .before in
+    let ws = l .before .before .args .feed .now in
+    let found = sym (m .before .before .before .before .event-at .ensures) ∙ m .before .before .e .given .1 in
+    let z : 64 - l .loop .n ≡ suc (64 - (l .loop .n + 1)) = omega arith in
+    let long : length (l .loop .lists) ≡ 384 = search needs in
+    rw (m .list-at .ensures) (fits ws (l .loop .at) _ _ (o .loop-test .taken) found _ _ _ _ long (rw z at (l .loop .inv .1)))
+
+add-counts : tie.Need-add-counts Inv-loop μ-loop
+add-counts c =
+    let l = c .before .before .before .before .before .before .before .before .before .loop in
+    let k = l .inv .1 .counted (c .before .before .list-at .result) in
+    omega arith
+
+cast-counts : tie.Need-cast-counts Inv-loop μ-loop
+cast-counts c = search needs
+
+array-write-counts : tie.Need-array-write-counts Inv-loop μ-loop
+array-write-counts c =
+    let m = c .before .before in
+    let l = m .before .before .before .before .before .before .before in
+    let s = list-small (kind (getD (l .before .before .args .feed .now) (l .loop .at) 0)) in
+    rw (m .list-at .ensures) (omega arith)
 
 add-n : tie.Need-add-n Inv-loop μ-loop
 add-n c =
-    let o = c .before .before .before .before .before .before in
-    let i = o .before .loop .inv in
+    let i = c .before .before .before .before .before .before .before .before .before .loop .inv in
     omega arith
 
 loop-less : tie.Need-loop-less Inv-loop μ-loop
 loop-less c =
-    let o = c .before .before .before .before .before .before in
+    let m = c .before .before in
+    let o = m .before .before .before .before .before .before in
     let l = o .before in
-    let ws = l .before .before .args .feed .now in
-    let found = sym (c .before .before .before .before .event-at .ensures) ∙ c .before .before .e .given .1 in
-    let s = steps .event ws (l .loop .at) _ _ (o .loop-test .taken) found in
+    let found = sym (m .before .before .before .before .event-at .ensures) ∙ m .before .before .e .given .1 in
+    let s = steps .event (l .before .before .args .feed .now) (l .loop .at) _ _ (o .loop-test .taken) found in
     omega (arith, s .1, s .2)
 
 loop-again : tie.Need-loop-again Inv-loop μ-loop
 loop-again c =
-    let o = c .before .before .before .before .before .before in
+    let m = c .before .before in
+    let o = m .before .before .before .before .before .before in
     let l = o .before in
     let ws = l .before .before .args .feed .now in
-    let found = sym (c .before .before .before .before .event-at .ensures) ∙ c .before .before .e .given .1 in
-    let s = steps .event ws (l .loop .at) _ _ (o .loop-test .taken) found in
+    let found = sym (m .before .before .before .before .event-at .ensures) ∙ m .before .before .e .given .1 in
     let z : 64 - l .loop .n ≡ suc (64 - (l .loop .n + 1)) = omega arith in
-    (omega arith, s .2, rw (c .kind-at .ensures) (reads-more ws (l .loop .at) (o .loop-test .taken) _ _ _ _ found (rw z at (l .loop .inv .2))))
+    let long : length (l .loop .lists) ≡ 384 = search needs in
+    (omega arith, rw (c .put .ensures, m .list-at .ensures) (reads-more ws (l .loop .at) _ _ (o .loop-test .taken) found _ _ _ _ long (rw z at (l .loop .inv .1))))
 
 enum-told : tie.Need-enum-told Inv-loop μ-loop
 enum-told c = search needs
 
 returns-2 : tie.Need-returns-2 Inv-loop μ-loop
-unfolding option end-of
+unfolding option
 returns-2 c =
     let o = c .before .before .before .before in
     let l = o .before in
     let ws = l .before .before .args .feed .now in
     let found = sym (c .before .before .event-at .ensures) ∙ c .enum-told .given .1 in
-    let z : 64 - l .loop .n ≡ suc (63 - l .loop .n) = omega arith in
-    read-done ws (suc (63 - l .loop .n)) (l .loop .at) (l .loop .touches) _ (rw z at (l .loop .inv .2)) (malformed-is ws (l .loop .at) (o .loop-test .taken) _ found) refl (l .loop .inv .1)
+    let z : 64 - l .loop .n ≡ suc (64 - (l .loop .n + 1)) = omega arith in
+    let is = malformed-is ws (l .loop .at) (o .loop-test .taken) (64 - (l .loop .n + 1)) found in
+    read-done ws _ (l .loop .n) (l .loop .at) _ _ _ (rw z at (l .loop .inv .1)) (λ us. is us .0) (is [] .1) (λ h. none-some (sym h))
 
 enum-told-2 : tie.Need-enum-told-2 Inv-loop μ-loop
 enum-told-2 c = search needs
 
 returns-3 : tie.Need-returns-3 Inv-loop μ-loop
-unfolding option end-of
+unfolding option
 returns-3 c =
     let o = c .before .before .before .before in
     let l = o .before in
     let ws = l .before .before .args .feed .now in
     let found = sym (c .before .before .event-at .ensures) ∙ c .enum-told2 .given .1 in
-    let z : 64 - l .loop .n ≡ suc (63 - l .loop .n) = omega arith in
-    read-done ws (suc (63 - l .loop .n)) (l .loop .at) (l .loop .touches) _ (rw z at (l .loop .inv .2)) (outside-is ws (l .loop .at) (o .loop-test .taken) _ found) refl (l .loop .inv .1)
+    let z : 64 - l .loop .n ≡ suc (64 - (l .loop .n + 1)) = omega arith in
+    let is = outside-is ws (l .loop .at) (o .loop-test .taken) (64 - (l .loop .n + 1)) found in
+    read-done ws _ (l .loop .n) (l .loop .at) _ _ _ (rw z at (l .loop .inv .1)) (λ us. is us .0) (is [] .1) (λ h. none-some (sym h))
 
 returns-4 : tie.Need-returns-4 Inv-loop μ-loop
-unfolding option end-of
+unfolding option
 returns-4 c =
     let l = c .before in
     let ws = l .before .before .args .feed .now in
-    let e : length ws ≡ l .loop .at = omega arith in
-    read-done ws (64 - l .loop .n) (l .loop .at) (l .loop .touches) _ (l .loop .inv .2) (none-is ws _ (l .loop .at) (c .loop-test .left)) e (l .loop .inv .1)
+    let past = c .loop-test .left in
+    read-done ws _ _ (l .loop .at) _ _ _ (l .loop .inv .1) (λ us. none-is ws _ (l .loop .at) past us .0) (none-is ws _ (l .loop .at) past [] .1) (λ h. past)
 
 pub read-spec : {M : Type 1} → statement M
 read-spec =
@@ -107,7 +150,13 @@ read-spec =
     returns
     event-at-requires
     enum-known-e
-    kind-at-requires
+    list-at-requires
+    cast-k
+    array-read-k
+    put-requires
+    add-counts
+    cast-counts
+    array-write-counts
     add-n
     loop-less
     loop-again
