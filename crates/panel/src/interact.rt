@@ -1,0 +1,115 @@
+// An interact. Of the input it reads the pointer, its time, the options, the touches, the pass's pointer events and the presses of Escape.
+use hit_lists::MaybeHit;
+use input_state::clock::Clock;
+use input_state::pointer::Pointer;
+use input_state::screen::Screen;
+use interaction::state::Interacted;
+use interaction::state::Interaction;
+use interaction::state::Seen;
+use pointer_questions::buttons::is_long_press;
+use pointer_questions::moving::has_pointer;
+use pointer_state::events::CODES;
+use pointer_state::press::any_down;
+use pointer_state::press::could_any_button_be_click;
+use pointer_state::press::is_decidedly_dragging;
+use touch_state::devices::Devices;
+use touch_state::devices::any_touches;
+use widget_index::table::Numbers;
+use widget_index::table::WidgetRects;
+use widget_index::table::Words;
+ghost use Rattle.model.specs.Questions.{settled, bool};
+ghost use Rattle.model.specs.Questions as ask;
+ghost use Rattle.panel.specs.Answers.{of-long-touch};
+ghost use Rattle.panel.specs.Steps.{Sees, Interacts};
+
+// egui's Key::Escape
+const ESCAPE: u32 = 4;
+
+fn is_long_touch(clock: Clock, screen: Screen, pointer: Pointer, devices: Devices) -> bool
+    ensures { λ r. ⌜ of-long-touch (settled ask.is-long-touch) clock screen pointer devices (bool r) ⌝ }
+{
+    let options = screen.options;
+    let press = pointer.press;
+    let started = pointer.started_decidedly_dragging;
+    if is_long_press(press, options, clock.pointer_time, started) {
+        return any_touches(devices);
+    }
+    false
+}
+
+// What an interact reads of the panel's input, but for the pointer events.
+fn seen(
+    clock: Clock,
+    screen: Screen,
+    pointer: Pointer,
+    devices: Devices,
+    codes: &[u32; CODES],
+    presses: &[u8; 145],
+) -> Seen
+    ensures { λ r. ⌜ Sees clock screen pointer devices (now (codes .entry)) (now (presses .entry)) r ⌝ }
+{
+    let time = clock.pointer_time;
+    let options = screen.options;
+    let place = pointer.place;
+    let press = pointer.press;
+    let held = press.held;
+    let past = press.past;
+    let down = held.down;
+    let moved = past.has_moved_too_much_for_a_click;
+    let escape_pressed = key_state::keys::key_pressed(presses, ESCAPE);
+    let long = is_long_touch(clock, screen, pointer, devices);
+    let dragging = is_decidedly_dragging(held, codes, options, time, moved);
+    let could = could_any_button_be_click(held, codes, options, time, moved);
+    Seen {
+        escape_pressed,
+        is_long_touch: long,
+        is_decidedly_dragging: dragging,
+        could_any_button_be_click: could,
+        any_down: any_down(down),
+        has_pointer: has_pointer(place),
+    }
+}
+
+// Refused, with both id buffers as before; or taken: the answer holds the interaction and the tally for the next interact. `top` gets the hovered ids,
+// `all` those that contain the pointer, both ascending; 66 places each. The widgets are those of the set, whose rectangles are not read.
+pub fn interact(
+    clock: Clock,
+    screen: Screen,
+    pointer: Pointer,
+    devices: Devices,
+    codes: &[u32; CODES],
+    presses: &[u8; 145],
+    interaction: Interaction,
+    tally: u32,
+    set: WidgetRects,
+    words: &Words,
+    numbers: &Numbers,
+    close: &[u64],
+    within: &[u64],
+    click: MaybeHit,
+    drag: MaybeHit,
+    top: &mut [u64],
+    all: &mut [u64],
+) -> Interacted
+    ensures { λ r. ⌜ Interacts clock screen pointer devices (now (codes .entry)) (now (presses .entry)) interaction tally «set» (now (words .entry)) (now (numbers .entry)) (now (close .entry)) (now (within .entry)) click drag (now (top .entry)) (now (all .entry)) r (now (top .exit)) (now (all .exit)) ⌝ }
+{
+    let view = seen(clock, screen, pointer, devices, codes, presses);
+    let press = pointer.press;
+    let held = press.held;
+    interaction::interact::interact(
+        view,
+        codes,
+        held.event_count,
+        set,
+        words,
+        numbers,
+        interaction,
+        tally,
+        close,
+        within,
+        click,
+        drag,
+        top,
+        all,
+    )
+}

@@ -1,0 +1,15 @@
+// One door to the panel: a fresh one, a pass, an interact, an insertion, and every question. Each call takes only what it reads.
+// The panel is the records of `state` and the arrays that the caller lends; nothing else writes them between two calls.
+pub mod buttons;
+pub mod clock;
+pub mod dragging;
+pub mod interact;
+pub mod keys;
+pub mod pass;
+pub mod pointer;
+pub mod repaint;
+pub mod scrolling;
+pub mod state;
+pub mod touches;
+pub mod widgets;
+pub mod zoom;
