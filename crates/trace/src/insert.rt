@@ -2,8 +2,11 @@
 use crate::lent::gathered;
 use crate::lent::given;
 use crate::lent::scatter;
+use crate::reply::Reply;
+use crate::reply::malformed;
+use crate::reply::refused_insert;
+use crate::reply::taken;
 use crate::slices::settled;
-use data::refusal::InsertRefusal;
 use data::widget::WidgetRect;
 use trace_answers::widgets::Lent;
 use trace_words::records;
@@ -28,8 +31,14 @@ use widget_index::table::count_at;
 use widget_index::table::layer_of;
 use widget_index::table::layers_of;
 
+// The set after an insertion, and the answer.
+pub struct Placed {
+    pub set: WidgetRects,
+    pub reply: Reply,
+}
+
 // 18 words, then 17 for each record given.
-pub fn is_well_formed(w: &[u32]) -> bool {
+fn is_well_formed(w: &[u32]) -> bool {
     if w.len() < INSERT_WORDS {
         return false;
     }
@@ -59,13 +68,7 @@ fn slice(
 }
 
 // The slice after a taken insertion goes back to where it is kept.
-fn follow(
-    words: &Words,
-    numbers: &Numbers,
-    lent: &mut Lent,
-    a: [WidgetRect; 1024],
-    d: Decision,
-) {
+fn follow(words: &Words, numbers: &Numbers, lent: &mut Lent, a: [WidgetRect; 1024], d: Decision) {
     let set = d.set;
     let w = d.widget;
     let e = find(set, words, numbers, w.id);
@@ -79,17 +82,23 @@ fn follow(
     scatter(lent, set, numbers, b, layer_of(numbers[PLACES + (e - 1)]));
 }
 
-// What the set decides; the answer's words are made of it.
-pub fn insert(
+fn answered(a: &mut Answer, position: usize, many: usize, w: WidgetRect) -> Reply {
+    let mut m = count(a, 0, position);
+    m = count(a, m, many);
+    taken(records::widget(a, m, w))
+}
+
+fn insert_into(
+    a: &mut Answer,
     h: WidgetRects,
     words: &mut Words,
     numbers: &mut Numbers,
     edges: &mut Edges,
     lent: &mut Lent,
     w: &[u32],
-) -> Decision {
+) -> Placed {
     let new = widget(w);
-    let a = slice(h, words, numbers, lent, w, new);
+    let before = slice(h, words, numbers, lent, w, new);
     let d = decide(
         h,
         words,
@@ -99,31 +108,38 @@ pub fn insert(
         new,
         bit(at(w, 16), 4),
     );
-    let taken = d.answer;
-    match taken {
-        Inserted::Refused(_) => d,
-        Inserted::Taken(_, _) => {
-            follow(words, numbers, lent, a, d);
-            d
+    let set = d.set;
+    let record = d.widget;
+    let outcome = d.answer;
+    match outcome {
+        Inserted::Refused(why) => Placed {
+            set,
+            reply: refused_insert(a, why),
+        },
+        Inserted::Taken(position, many) => {
+            follow(words, numbers, lent, before, d);
+            Placed {
+                set,
+                reply: answered(a, position, many, record),
+            }
         }
     }
 }
 
-// Position, count, record.
-pub fn answer(a: &mut Answer, n: usize, position: usize, many: usize, w: WidgetRect) -> usize {
-    let mut m = count(a, n, position);
-    m = count(a, m, many);
-    records::widget(a, m, w)
-}
-
-// Does 01 return an index with it?
-pub fn has_index(why: InsertRefusal) -> bool {
-    match why {
-        InsertRefusal::Malformed => true,
-        InsertRefusal::OutsideDomain => true,
-        InsertRefusal::Full => false,
-        InsertRefusal::OtherLayer => false,
-        InsertRefusal::ShortSlice => false,
-        InsertRefusal::ZeroId => false,
+pub fn insert(
+    a: &mut Answer,
+    h: WidgetRects,
+    words: &mut Words,
+    numbers: &mut Numbers,
+    edges: &mut Edges,
+    lent: &mut Lent,
+    w: &[u32],
+) -> Placed {
+    if !is_well_formed(w) {
+        return Placed {
+            set: h,
+            reply: malformed(),
+        };
     }
+    insert_into(a, h, words, numbers, edges, lent, w)
 }

@@ -4,6 +4,7 @@ pub mod interact;
 pub mod lent;
 pub mod machine;
 pub mod output;
+pub mod reply;
 pub mod run;
 pub mod slices;
 pub mod sums;

@@ -126,7 +126,7 @@ fn pointer(
     m = place(a, m, q);
     m = history(a, m, h, times, positions);
     m = press(a, m, held, past, p.started_decidedly_dragging);
-    events(a, m, held, codes, places)
+    events(a, m, r, codes, places)
 }
 
 fn wheel(a: &mut Answer, n: usize, w: WheelState) -> usize {

@@ -2,12 +2,12 @@
 use data::pointer::MaybeClick;
 use data::pointer::PointerEvent;
 use emath::pos2::Pos2;
-use pointer_questions::buttons::pointer_event;
-use pointer_questions::buttons::pointer_event_count;
+use panel::buttons::pointer_event;
+use panel::buttons::pointer_event_count;
 use pointer_state::events::CODES;
 use pointer_state::events::MaybePointerEvent;
 use pointer_state::events::PLACES;
-use pointer_state::press::Held;
+use pointer_state::press::Press;
 use trace_words::words::Answer;
 use trace_words::words::count;
 use trace_words::words::flags;
@@ -57,15 +57,15 @@ fn maybe_event(a: &mut Answer, n: usize, e: MaybePointerEvent) -> usize {
 pub fn events(
     a: &mut Answer,
     n: usize,
-    h: Held,
+    press: Press,
     codes: &[u32; CODES],
     places: &[f32; PLACES],
 ) -> usize {
-    let len = pointer_event_count(h);
+    let len = pointer_event_count(press);
     let mut m = count(a, n, len);
     let mut i: usize = 0;
     while i < len {
-        m = maybe_event(a, m, pointer_event(h, codes, places, i));
+        m = maybe_event(a, m, pointer_event(press, codes, places, i));
         i += 1;
     }
     m

@@ -1,8 +1,8 @@
 // The keys, 32 and 4 to a word.
 use data::bits::bit_number;
-use input_questions::keys::key_down;
-use input_questions::keys::num_presses;
 use key_state::keys::Keys;
+use panel::keys::key_down;
+use panel::keys::num_presses;
 use trace_words::words::Answer;
 use trace_words::words::word;
 
