@@ -1,8 +1,8 @@
 // INTERACT: the hit lists of a request, and the words of the answer.
-use crate::reply::Reply;
-use crate::reply::malformed;
-use crate::reply::refused_interact;
-use crate::reply::taken;
+use trace_text::reply::Reply;
+use trace_text::reply::malformed;
+use trace_text::reply::refused_interact;
+use trace_text::reply::taken;
 use hit_lists::Hit;
 use hit_lists::MaybeHit;
 use interaction::state::Interacted;

@@ -1,10 +1,10 @@
 // The state of a replay, and one call.
-use crate::insert::insert;
+use trace_widgets::insert::insert;
 use crate::interact::interact;
-use crate::reply::Reply;
-use crate::reply::malformed;
-use crate::reply::refused_pass;
-use crate::reply::taken;
+use trace_text::reply::Reply;
+use trace_text::reply::malformed;
+use trace_text::reply::refused_pass;
+use trace_text::reply::taken;
 use emath::history::MAX_LEN;
 use emath::history::PARTS;
 use panel::state::Panel;
@@ -14,8 +14,16 @@ use pointer_state::events::PLACES;
 use survey::reading::MaybePassRefusal;
 use trace_answers::ask::ask;
 use trace_answers::dump::dump;
-use trace_answers::widgets::Lent;
+use trace_words::records::Lent;
 use trace_answers::widgets::widgets;
+use trace_text::calls::ASK;
+use trace_text::calls::CLEAR_WIDGETS;
+use trace_text::calls::DUMP;
+use trace_text::calls::INSERT;
+use trace_text::calls::INTERACT;
+use trace_text::calls::PASS;
+use trace_text::calls::RESET;
+use trace_text::calls::SET_TALLY;
 use trace_words::request::PASS_WORDS;
 use trace_words::request::at;
 use trace_words::request::pass_input;
@@ -24,22 +32,6 @@ use widget_index::table::Edges;
 use widget_index::table::Numbers;
 use widget_index::table::WidgetRects;
 use widget_index::table::Words;
-
-pub const RESET: u32 = 0;
-
-pub const PASS: u32 = 1;
-
-pub const INSERT: u32 = 2;
-
-pub const CLEAR_WIDGETS: u32 = 3;
-
-pub const INTERACT: u32 = 4;
-
-pub const ASK: u32 = 5;
-
-pub const DUMP: u32 = 6;
-
-pub const SET_TALLY: u32 = 8;
 
 pub struct Machine {
     pub panel: Panel,

@@ -1,5 +1,6 @@
 // The widgets of DUMP: by layer what the caller lent, then the set's own records by id.
 use data::layers::LayerId;
+use trace_words::records::Lent;
 use trace_words::records::widget;
 use trace_words::words::Answer;
 use trace_words::words::count;
@@ -17,12 +18,7 @@ use widget_index::table::layers_of;
 use widget_index::table::position_of;
 use widget_index::table::widget_at;
 use widget_index::table::widgets_of;
-ghost use Prim.Native.Nat.{_<_, _≤_};
-
-// 17 words for each widget, by its slot in the set: what the slices lent for the insertions hold.
-pub const LENT: usize = 17408;
-
-pub type Lent = [u32; 17408];
+ghost use Prim.Native.Nat.{_<_};
 
 // ---- layers
 
@@ -37,9 +33,7 @@ fn before(a: LayerId, b: LayerId) -> bool {
 }
 
 // The number of the least layer after `last`, or 32. `any` makes every layer come after it.
-fn next_layer(h: WidgetRects, words: &Words, numbers: &Numbers, last: LayerId, any: bool) -> usize
-    ensures { λ r. ⌜ r ≤ 32 ⌝ }
-{
+fn next_layer(h: WidgetRects, words: &Words, numbers: &Numbers, last: LayerId, any: bool) -> usize {
     let n = layers_of(h);
     let mut best: usize = 32;
     let mut least = LayerId {
@@ -136,9 +130,7 @@ fn layers(
 // ---- the set's records
 
 // The slot with the least id above `last`, or 1024. No id is 0.
-fn next_slot(h: WidgetRects, words: &Words, last: u64) -> usize
-    ensures { λ r. ⌜ r ≤ 1024 ⌝ }
-{
+fn next_slot(h: WidgetRects, words: &Words, last: u64) -> usize {
     let n = widgets_of(h);
     let mut best: usize = 1024;
     let mut least: u64 = 0;

@@ -6,6 +6,9 @@ use crate::words::word;
 use data::bits::bit_number;
 use data::widget::WidgetRect;
 
+// 17 words for each widget, by its slot in the set: what the slices lent for the insertions hold.
+pub type Lent = [u32; 17408];
+
 // The 17 words of a widget.
 pub fn widget(a: &mut Answer, n: usize, w: WidgetRect) -> usize {
     let layer = w.layer_id;

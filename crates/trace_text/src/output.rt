@@ -1,14 +1,13 @@
 // Bytes for standard output, gathered in a lent buffer of which the first `n` wait to be written.
 use libc::STDOUT_FILENO;
-ghost use Prim.Native.Nat.{_≤_};
 
 pub const SIZE: usize = 65536;
 
 pub type Buffer = [u8; 65536];
 
-pub fn flush(out: &Buffer, n: usize) {
-    if n <= SIZE {
-        io::write_all(STDOUT_FILENO, &out[..n]);
+pub fn flush(out: &[u8], n: usize) {
+    if n <= out.len() {
+        io::write_all(STDOUT_FILENO, &out[0..n]);
     }
 }
 

@@ -3,7 +3,7 @@
 use data::bits::bit_number;
 use data::widget::WidgetRect;
 use emath::rect::Rect;
-use trace_answers::widgets::Lent;
+use trace_words::records::Lent;
 use trace_words::request::WIDGET_WORDS;
 use trace_words::request::widget;
 use widget_index::table::Numbers;

@@ -1,21 +1,21 @@
 // A call in plain text: one line that says when, what, and what came of it.
-use crate::machine::ASK;
-use crate::machine::CLEAR_WIDGETS;
-use crate::machine::DUMP;
-use crate::machine::INSERT;
-use crate::machine::INTERACT;
-use crate::machine::PASS;
-use crate::machine::RESET;
-use crate::machine::SET_TALLY;
+use crate::calls::ASK;
+use crate::calls::CLEAR_WIDGETS;
+use crate::calls::DUMP;
+use crate::calls::INSERT;
+use crate::calls::INTERACT;
+use crate::calls::PASS;
+use crate::calls::RESET;
+use crate::calls::SET_TALLY;
 use crate::output::Buffer;
 use crate::output::aligned;
 use crate::output::byte;
 use crate::output::bytes;
 use crate::output::decimal;
-use crate::reply::MALFORMED;
 use crate::reply::Reply;
 use event_loop::next_place;
 use trace_words::request::PASS_WORDS;
+use trace_words::request::at;
 use trace_words::request::id;
 use trace_words::words::Answer;
 
@@ -94,12 +94,12 @@ fn meaning(out: &mut Buffer, n: usize, code: u32) -> usize {
     }
 }
 
-fn refused(out: &mut Buffer, n: usize, a: &Answer, r: Reply) -> usize {
+fn refused(out: &mut Buffer, n: usize, a: &[u32], r: Reply) -> usize {
     let mut m = bytes(out, n, b"refused ");
     m = decimal(out, m, r.code as u64);
     if r.words > 0 {
         m = bytes(out, m, b" at ");
-        m = decimal(out, m, a[0] as u64);
+        m = decimal(out, m, at(a, 0) as u64);
     }
     m = bytes(out, m, b": ");
     meaning(out, m, r.code)
@@ -155,9 +155,9 @@ fn inserted(out: &mut Buffer, n: usize, a: &[u32]) -> usize {
     let mut m = bytes(out, n, b"widget ");
     m = decimal(out, m, id(a, 2, 3));
     m = bytes(out, m, b" at ");
-    m = decimal(out, m, trace_words::request::at(a, 0) as u64);
+    m = decimal(out, m, at(a, 0) as u64);
     m = bytes(out, m, b" of ");
-    decimal(out, m, trace_words::request::at(a, 1) as u64)
+    decimal(out, m, at(a, 1) as u64)
 }
 
 fn taken(out: &mut Buffer, n: usize, a: &Answer, kind: u32, w: &[u32], t: Tally) -> usize {
@@ -196,14 +196,14 @@ pub fn counted(t: Tally, a: &[u32], r: Reply, kind: u32) -> Tally {
 pub fn line(
     out: &mut Buffer,
     n: usize,
-    at: f64,
+    now: f64,
     a: &Answer,
     r: Reply,
     kind: u32,
     w: &[u32],
     t: Tally,
 ) -> usize {
-    let mut m = time(out, n, at);
+    let mut m = time(out, n, now);
     m = name(out, m, kind);
     if r.code == 0 {
         m = taken(out, m, a, kind, w, t);
