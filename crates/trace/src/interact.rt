@@ -1,8 +1,4 @@
 // INTERACT: the hit lists of a request, and the words of the answer.
-use trace_text::reply::Reply;
-use trace_text::reply::malformed;
-use trace_text::reply::refused_interact;
-use trace_text::reply::taken;
 use hit_lists::Hit;
 use hit_lists::MaybeHit;
 use interaction::state::Interacted;
@@ -10,6 +6,10 @@ use interaction::state::InteractionSnapshot;
 use panel::state::Panel;
 use pointer_state::events::CODES;
 use trace_answers::dump::maybe_id;
+use trace_text::reply::Reply;
+use trace_text::reply::malformed;
+use trace_text::reply::refused_interact;
+use trace_text::reply::taken;
 use trace_words::request::at;
 use trace_words::request::id;
 use trace_words::words;

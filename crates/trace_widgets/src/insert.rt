@@ -2,14 +2,14 @@
 use crate::lent::gathered;
 use crate::lent::given;
 use crate::lent::scatter;
+use crate::slices::settled;
+use data::widget::WidgetRect;
 use trace_text::reply::Reply;
 use trace_text::reply::malformed;
 use trace_text::reply::refused_insert;
 use trace_text::reply::taken;
-use crate::slices::settled;
-use data::widget::WidgetRect;
-use trace_words::records::Lent;
 use trace_words::records;
+use trace_words::records::Lent;
 use trace_words::request::INSERT_WORDS;
 use trace_words::request::WIDGET_WORDS;
 use trace_words::request::at;

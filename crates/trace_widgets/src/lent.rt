@@ -83,10 +83,13 @@ pub fn given(a: [WidgetRect; 1024], k: usize, w: &[u32]) -> [WidgetRect; 1024] {
     let mut b = a;
     let mut i: usize = 0;
     while i < 1024 {
-        if (k <= i) | (w.len() <= i * WIDGET_WORDS) {
+        if k <= i {
             return b;
         }
         let from = i * WIDGET_WORDS;
+        if w.len() <= from {
+            return b;
+        }
         b[i] = widget(&w[from..]);
         i += 1;
     }
