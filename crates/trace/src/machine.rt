@@ -1,0 +1,287 @@
+// The state of a replay, and one call.
+use crate::interact::interact;
+use emath::history::MAX_LEN;
+use emath::history::PARTS;
+use panel::state::Panel;
+use panel::widgets::empty;
+use pointer_state::events::CODES;
+use pointer_state::events::PLACES;
+use survey::reading::MaybePassRefusal;
+use trace_answers::ask::ask;
+use trace_answers::dump::dump;
+use trace_answers::widgets::widgets;
+use trace_text::calls::ASK;
+use trace_text::calls::CLEAR_WIDGETS;
+use trace_text::calls::DUMP;
+use trace_text::calls::INSERT;
+use trace_text::calls::INTERACT;
+use trace_text::calls::PASS;
+use trace_text::calls::RESET;
+use trace_text::calls::SET_TALLY;
+use trace_text::reply::Reply;
+use trace_text::reply::malformed;
+use trace_text::reply::refused_pass;
+use trace_text::reply::taken;
+use trace_widgets::insert::insert;
+use trace_words::records::Lent;
+use trace_words::request::PASS_WORDS;
+use trace_words::request::at;
+use trace_words::request::pass_input;
+use trace_words::words::Answer;
+use widget_index::table::Edges;
+use widget_index::table::Numbers;
+use widget_index::table::WidgetRects;
+use widget_index::table::Words;
+
+pub struct Machine {
+    pub panel: Panel,
+    pub set: WidgetRects,
+}
+
+pub struct Step {
+    pub machine: Machine,
+    pub reply: Reply,
+}
+
+pub fn fresh() -> Machine {
+    let panel = panel::state::fresh();
+    let set = empty();
+    Machine { panel, set }
+}
+
+fn refused(m: Machine) -> Step {
+    Step {
+        machine: m,
+        reply: malformed(),
+    }
+}
+
+fn reset(m: Machine, presses: &mut [u8; 145], w: &[u32]) -> Step {
+    if w.len() > 0 {
+        return refused(m);
+    }
+    *presses = [0; 145];
+    Step {
+        machine: fresh(),
+        reply: taken(0),
+    }
+}
+
+fn clear_widgets(m: Machine, w: &[u32]) -> Step {
+    if w.len() > 0 {
+        return refused(m);
+    }
+    let panel = m.panel;
+    let set = empty();
+    Step {
+        machine: Machine { panel, set },
+        reply: taken(0),
+    }
+}
+
+fn set_tally(m: Machine, w: &[u32]) -> Step {
+    if w.len() != 1 {
+        return refused(m);
+    }
+    let mut panel = m.panel;
+    panel.tally = at(w, 0);
+    let set = m.set;
+    Step {
+        machine: Machine { panel, set },
+        reply: taken(0),
+    }
+}
+
+fn pass_answer(a: &mut Answer, refusal: MaybePassRefusal) -> Reply {
+    match refusal {
+        MaybePassRefusal::None => taken(0),
+        MaybePassRefusal::Some(why) => refused_pass(a, why),
+    }
+}
+
+fn pass(
+    m: Machine,
+    times: &mut [f64; MAX_LEN],
+    positions: &mut [f32; PARTS],
+    codes: &mut [u32; CODES],
+    places: &mut [f32; PLACES],
+    presses: &mut [u8; 145],
+    a: &mut Answer,
+    w: &[u32],
+) -> Step {
+    if w.len() < PASS_WORDS {
+        return refused(m);
+    }
+    let p = m.panel;
+    let set = m.set;
+    let before = p.input;
+    let held = p.devices;
+    let interaction = p.interaction;
+    let begun = panel::pass::pass(
+        before,
+        held,
+        times,
+        positions,
+        codes,
+        places,
+        presses,
+        pass_input(w),
+        &w[PASS_WORDS..],
+    );
+    let input = begun.state;
+    let devices = begun.devices;
+    let refusal = begun.refusal;
+    let panel = Panel {
+        input,
+        devices,
+        interaction,
+        tally: p.tally,
+    };
+    Step {
+        machine: Machine { panel, set },
+        reply: pass_answer(a, refusal),
+    }
+}
+
+fn inserted(
+    m: Machine,
+    words: &mut Words,
+    numbers: &mut Numbers,
+    edges: &mut Edges,
+    lent: &mut Lent,
+    a: &mut Answer,
+    w: &[u32],
+) -> Step {
+    let panel = m.panel;
+    let before = m.set;
+    let placed = insert(a, before, words, numbers, edges, lent, w);
+    let set = placed.set;
+    let reply = placed.reply;
+    Step {
+        machine: Machine { panel, set },
+        reply,
+    }
+}
+
+fn interacted(
+    m: Machine,
+    codes: &[u32; CODES],
+    presses: &[u8; 145],
+    words: &Words,
+    numbers: &Numbers,
+    a: &mut Answer,
+    w: &[u32],
+) -> Step {
+    let p = m.panel;
+    let set = m.set;
+    let stepped = interact(a, p, set, codes, presses, words, numbers, w);
+    let panel = stepped.panel;
+    let reply = stepped.reply;
+    Step {
+        machine: Machine { panel, set },
+        reply,
+    }
+}
+
+fn asked(
+    m: Machine,
+    codes: &[u32; CODES],
+    places: &[f32; PLACES],
+    presses: &[u8; 145],
+    a: &mut Answer,
+    w: &[u32],
+) -> Step {
+    if w.len() > 0 {
+        return refused(m);
+    }
+    let p = m.panel;
+    let input = p.input;
+    let devices = p.devices;
+    Step {
+        machine: m,
+        reply: taken(ask(a, 0, input, devices, codes, places, presses)),
+    }
+}
+
+fn dumped(
+    m: Machine,
+    times: &[f64; MAX_LEN],
+    positions: &[f32; PARTS],
+    codes: &[u32; CODES],
+    places: &[f32; PLACES],
+    presses: &[u8; 145],
+    words: &Words,
+    numbers: &Numbers,
+    edges: &Edges,
+    lent: &Lent,
+    a: &mut Answer,
+    w: &[u32],
+) -> Step {
+    if w.len() > 0 {
+        return refused(m);
+    }
+    let p = m.panel;
+    let set = m.set;
+    let input = p.input;
+    let devices = p.devices;
+    let interaction = p.interaction;
+    let n = dump(
+        a,
+        0,
+        input,
+        devices,
+        interaction,
+        p.tally,
+        times,
+        positions,
+        codes,
+        places,
+        presses,
+    );
+    Step {
+        machine: m,
+        reply: taken(widgets(a, n, set, words, numbers, edges, lent)),
+    }
+}
+
+// One request. A refused or malformed one leaves all as before but for the answer's words.
+pub fn call(
+    m: Machine,
+    times: &mut [f64; MAX_LEN],
+    positions: &mut [f32; PARTS],
+    codes: &mut [u32; CODES],
+    places: &mut [f32; PLACES],
+    presses: &mut [u8; 145],
+    words: &mut Words,
+    numbers: &mut Numbers,
+    edges: &mut Edges,
+    lent: &mut Lent,
+    a: &mut Answer,
+    kind: u32,
+    w: &[u32],
+) -> Step {
+    match kind {
+        RESET => reset(m, presses, w),
+        PASS => pass(m, times, positions, codes, places, presses, a, w),
+        INSERT => inserted(m, words, numbers, edges, lent, a, w),
+        CLEAR_WIDGETS => clear_widgets(m, w),
+        INTERACT => interacted(m, codes, presses, words, numbers, a, w),
+        ASK => asked(m, codes, places, presses, a, w),
+        DUMP => dumped(
+            m,
+            times,
+            positions,
+            codes,
+            places,
+            presses,
+            words,
+            numbers,
+            edges,
+            lent,
+            a,
+            w,
+        ),
+        SET_TALLY => set_tally(m, w),
+        _ => refused(m),
+    }
+}

@@ -1,0 +1,17 @@
+// The calls that a trace may hold.
+
+pub const RESET: u32 = 0;
+
+pub const PASS: u32 = 1;
+
+pub const INSERT: u32 = 2;
+
+pub const CLEAR_WIDGETS: u32 = 3;
+
+pub const INTERACT: u32 = 4;
+
+pub const ASK: u32 = 5;
+
+pub const DUMP: u32 = 6;
+
+pub const SET_TALLY: u32 = 8;

@@ -1,0 +1,228 @@
+// A call in plain text: one line that says when, what, and what came of it.
+use crate::calls::ASK;
+use crate::calls::CLEAR_WIDGETS;
+use crate::calls::DUMP;
+use crate::calls::INSERT;
+use crate::calls::INTERACT;
+use crate::calls::PASS;
+use crate::calls::RESET;
+use crate::calls::SET_TALLY;
+use crate::output::Buffer;
+use crate::output::aligned;
+use crate::output::byte;
+use crate::output::bytes;
+use crate::output::decimal;
+use crate::reply::Reply;
+use event_loop::next_place;
+use trace_words::request::PASS_WORDS;
+use trace_words::request::at;
+use trace_words::request::id;
+use trace_words::words::Answer;
+
+// Drags started and stopped so far, and calls.
+pub struct Tally {
+    pub calls: u64,
+    pub starts: u64,
+    pub stops: u64,
+}
+
+pub fn none() -> Tally {
+    Tally {
+        calls: 0,
+        starts: 0,
+        stops: 0,
+    }
+}
+
+fn shifted(m: u64, by: u64) -> u64 {
+    if by < 64 {
+        return m >> by;
+    }
+    0
+}
+
+// Whole milliseconds of a time, which is at least 0: its 53 digits times 1000, shifted by its exponent.
+fn milliseconds(t: f64) -> u64 {
+    let bits = ieee::bits::to_bits64(t);
+    let exponent = bits / 0x10_0000_0000_0000 % 2048;
+    let digits = bits % 0x10_0000_0000_0000 + 0x10_0000_0000_0000;
+    if exponent > 1075 {
+        return 0;
+    }
+    shifted(digits * 1000, 1075 - exponent)
+}
+
+// Seconds with three places.
+fn time(out: &mut Buffer, n: usize, t: f64) -> usize {
+    let ms = milliseconds(t);
+    let mut m = aligned(out, n, ms / 1000, 8);
+    m = byte(out, m, b'.');
+    m = decimal(out, m, ms / 100 % 10);
+    m = decimal(out, m, ms / 10 % 10);
+    m = decimal(out, m, ms % 10);
+    bytes(out, m, b"  ")
+}
+
+fn name(out: &mut Buffer, n: usize, kind: u32) -> usize {
+    match kind {
+        RESET => bytes(out, n, b"reset     "),
+        PASS => bytes(out, n, b"pass      "),
+        INSERT => bytes(out, n, b"insert    "),
+        CLEAR_WIDGETS => bytes(out, n, b"clear     "),
+        INTERACT => bytes(out, n, b"interact  "),
+        ASK => bytes(out, n, b"ask       "),
+        DUMP => bytes(out, n, b"dump      "),
+        SET_TALLY => bytes(out, n, b"set tally "),
+        _ => bytes(out, n, b"?         "),
+    }
+}
+
+// What 01's table says of a refusal.
+fn meaning(out: &mut Buffer, n: usize, code: u32) -> usize {
+    match code {
+        1 => bytes(out, n, b"unknown kind, field or stray bit, or cut short"),
+        2 => bytes(out, n, b"a float outside the domain"),
+        3 => bytes(out, n, b"the time given is below the panel's"),
+        4 => bytes(out, n, b"event 65, or hit entry 65"),
+        5 => bytes(out, n, b"no place for a device or touch"),
+        6 => bytes(out, n, b"no place for a widget or layer"),
+        7 => bytes(out, n, b"the widget is known on another layer"),
+        8 => bytes(out, n, b"an id buffer or a lent slice is too short"),
+        9 => bytes(out, n, b"an id of 0"),
+        10 => bytes(out, n, b"the tally of drag starts is full"),
+        _ => bytes(out, n, b"no such call, or its words do not fit it; skipped"),
+    }
+}
+
+fn refused(out: &mut Buffer, n: usize, a: &[u32], r: Reply) -> usize {
+    let mut m = bytes(out, n, b"refused ");
+    m = decimal(out, m, r.code as u64);
+    if r.words > 0 {
+        m = bytes(out, m, b" at ");
+        m = decimal(out, m, at(a, 0) as u64);
+    }
+    m = bytes(out, m, b": ");
+    meaning(out, m, r.code)
+}
+
+// How many events the feed has.
+fn event_count(feed: &[u32]) -> u64 {
+    let mut events: u64 = 0;
+    let mut at: usize = 0;
+    while at < feed.len() {
+        events = std::num::wrapping_add_u64(events, 1);
+        at = next_place(feed, at);
+    }
+    events
+}
+
+fn events(out: &mut Buffer, n: usize, w: &[u32]) -> usize {
+    if w.len() < PASS_WORDS {
+        return n;
+    }
+    let k = event_count(&w[PASS_WORDS..]);
+    let m = decimal(out, n, k);
+    if k == 1 {
+        return bytes(out, m, b" event");
+    }
+    bytes(out, m, b" events")
+}
+
+// What was done to a widget, if to any.
+fn did(out: &mut Buffer, n: usize, what: &[u8], d: u64) -> usize {
+    if d == 0 {
+        return n;
+    }
+    let mut m = bytes(out, n, what);
+    m = byte(out, m, b' ');
+    m = decimal(out, m, d);
+    bytes(out, m, b"  ")
+}
+
+fn snapshot(out: &mut Buffer, n: usize, a: &[u32], t: Tally) -> usize {
+    let mut m = did(out, n, b"clicked", id(a, 0, 1));
+    m = did(out, m, b"long touched", id(a, 2, 3));
+    m = did(out, m, b"drag started", id(a, 4, 5));
+    m = did(out, m, b"dragged", id(a, 6, 7));
+    m = did(out, m, b"drag stopped", id(a, 8, 9));
+    m = bytes(out, m, b"starts ");
+    m = decimal(out, m, t.starts);
+    m = bytes(out, m, b" stops ");
+    decimal(out, m, t.stops)
+}
+
+fn inserted(out: &mut Buffer, n: usize, a: &[u32]) -> usize {
+    let mut m = bytes(out, n, b"widget ");
+    m = decimal(out, m, id(a, 2, 3));
+    m = bytes(out, m, b" at ");
+    m = decimal(out, m, at(a, 0) as u64);
+    m = bytes(out, m, b" of ");
+    decimal(out, m, at(a, 1) as u64)
+}
+
+fn taken(out: &mut Buffer, n: usize, a: &Answer, kind: u32, w: &[u32], t: Tally) -> usize {
+    match kind {
+        PASS => events(out, n, w),
+        INSERT => inserted(out, n, a),
+        INTERACT => snapshot(out, n, a, t),
+        _ => n,
+    }
+}
+
+fn one_if(d: u64) -> u64 {
+    if d == 0 {
+        return 0;
+    }
+    1
+}
+
+// A taken interact that names a drag start or stop is counted.
+pub fn counted(t: Tally, a: &[u32], r: Reply, kind: u32) -> Tally {
+    let calls = std::num::wrapping_add_u64(t.calls, 1);
+    if (kind == INTERACT) & (r.code == 0) {
+        return Tally {
+            calls,
+            starts: std::num::wrapping_add_u64(t.starts, one_if(id(a, 4, 5))),
+            stops: std::num::wrapping_add_u64(t.stops, one_if(id(a, 8, 9))),
+        };
+    }
+    Tally {
+        calls,
+        starts: t.starts,
+        stops: t.stops,
+    }
+}
+
+pub fn line(
+    out: &mut Buffer,
+    n: usize,
+    now: f64,
+    a: &Answer,
+    r: Reply,
+    kind: u32,
+    w: &[u32],
+    t: Tally,
+) -> usize {
+    let mut m = time(out, n, now);
+    m = name(out, m, kind);
+    if r.code == 0 {
+        m = taken(out, m, a, kind, w, t);
+        return byte(out, m, b'\n');
+    }
+    m = refused(out, m, a, r);
+    byte(out, m, b'\n')
+}
+
+// The last line: where the trace ends.
+pub fn end(out: &mut Buffer, n: usize, cut: bool, t: Tally) -> usize {
+    let mut m = n;
+    if cut {
+        m = bytes(out, m, b"the trace ends inside a call\n");
+    }
+    m = decimal(out, m, t.calls);
+    m = bytes(out, m, b" calls, drags started ");
+    m = decimal(out, m, t.starts);
+    m = bytes(out, m, b", stopped ");
+    m = decimal(out, m, t.stops);
+    byte(out, m, b'\n')
+}

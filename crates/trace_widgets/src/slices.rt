@@ -1,0 +1,16 @@
+// The widgets of a layer, as the caller of an insertion keeps them.
+use data::widget::WidgetRect;
+use widget_rect::slice::settle;
+ghost use mathlib.Core.Path.{_≡_};
+ghost use Prim.Native.Nat.{_≤_};
+ghost use Rattle.widget_index.specs.Insert.{settled};
+
+// From records by value to a slice that is lent, and back.
+pub fn settled(a: [WidgetRect; 1024], from: usize, to: usize, w: WidgetRect) -> [WidgetRect; 1024]
+    requires { ⌜ to ≤ 1024 ⌝ }
+    ensures { λ r. ⌜ r ≡ settled from to w a ⌝ }
+{
+    let mut b = a;
+    settle(&mut b, from, to, w);
+    b
+}

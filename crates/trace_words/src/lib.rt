@@ -1,0 +1,4 @@
+// The words of compare/FORMAT.md: what a request says, and the words of an answer.
+pub mod records;
+pub mod request;
+pub mod words;
