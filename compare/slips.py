@@ -56,7 +56,7 @@ SLIPS = [
     ('both modifiers swap the axis', WHEEL, 'if is_horizontal && !is_vertical {', 'if is_horizontal {'),
     ('Momentum rests like Trackpad', WHEEL, 'self.source == MouseWheelSource::Trackpad', 'self.source != MouseWheelSource::Wheel'),
     ('End keeps what is unprocessed', WHEEL, 'self.unprocessed_wheel_delta = Default::default();', ''),
-    ('Page goes by the width', WHEEL, 'viewport_rect.height() * delta', 'viewport_rect.width() * delta'),
+    ('Page goes by the width', WHEEL, 'viewport_rect.height() * delta', '(viewport_rect.max.x - viewport_rect.min.x) * delta'),
     # touch
     ('3 to 1 is Horizontal', TOUCH, 'dx > 3.0 * dy', 'dx >= 3.0 * dy'),
     ('1 to 3 is Vertical', TOUCH, 'dy > 3.0 * dx', 'dy >= 3.0 * dx'),
@@ -156,7 +156,7 @@ def main():
         shutil.copytree(HERE, copy, symlinks=True, ignore=shutil.ignore_patterns('target', 'vectors'))
         slipped(copy, file, old, new)
         built = subprocess.run(['cargo', 'build', '--release', '--offline', '--bin', 'oracle', '--bin', 'clearing'], cwd=copy, capture_output=True, text=True,
-                               env=dict(os.environ, CARGO_TARGET_DIR=os.path.join(work, 'target'), CARGO_PROFILE_RELEASE_OPT_LEVEL='1'))
+                               env=dict(os.environ, CARGO_TARGET_DIR=os.path.join(work, 'target'), CARGO_PROFILE_RELEASE_OPT_LEVEL='0', CARGO_INCREMENTAL='1'))
         if built.returncode != 0:
             sys.exit('%s: %s' % (name, built.stderr[-2000:]))
         oracle = os.path.join(work, 'target/release/oracle')
