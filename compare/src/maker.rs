@@ -34,6 +34,12 @@ impl Maker {
         Self { s: Stream::new(seed), requests: Vec::new(), answers: Vec::new(), met: Met::default(), limit, full: false, ask, dump, all: false, list: false, twin: None }
     }
 
+    /// Room for that many words more.
+    pub fn room(&mut self, words: usize) {
+        self.limit = self.requests.len() + words;
+        self.full = false;
+    }
+
     pub(crate) fn rng(&mut self) -> &mut Rng {
         &mut self.s.rng
     }
