@@ -106,7 +106,7 @@ SLIPS = [
     ('a parent of 0 is taken', PANEL, '(Some(id), Some(_parent), Some(layer)) =\n            (Id::from_u64(w.id), Id::from_u64(w.parent), ', '(Some(id), Some(_parent), Some(layer)) =\n            (Id::from_u64(w.id), Id::from_u64(1), '),
     ('a time before is taken', PANEL, 'p.time.is_some_and(|t| t < self.input.time)', 'p.time.is_some_and(|t| t + 1e-9 < self.input.time)'),
     ('a drag start at the end of the tally is taken', PANEL, 'if tally == u32::MAX {\n                return refuse(10);\n            }\n            tally += 1;', 'tally = tally.wrapping_add(1);'),
-    ('a refused start is counted', PANEL, '                return refuse(10);', '                self.interaction = interaction;\n                return refuse(10);'),
+    ('a refused start changes the potential ids', PANEL, '                return refuse(10);', '                self.interaction = interaction;\n                return refuse(10);'),
 ]
 # slips after which a clearing pass no longer makes two panels alike
 UNCLEARED = ['focus lost keeps the keys', 'focus lost keeps the modifiers', 'End keeps what is unprocessed', 'a press keeps "moved too much"', 'motion stays']
