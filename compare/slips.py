@@ -84,6 +84,13 @@ SLIPS = [
     # 01 item 1
     ('a sample of the age itself goes', EMATH, '            && self.values[0].0 < now', '            && self.values[0].0 <= now'),
     ('999 samples', EMATH, 'while self.values.len() > self.max_len {', 'while self.values.len() >= self.max_len {'),
+    ('the age is the f64 0.1', EMATH, 'now - f64::from(self.max_age)', 'now - 0.1'),
+    ('length rounded once', EMATH, '(xx + yy).sqrt()', '(f64::from(self.x).powi(2) + f64::from(self.y).powi(2)).sqrt() as f32'),
+    ('normalized by the reciprocal', EMATH, '{ self / len }', '{ vec2(self.x * (1.0 / len), self.y * (1.0 / len)) }'),
+    ('narrowing cuts off', EMATH, '(b.0 - a.0) as f32', '{ let (d, n) = (b.0 - a.0, (b.0 - a.0) as f32); if f64::from(n) > d { f32::from_bits(n.to_bits() - 1) } else { n } }'),
+    ('difference of narrowed times', EMATH, '(b.0 - a.0) as f32', 'b.0 as f32 - a.0 as f32'),
+    ('an average divides', TOUCH, 'state.avg_distance *= num_touches_recip;', 'state.avg_distance /= num_touches as f32;'),
+    ('-0.0 becomes 0.0', EMATH, '(self.values.back()?.1 - self.values.front()?.1) / dt', '(self.values.back()?.1 - self.values.front()?.1) / dt + vec2(0.0, 0.0)'),
     # the domain
     ('65,536 is refused', DOMAIN, 'v.abs() <= 65_536.0', 'v.abs() < 65_536.0'),
     ('the top of a range is refused', DOMAIN, 'v >= 0.0 && v <= top\n}\npub fn zero_to_f64', 'v >= 0.0 && v < top\n}\npub fn zero_to_f64'),
