@@ -56,7 +56,7 @@ SLIPS = [
     ('both modifiers swap the axis', WHEEL, 'if is_horizontal && !is_vertical {', 'if is_horizontal {'),
     ('Momentum rests like Trackpad', WHEEL, 'self.source == MouseWheelSource::Trackpad', 'self.source != MouseWheelSource::Wheel'),
     ('End keeps what is unprocessed', WHEEL, 'self.unprocessed_wheel_delta = Default::default();', ''),
-    ('Page goes by the width', WHEEL, 'viewport_rect.height() * delta', 'viewport_rect.width() * delta'),
+    ('Page goes by the width', WHEEL, 'viewport_rect.height() * delta', '(viewport_rect.max.x - viewport_rect.min.x) * delta'),
     # touch
     ('3 to 1 is Horizontal', TOUCH, 'dx > 3.0 * dy', 'dx >= 3.0 * dy'),
     ('1 to 3 is Vertical', TOUCH, 'dy > 3.0 * dx', 'dy >= 3.0 * dx'),
@@ -84,6 +84,13 @@ SLIPS = [
     # 01 item 1
     ('a sample of the age itself goes', EMATH, '            && self.values[0].0 < now', '            && self.values[0].0 <= now'),
     ('999 samples', EMATH, 'while self.values.len() > self.max_len {', 'while self.values.len() >= self.max_len {'),
+    ('the age is the f64 0.1', EMATH, 'now - f64::from(self.max_age)', 'now - 0.1'),
+    ('length rounded once', EMATH, '(xx + yy).sqrt()', '(f64::from(self.x).powi(2) + f64::from(self.y).powi(2)).sqrt() as f32'),
+    ('normalized by the reciprocal', EMATH, '{ self / len }', '{ vec2(self.x * (1.0 / len), self.y * (1.0 / len)) }'),
+    ('narrowing cuts off', EMATH, '(b.0 - a.0) as f32', '{ let (d, n) = (b.0 - a.0, (b.0 - a.0) as f32); if f64::from(n) > d { f32::from_bits(n.to_bits() - 1) } else { n } }'),
+    ('difference of narrowed times', EMATH, '(b.0 - a.0) as f32', 'b.0 as f32 - a.0 as f32'),
+    ('an average divides', TOUCH, 'state.avg_distance *= num_touches_recip;', 'state.avg_distance /= num_touches as f32;'),
+    ('-0.0 becomes 0.0', EMATH, '(self.values.back()?.1 - self.values.front()?.1) / dt', '(self.values.back()?.1 - self.values.front()?.1) / dt + vec2(0.0, 0.0)'),
     # the domain
     ('65,536 is refused', DOMAIN, 'v.abs() <= 65_536.0', 'v.abs() < 65_536.0'),
     ('the top of a range is refused', DOMAIN, 'v >= 0.0 && v <= top\n}\npub fn zero_to_f64', 'v >= 0.0 && v < top\n}\npub fn zero_to_f64'),
@@ -106,7 +113,7 @@ SLIPS = [
     ('a parent of 0 is taken', PANEL, '(Some(id), Some(_parent), Some(layer)) =\n            (Id::from_u64(w.id), Id::from_u64(w.parent), ', '(Some(id), Some(_parent), Some(layer)) =\n            (Id::from_u64(w.id), Id::from_u64(1), '),
     ('a time before is taken', PANEL, 'p.time.is_some_and(|t| t < self.input.time)', 'p.time.is_some_and(|t| t + 1e-9 < self.input.time)'),
     ('a drag start at the end of the tally is taken', PANEL, 'if tally == u32::MAX {\n                return refuse(10);\n            }\n            tally += 1;', 'tally = tally.wrapping_add(1);'),
-    ('a refused start is counted', PANEL, '                return refuse(10);', '                self.interaction = interaction;\n                return refuse(10);'),
+    ('a refused start changes the potential ids', PANEL, '                return refuse(10);', '                self.interaction = interaction;\n                return refuse(10);'),
 ]
 # slips after which a clearing pass no longer makes two panels alike
 UNCLEARED = ['focus lost keeps the keys', 'focus lost keeps the modifiers', 'End keeps what is unprocessed', 'a press keeps "moved too much"', 'motion stays']
@@ -156,7 +163,7 @@ def main():
         shutil.copytree(HERE, copy, symlinks=True, ignore=shutil.ignore_patterns('target', 'vectors'))
         slipped(copy, file, old, new)
         built = subprocess.run(['cargo', 'build', '--release', '--offline', '--bin', 'oracle', '--bin', 'clearing'], cwd=copy, capture_output=True, text=True,
-                               env=dict(os.environ, CARGO_TARGET_DIR=os.path.join(work, 'target'), CARGO_PROFILE_RELEASE_OPT_LEVEL='1'))
+                               env=dict(os.environ, CARGO_TARGET_DIR=os.path.join(work, 'target'), CARGO_PROFILE_RELEASE_OPT_LEVEL='0', CARGO_INCREMENTAL='1'))
         if built.returncode != 0:
             sys.exit('%s: %s' % (name, built.stderr[-2000:]))
         oracle = os.path.join(work, 'target/release/oracle')

@@ -12,6 +12,7 @@ pub fn script() -> Script {
     touches(&mut s);
     widgets(&mut s);
     interactions(&mut s);
+    keys(&mut s);
     slips(&mut s);
     refused_feeds(&mut s);
     refused_numbers(&mut s);
@@ -391,6 +392,20 @@ fn refused_feeds(s: &mut Script) {
     for e in [&moved(1.0, 1.0)[..], &[0], &[3 << 28]] {
         s.refused(2.0, &feed(&[&many, e]), 4, 192);
     }
+}
+
+fn keys(s: &mut Script) {
+    s.show("input_state: a key pressed again counts again; lifted, it is not down; focus lost clears keys and modifiers");
+    let key = |k: u32, down: u32| event(1, k | down << 8, &[]);
+    s.taken(1.0, &feed(&[&key(65, 1), &key(65, 1), &key(144, 1), &key(0, 1), &key(0, 0), &event(2, 21, &[])]));
+    assert_eq!((s.panel.input.num_presses(crate::Key(65)), s.panel.input.key_down(crate::Key(0))), (2, false));
+    s.taken(1.125, &event(11, 1, &[]));
+    assert!(s.panel.input.key_down(crate::Key(144)));
+    s.taken(1.25, &event(11, 0, &[]));
+    assert!(s.panel.input.keys_down.is_empty() && s.panel.input.modifiers.is_none());
+    s.show("input_state: zoom factors multiply, radians add");
+    s.taken(1.0, &feed(&[&event(7, 0, &[1.5]), &event(8, 0, &[0.25]), &event(7, 0, &[3.0]), &event(8, 0, &[-0.75])]));
+    assert_eq!((s.panel.zoom().0, s.panel.rotation()), (4.5, Rotation::Radians(-0.5)));
 }
 
 fn refused_numbers(s: &mut Script) {

@@ -1,6 +1,6 @@
 //! Scenes of a hand: clicks, drags, fingers, wheel and keys, with times and places about the options' limits.
 use crate::aimed::{DEVICES, nudge, nudge32, put};
-use crate::maker::{Maker, inside, touch};
+use crate::maker::{Maker, any_float, inside, touch};
 use crate::panel::{Hit, Hits, Widget};
 use crate::words::{self, CLEAR, DUMP, INSERT, PASS, RESET};
 use crate::{Pos2, Rect, domain};
@@ -424,7 +424,8 @@ impl Maker {
     fn wheel_delta(&mut self) -> (f32, f32) {
         let n = self.rng().pick(&[-1, 0, 1]);
         let rng = self.rng();
-        match rng.below(6) {
+        match rng.below(7) {
+            6 => (any_float(rng), any_float(rng)),
             0 => (0.0, nudge32(8.0, n)),
             1 => (nudge32(8.0, n), -0.0),
             2 => (nudge32(4.8, n), 6.4),

@@ -1,6 +1,7 @@
 //! Demand 3 on egui's own answers, as a check of how it is written down: the balance of drag starts and stops
 //! along a list, and two panels with different pasts after the same clearing pass.
 use crate::aimed::nudge;
+use crate::domain::Held;
 use crate::panel::{Hits, Panel, Pass};
 use crate::maker::Maker;
 use crate::scenes::Scene;
@@ -68,7 +69,7 @@ pub struct Twin {
     pub differs: Option<String>,
 }
 
-/// How many words an answer record has.
+/// The answer record that starts there.
 pub fn record_at(answers: &[u32], at: usize) -> &[u32] {
     &answers[at..at + 1 + (answers[at] & 0xFF_FFFF) as usize]
 }
@@ -115,6 +116,26 @@ fn asked(a: &[u32], b: &[u32], click_yet: bool) -> Result<(), String> {
 }
 
 impl Twin {
+    /// The second panel after the clearing pass, whose words are `pass`.
+    fn new(b: &Panel, pass: &[u32], clearing: &Pass, condition: bool) -> Self {
+        Self {
+            b: b.clone(),
+            answers_b: Vec::new(),
+            options: pass[10..18].to_vec(),
+            clearing: clearing.time.expect("a clearing pass gives a time"),
+            twice: 2.0 * clearing.options.max_double_click_delay,
+            condition,
+            button_yet: false,
+            pass_yet: false,
+            click_yet: false,
+            passes: 0,
+            interacts: 0,
+            refused: 0,
+            left_out: 0,
+            differs: None,
+        }
+    }
+
     /// One call to both panels. It joins the list if both take it or both refuse it, and the first button event is as asked.
     pub fn record(&mut self, a: &mut Panel, requests: &mut Vec<u32>, answers: &mut Vec<u32>, call: u32, w: &[u32]) {
         if matches!(call, RESET | SET_TALLY | DUMP | ASK) || call > SET_TALLY {
@@ -185,9 +206,8 @@ fn first_button(feed: &[u32]) -> Option<bool> {
 
 /// Two pasts, the clearing pass with its interact, and a later list.
 pub struct TwoPanels {
+    /// each with the clearing pass and its interact at its end
     pub past: [Maker; 2],
-    /// where the common part starts in the second past's requests and answers
-    pub from: [usize; 2],
     pub later: Maker,
 }
 
@@ -203,34 +223,26 @@ pub fn two_panels(seed: u64, condition: bool) -> Option<TwoPanels> {
         for _ in 0..m.s.rng.below(6) {
             m.scene();
         }
+        m.room(2000);
         m
     });
     let rng = &mut past[0].s.rng;
     let at = Pos2::new((rng.unit() * 100.0).floor(), (rng.unit() * 100.0).floor());
     let options = crate::aimed::some_options(rng);
-    let later_by = rng.pick(&[0.0, 1.0 / 64.0, 1.0]);
-    let time = past[0].now().max(past[1].now()) + later_by;
-    let mut held = past[0].s.panel.held();
-    for (d, touches) in past[1].s.panel.held() {
-        match held.iter_mut().find(|(e, _)| *e == d) {
-            Some((_, t)) => touches.iter().for_each(|id| if !t.contains(id) { t.push(*id) }),
-            None => held.push((d, touches)),
-        }
-    }
-    let clearing = Pass { time: Some(time), screen_rect: Some(Rect::from_min_max(Pos2::new(0.0, 0.0), Pos2::new(800.0, 600.0))), options, ..Default::default() };
-    let feed = script::clearing_feed(&held, at);
-    let pass = words::write_pass(&clearing, &feed);
-    let widgets: Vec<Vec<u32>> = (0..4).map(|k| words::write_insert(&script::widget(10 + k, [1, 2, 3, 0][k as usize]), false, 4)).collect();
+    let wait = rng.pick(&[0.0, 1.0 / 64.0, 1.0]);
+    let time = past[0].now().max(past[1].now()) + wait;
+    let screen = Rect::from_min_max(Pos2::new(0.0, 0.0), Pos2::new(800.0, 600.0));
+    let clearing = Pass { time: Some(time), screen_rect: Some(screen), options, ..Default::default() };
+    let pass = words::write_pass(&clearing, &script::clearing_feed(&held_by_either(&past), at));
     let hits = words::write_interact(66, 66, &script::over(11 + seed % 2, 3));
-    let from = [0, 1].map(|k| past[k].requests.len());
     for m in &mut past {
         m.record(CLEAR, &[]);
-        for w in &widgets {
-            m.record(INSERT, w);
+        for k in 0..4 {
+            m.record(INSERT, &words::write_insert(&script::widget(10 + k, [1, 2, 3, 0][k as usize]), false, 4));
         }
         for (call, w) in [(PASS, &pass), (INTERACT, &hits)] {
             let at = m.record(call, w);
-            if m.full || m.answers[at] >> 24 != 0 {
+            if m.answers[at] >> 24 != 0 {
                 return None;
             }
         }
@@ -238,24 +250,21 @@ pub fn two_panels(seed: u64, condition: bool) -> Option<TwoPanels> {
     let mut later = Maker::new(seed ^ 0x5DEE_CE66, 20_000, 0, 0);
     later.s.panel = past[0].s.panel.clone();
     later.s.options = options;
-    later.twin = Some(Twin {
-        b: past[1].s.panel.clone(),
-        answers_b: Vec::new(),
-        options: pass[10..18].to_vec(),
-        clearing: time,
-        twice: 2.0 * options.max_double_click_delay,
-        condition,
-        button_yet: false,
-        pass_yet: false,
-        click_yet: false,
-        passes: 0,
-        interacts: 0,
-        refused: 0,
-        left_out: 0,
-        differs: None,
-    });
+    later.twin = Some(Twin::new(&past[1].s.panel, &pass, &clearing, condition));
     later_list(&mut later, time, at);
-    Some(TwoPanels { past, from, later })
+    Some(TwoPanels { past, later })
+}
+
+/// The touches for which a clearing pass has an End.
+fn held_by_either(past: &[Maker; 2]) -> Held {
+    let mut held = past[0].s.panel.held();
+    for (d, touches) in past[1].s.panel.held() {
+        match held.iter_mut().find(|(e, _)| *e == d) {
+            Some((_, t)) => touches.iter().for_each(|id| if !t.contains(id) { t.push(*id) }),
+            None => held.push((d, touches)),
+        }
+    }
+    held
 }
 
 /// Some calls without a button, a press as soon as allowed where the clearing pass released, then scenes.

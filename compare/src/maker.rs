@@ -34,6 +34,12 @@ impl Maker {
         Self { s: Stream::new(seed), requests: Vec::new(), answers: Vec::new(), met: Met::default(), limit, full: false, ask, dump, all: false, list: false, twin: None }
     }
 
+    /// Room for that many words more.
+    pub fn room(&mut self, words: usize) {
+        self.limit = self.requests.len() + words;
+        self.full = false;
+    }
+
     pub(crate) fn rng(&mut self) -> &mut Rng {
         &mut self.s.rng
     }
@@ -42,7 +48,7 @@ impl Maker {
         self.s.panel.input.time
     }
 
-    /// One request with egui's answer to it; its words.
+    /// One request with egui's answer to it. Where the answer starts.
     pub fn record(&mut self, call: u32, w: &[u32]) -> usize {
         let at = self.answers.len();
         if self.list && (call == RESET || call == SET_TALLY) {
@@ -95,14 +101,15 @@ impl Maker {
     pub(crate) fn pass_of(&mut self, time: Option<f64>) -> Pass {
         let options = self.s.options;
         let rng = self.rng();
+        let unit = rng.unit();
         Pass {
             time,
             screen_rect: None,
             focused: rng.once_in(2),
             repaint_requested: rng.once_in(2),
-            predicted_dt: rng.pick(&[1.0 / 60.0, 1.0 / 64.0, 0.0, 1.0, 0.125, -0.0]),
-            smooth: rng.pick(&[0.0, 0.5, 1.0, 0.319, 0.9, -0.0, f32::MIN_POSITIVE]),
-            pixels_per_point: rng.pick(&[1.0, 2.0, 1.5, 0.0, 1024.0, -0.0]),
+            predicted_dt: rng.pick(&[1.0 / 60.0, 1.0 / 64.0, 0.0, 1.0, 0.125, -0.0, unit]),
+            smooth: rng.pick(&[0.0, 0.5, 1.0, 0.319, 0.9, -0.0, f32::MIN_POSITIVE, unit]),
+            pixels_per_point: rng.pick(&[1.0, 2.0, 1.5, 0.0, 1024.0, -0.0, 1024.0 * unit]),
             options,
         }
     }
@@ -116,7 +123,8 @@ impl Maker {
     }
 
     pub(crate) fn soon(&mut self, feed: &[u32]) {
-        let dt = self.rng().pick(&[1.0 / 60.0, 1.0 / 64.0, 0.0, 0.125, 0.005]);
+        let some = 0.125 * f64::from(self.rng().unit()) / 3.0;
+        let dt = self.rng().pick(&[1.0 / 60.0, 1.0 / 64.0, 0.0, 0.125, 0.005, some, some]);
         let t = self.now() + dt;
         self.at_time(t, feed);
     }
@@ -148,7 +156,9 @@ impl Maker {
 
     pub(crate) fn place(&mut self) -> Pos2 {
         let rng = self.rng();
-        match rng.below(6) {
+        match rng.below(8) {
+            4 => Pos2::new(any_float(rng), any_float(rng)),
+            5 => Pos2::new(100.0 * rng.unit(), 100.0 * rng.unit()),
             0 | 1 => Pos2::new(0.0, 0.0),
             2 => Pos2::new(-0.0, 10.0),
             3 => Pos2::new(rng.pick(&[65_536.0, -65_536.0]), rng.pick(&[65_536.0, -65_536.0, 0.0])),
@@ -199,6 +209,13 @@ impl Maker {
     pub(crate) fn force(&mut self) -> Option<f32> {
         self.rng().pick(&[None, None, Some(0.0), Some(1.0), Some(0.3), Some(-0.0)])
     }
+}
+
+/// A float of the domain with any last bits: of common size, or of any size down to the smallest.
+pub(crate) fn any_float(rng: &mut Rng) -> f32 {
+    let bits = rng.word() as u32;
+    let exponent = if rng.once_in(3) { rng.below(143) as u32 } else { 110 + rng.below(33) as u32 };
+    f32::from_bits(bits & 0x807F_FFFF | exponent << 23)
 }
 
 pub(crate) fn inside(p: Pos2) -> Pos2 {

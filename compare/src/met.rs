@@ -13,7 +13,7 @@ pub const PHASES: [&str; 4] = ["Start", "Move", "End", "Cancel"];
 pub const UNITS: [&str; 3] = ["Point", "Line", "Page"];
 pub const SOURCES: [&str; 4] = ["Unknown", "Wheel", "Trackpad", "Momentum"];
 
-/// What must be met in a run of any length: more than one trace shows all of it.
+/// What a run of ten traces or more must meet.
 const AIMS: [&str; 33] = [
     "10 touches on a device",
     "1,000 samples in the history",

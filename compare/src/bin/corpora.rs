@@ -58,8 +58,8 @@ fn main() {
     assert!(m.met.missing_events().is_empty(), "{:?}", m.met.missing_events());
     let (calls, bytes) = write(&folder, "passes", &m.requests, &m.answers);
     println!("| passes | {calls} | {bytes} | {} passes taken and {} refused: every event kind, phase, unit and source, refusals 1 to 5 and 255; ASK and DUMP after each |", m.met.taken(1), m.met.refused(1));
-    let interacts: [Scene; 13] = [
-        Maker::handover, Maker::drags, Maker::drags, Maker::long_touch, Maker::drags, Maker::hit_lists, Maker::drags, Maker::drags, Maker::tally, Maker::drags, Maker::long_touch, Maker::drags, Maker::malformed,
+    let interacts: [Scene; 14] = [
+        Maker::handover, Maker::drags, Maker::drags, Maker::long_touch, Maker::drags, Maker::hit_lists, Maker::drags, Maker::drags, Maker::tally, Maker::drags, Maker::long_touch, Maker::drags, Maker::few_widgets, Maker::malformed,
     ];
     let m = made(2, &interacts, words::INTERACT, 3100);
     for aim in ["drag start", "drag stop", "drag stop and start in one interact", "clicked", "long touch"] {

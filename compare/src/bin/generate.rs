@@ -7,14 +7,14 @@ use std::io::Write;
 
 fn main() -> std::io::Result<()> {
     let n = |k: usize, or: u64| std::env::args().nth(k).and_then(|a| a.parse().ok()).unwrap_or(or);
-    let (seed, calls, every) = (n(1, 1), n(2, 100), n(3, 1));
     let mut out = std::io::BufWriter::new(std::io::stdout().lock());
     if std::env::args().nth(1).is_some_and(|a| a == "scenes") {
-        for x in scenes::trace(calls).requests {
+        for x in scenes::trace(n(2, 1)).requests {
             out.write_all(&x.to_le_bytes())?;
         }
         return out.flush();
     }
+    let (seed, calls, every) = (n(1, 1), n(2, 100), n(3, 1));
     let mut stream = Stream::new(seed);
     for k in 0..calls {
         let mut w = stream.next_call();

@@ -10,8 +10,7 @@ fn word(r: &mut impl Read) -> std::io::Result<Option<u32>> {
     let mut n = 0;
     while n < 4 {
         match r.read(&mut b[n..])? {
-            0 if n == 0 => return Ok(None),
-            0 => return Err(std::io::Error::other("the stream ends inside a word")),
+            0 => return Ok(None),
             k => n += k,
         }
     }
@@ -29,7 +28,9 @@ fn main() -> std::io::Result<()> {
     while let Some(head) = word(&mut r)? {
         request.clear();
         let mut bytes = vec![0u8; (head & 0xFF_FFFF) as usize * 4];
-        r.read_exact(&mut bytes)?;
+        if r.read_exact(&mut bytes).is_err() {
+            break; // a record cut short ends the trace
+        }
         request.extend(bytes.chunks(4).map(|c| u32::from_le_bytes([c[0], c[1], c[2], c[3]])));
         answers.clear();
         words::answer(&mut panel, head >> 24, &request, &mut answers);

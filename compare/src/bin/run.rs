@@ -1,8 +1,11 @@
 //! run [calls=N] [seconds=S] [seed=K] [keep=FILE] PROGRAM [ARGUMENT ..]
 //! For each seed from K on a trace of just under 1 MiB: egui answers it here, PROGRAM as a child
 //! (trace on its standard input, answers on its standard output); every answer word is compared.
+//! Every sixteenth trace is also sent cut short at some byte: the records before are answered, and the program ends.
 //! Ends after N calls or S seconds (default 1,000,000 calls) with 0, or at the first difference with
 //! 1: then the request, the field's name, and the trace up to there in FILE. Without PROGRAM, egui alone.
+use fivvarul_compare::aimed::Rng;
+use fivvarul_compare::maker::Maker;
 use fivvarul_compare::met::Met;
 use fivvarul_compare::panel::Panel;
 use fivvarul_compare::{naming, scenes, words};
@@ -40,8 +43,8 @@ fn bytes(w: &[u32]) -> Vec<u8> {
 }
 
 /// The answers of the program to a trace.
-fn child(a: &Args, file: &str, trace: &[u32], room: usize) -> Result<Vec<u8>, String> {
-    std::fs::write(file, bytes(trace)).map_err(|e| format!("{file}: {e}"))?;
+fn child(a: &Args, file: &str, trace: &[u8], room: usize) -> Result<Vec<u8>, String> {
+    std::fs::write(file, trace).map_err(|e| format!("{file}: {e}"))?;
     let input = std::fs::File::open(file).map_err(|e| format!("{file}: {e}"))?;
     let mut c = Command::new(&a.program[0])
         .args(&a.program[1..])
@@ -52,10 +55,20 @@ fn child(a: &Args, file: &str, trace: &[u32], room: usize) -> Result<Vec<u8>, St
     let mut out = Vec::with_capacity(room);
     c.stdout.take().expect("piped").read_to_end(&mut out).map_err(|e| e.to_string())?;
     let status = c.wait().map_err(|e| e.to_string())?;
-    if !status.success() {
-        eprintln!("the program ends with {status}");
+    if status.success() { Ok(out) } else { Err(format!("the program ends with {status}")) }
+}
+
+/// How many answer words the records within the first `cut` bytes have.
+fn answered(requests: &[u32], answers: &[u32], cut: usize) -> usize {
+    let (mut i, mut j) = (0, 0);
+    while i < requests.len() {
+        i += 1 + (requests[i] & 0xFF_FFFF) as usize;
+        if 4 * i > cut {
+            return j;
+        }
+        j += 1 + (answers[j] & 0xFF_FFFF) as usize;
     }
-    Ok(out)
+    j
 }
 
 /// Names the first record whose answers differ; the words of the trace up to and with it.
@@ -87,6 +100,34 @@ fn explain(seed: u64, requests: &[u32], answers: &[u32], got: &[u32]) -> usize {
     i
 }
 
+/// True: the program gives egui's answers to this trace, and to it cut short now and then.
+fn compared(a: &Args, file: &str, seed: u64, m: &Maker) -> bool {
+    let trace = bytes(&m.requests);
+    let mut cuts = vec![trace.len()];
+    if seed % 16 == 0 {
+        cuts.push(Rng::new(seed).below(trace.len() as u64) as usize);
+    }
+    for cut in cuts {
+        let want = bytes(&m.answers[..answered(&m.requests, &m.answers, cut)]);
+        match child(a, file, &trace[..cut], want.len()) {
+            Err(e) => {
+                println!("seed {seed}: {e}; its trace: {file}");
+                return false;
+            }
+            Ok(got) if got != want => {
+                let got: Vec<u32> = got.chunks_exact(4).map(|c| u32::from_le_bytes([c[0], c[1], c[2], c[3]])).collect();
+                let end = explain(seed, &m.requests, &m.answers, &got);
+                let _ = std::fs::remove_file(file);
+                std::fs::write(&a.keep, &trace[..cut.min(4 * end)]).expect("the trace is kept");
+                println!("  the trace up to there: {}", a.keep);
+                return false;
+            }
+            Ok(_) => {}
+        }
+    }
+    true
+}
+
 fn main() -> ExitCode {
     let a = args();
     let start = Instant::now();
@@ -99,23 +140,8 @@ fn main() -> ExitCode {
         own += t.elapsed().as_secs_f64();
         met.add(&m.met);
         words += m.answers.len() as u64;
-        if !a.program.is_empty() {
-            let want = bytes(&m.answers);
-            let got = match child(&a, &file, &m.requests, want.len()) {
-                Ok(got) => got,
-                Err(e) => {
-                    eprintln!("{e}");
-                    return ExitCode::from(2);
-                }
-            };
-            if got != want {
-                let got: Vec<u32> = got.chunks_exact(4).map(|c| u32::from_le_bytes([c[0], c[1], c[2], c[3]])).collect();
-                let end = explain(seed, &m.requests, &m.answers, &got);
-                let _ = std::fs::rename(&file, &a.keep);
-                std::fs::write(&a.keep, bytes(&m.requests[..end])).expect("the trace is kept");
-                println!("  the trace up to there: {}", a.keep);
-                return ExitCode::from(1);
-            }
+        if !a.program.is_empty() && !compared(&a, &file, seed, &m) {
+            return ExitCode::from(1);
         }
         seed += 1;
     }
