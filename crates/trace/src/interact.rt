@@ -4,7 +4,7 @@ use hit_lists::MaybeHit;
 use interaction::state::Interacted;
 use interaction::state::InteractionSnapshot;
 use panel::state::Panel;
-use pointer_state::events::CODES;
+use pointer_events::CODES;
 use trace_answers::dump::maybe_id;
 use trace_text::reply::Reply;
 use trace_text::reply::malformed;

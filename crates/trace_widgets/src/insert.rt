@@ -17,11 +17,10 @@ use trace_words::request::bit;
 use trace_words::request::widget;
 use trace_words::words::Answer;
 use trace_words::words::count;
+use widget_append::Decision;
+use widget_append::Inserted;
 use widget_index::index::find;
 use widget_index::index::find_layer;
-use widget_index::insert::Decision;
-use widget_index::insert::Inserted;
-use widget_index::insert::decide;
 use widget_index::table::Edges;
 use widget_index::table::Numbers;
 use widget_index::table::PLACES;
@@ -30,6 +29,7 @@ use widget_index::table::Words;
 use widget_index::table::count_at;
 use widget_index::table::layer_of;
 use widget_index::table::layers_of;
+use widget_insert::decide;
 
 // The set after an insertion, and the answer.
 pub struct Placed {

@@ -3,7 +3,7 @@ use data::widget::WidgetRect;
 use widget_rect::slice::settle;
 ghost use mathlib.Core.Path.{_≡_};
 ghost use Prim.Native.Nat.{_≤_};
-ghost use Rattle.widget_index.specs.Insert.{settled};
+ghost use Rattle.widget_append.specs.Append.{settled};
 
 // From records by value to a slice that is lent, and back.
 pub fn settled(a: [WidgetRect; 1024], from: usize, to: usize, w: WidgetRect) -> [WidgetRect; 1024]

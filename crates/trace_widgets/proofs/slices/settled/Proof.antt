@@ -50,7 +50,7 @@ use denote.Triple.Table.{entered, cited}
 use denote.Triple.Walked.{says, needs, Stays, stay-dropped, stay-none, walkOf, goes-dropped, goes-none, Walks, ends-at, walked, walk-meets}
 use denote.Exit.{yes}
 use Rattle.data.specs.declared.widget.WidgetRect.{WidgetRect}
-use Rattle.widget_index.specs.Insert.{settled}
+use Rattle.widget_append.specs.Append.{settled}
 use Rattle.data.proofs.widget.WidgetRect as T
 use Rattle.data.proofs.widget.WidgetRect.Laws as T′
 use Rattle.widget_rect.proofs.slice.settle as callee
