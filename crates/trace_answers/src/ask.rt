@@ -1,8 +1,8 @@
 // ASK: every question.
+use crate::devices;
 use crate::events::events;
 use crate::keys::keys_down;
 use crate::keys::presses;
-use crate::touches;
 use data::bits::bit_number;
 use data::mouse_wheel::MaybeMouseWheelSource;
 use data::pointer::PointerButton;
@@ -141,7 +141,7 @@ fn key_and_touch_words(
     m = presses(a, m, counts);
     m = flag(a, m, feed_was_empty(k));
     m = word(a, m, any + 2 * known + 4 * long);
-    touches::maybe_info(a, m, multi_touch(ds))
+    devices::maybe_info(a, m, multi_touch(ds))
 }
 
 // Words 97 to 120.
@@ -246,5 +246,5 @@ pub fn ask(
     m = scroll_words(a, m, s, ds, codes);
     m = key_and_touch_words(a, m, s, ds, counts);
     m = pointer_words(a, m, s, codes, places);
-    touches::asked(a, m, ds)
+    devices::asked(a, m, ds)
 }

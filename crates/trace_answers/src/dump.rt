@@ -1,8 +1,8 @@
 // DUMP: the retained state. The widgets stand in `widgets`.
+use crate::devices;
 use crate::events::events;
 use crate::keys::keys_down;
 use crate::keys::presses;
-use crate::touches;
 use data::bits::bit_number;
 use data::mouse_wheel::WheelState;
 use data::options::InputOptions;
@@ -223,7 +223,7 @@ pub fn dump(
     let w = s.wheel;
     let mut m = pointer(a, n, s, times, positions, codes, places);
     m = wheel(a, m, w);
-    m = touches::held(a, m, ds);
+    m = devices::held(a, m, ds);
     m = input(a, m, s, p);
     interaction(a, m, i, tally)
 }

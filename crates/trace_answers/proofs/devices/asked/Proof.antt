@@ -1,14 +1,14 @@
 -- Safe, and it ends: the measure is what is left. Assumes nothing.
 use Prim.Native.Nat.{_≤_, _-_}
 use borrow.Author.Needs.{needs}
-use Rattle.trace_answers.proofs.touches.held.Statement.{statement}
-use Rattle.trace_answers.proofs.touches.held.Tie as tie
+use Rattle.trace_answers.proofs.devices.asked.Statement.{statement}
+use Rattle.trace_answers.proofs.devices.asked.Tie as tie
 
 abbrev Inv-loop : tie.InvT-loop
-Inv-loop a₀ n len places m₀ i₀ a m i = i ≤ 4
+Inv-loop a₀ n ds len places m₀ i₀ a m i = i ≤ 4
 
 abbrev μ-loop : tie.MeasureT-loop
-μ-loop a₀ n len places m₀ i₀ a m i = 4 - i
+μ-loop a₀ n ds len places m₀ i₀ a m i = 4 - i
 
 len-requires : tie.Need-len-requires Inv-loop μ-loop
 len-requires c κs = search needs
@@ -28,8 +28,8 @@ mul-d c = search needs
 array-copy-out-d : tie.Need-array-copy-out-d Inv-loop μ-loop
 array-copy-out-d c = search needs
 
-device-requires : tie.Need-device-requires Inv-loop μ-loop
-device-requires c κs = search needs
+asked-of-requires : tie.Need-asked-of-requires Inv-loop μ-loop
+asked-of-requires c κs = search needs
 
 add-i : tie.Need-add-i Inv-loop μ-loop
 add-i c = search needs
@@ -43,8 +43,8 @@ loop-again c = search needs
 returns-2 : tie.Need-returns-2 Inv-loop μ-loop
 returns-2 c = search needs
 
-pub held-spec : {M : Type 1} → statement M
-held-spec =
+pub asked-spec : {M : Type 1} → statement M
+asked-spec =
     tie.close
     (tie.spec
     Inv-loop
@@ -55,7 +55,7 @@ held-spec =
     returns
     mul-d
     array-copy-out-d
-    device-requires
+    asked-of-requires
     add-i
     loop-less
     loop-again
