@@ -1,5 +1,5 @@
 // An interact. Of the input it reads the pointer, its time, the options, the touches, the pass's pointer events and the presses of Escape.
-use crate::touches::is_long_touch;
+use crate::touching::is_long_touch;
 use hit_lists::MaybeHit;
 use input_state::clock::Clock;
 use input_state::pointer::Pointer;

@@ -10,6 +10,6 @@ pub mod pointer;
 pub mod repaint;
 pub mod scrolling;
 pub mod state;
-pub mod touches;
+pub mod touching;
 pub mod widgets;
 pub mod zoom;

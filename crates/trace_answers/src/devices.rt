@@ -55,8 +55,8 @@ pub fn maybe_info(a: &mut Answer, n: usize, i: MaybeMultiTouchInfo) -> usize {
 
 fn asked_of(a: &mut Answer, n: usize, ds: Devices, device: u64) -> usize {
     let mut m = id(a, n, device);
-    m = flag(a, m, panel::touches::any_touches_of(ds, device));
-    maybe_info(a, m, panel::touches::info(ds, device))
+    m = flag(a, m, panel::touching::any_touches_of(ds, device));
+    maybe_info(a, m, panel::touching::info(ds, device))
 }
 
 // Their number, then each: its id, whether it has touches, its info.

@@ -1,8 +1,8 @@
 -- The callee's result. Assumes nothing.
 use Rattle.model.specs.Questions.{ask, reply, shown}
 use borrow.Author.Needs.{needs}
-use Rattle.panel.proofs.touches.info.Statement.{statement}
-use Rattle.panel.proofs.touches.info.Tie as tie
+use Rattle.panel.proofs.touching.info.Statement.{statement}
+use Rattle.panel.proofs.touching.info.Tie as tie
 
 info-requires : tie.Need-info-requires
 info-requires c κs = search needs

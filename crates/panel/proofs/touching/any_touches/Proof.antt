@@ -1,8 +1,8 @@
 -- The callee's result. Assumes nothing.
 use Rattle.model.specs.Questions.{ask, reply, shown}
 use borrow.Author.Needs.{needs}
-use Rattle.panel.proofs.touches.any_touches.Statement.{statement}
-use Rattle.panel.proofs.touches.any_touches.Tie as tie
+use Rattle.panel.proofs.touching.any_touches.Statement.{statement}
+use Rattle.panel.proofs.touching.any_touches.Tie as tie
 
 any-touches-requires : tie.Need-any-touches-requires
 any-touches-requires c κs = search needs

@@ -1,8 +1,8 @@
 -- The callee's result. Assumes nothing.
 use Rattle.model.specs.Questions.{ask, reply, shown}
 use borrow.Author.Needs.{needs}
-use Rattle.panel.proofs.touches.multi_touch.Statement.{statement}
-use Rattle.panel.proofs.touches.multi_touch.Tie as tie
+use Rattle.panel.proofs.touching.multi_touch.Statement.{statement}
+use Rattle.panel.proofs.touching.multi_touch.Tie as tie
 
 multi-touch-requires : tie.Need-multi-touch-requires
 multi-touch-requires c κs = search needs

@@ -1,8 +1,8 @@
 -- The callee's result. Assumes nothing.
 use Rattle.model.specs.Questions.{ask, reply, shown}
 use borrow.Author.Needs.{needs}
-use Rattle.panel.proofs.touches.any_touches_of.Statement.{statement}
-use Rattle.panel.proofs.touches.any_touches_of.Tie as tie
+use Rattle.panel.proofs.touching.any_touches_of.Statement.{statement}
+use Rattle.panel.proofs.touching.any_touches_of.Tie as tie
 
 any-touches-of-requires : tie.Need-any-touches-of-requires
 any-touches-of-requires c κs = search needs

@@ -1,8 +1,8 @@
 -- The callee's result. Assumes nothing.
 use Rattle.model.specs.Questions.{ask, reply, shown}
 use borrow.Author.Needs.{needs}
-use Rattle.panel.proofs.touches.has_touch_screen.Statement.{statement}
-use Rattle.panel.proofs.touches.has_touch_screen.Tie as tie
+use Rattle.panel.proofs.touching.has_touch_screen.Statement.{statement}
+use Rattle.panel.proofs.touching.has_touch_screen.Tie as tie
 
 has-touch-screen-requires : tie.Need-has-touch-screen-requires
 has-touch-screen-requires c κs = search needs

@@ -1,8 +1,8 @@
 -- The callee's reply. Assumes nothing.
 use Rattle.model.specs.Questions.{ask, reply, shown}
 use borrow.Author.Needs.{needs}
-use Rattle.panel.proofs.touches.is_long_touch.Statement.{statement}
-use Rattle.panel.proofs.touches.is_long_touch.Tie as tie
+use Rattle.panel.proofs.touching.is_long_touch.Statement.{statement}
+use Rattle.panel.proofs.touching.is_long_touch.Tie as tie
 
 is-long-touch-requires : tie.Need-is-long-touch-requires
 is-long-touch-requires c κs = search needs
