@@ -13,11 +13,13 @@ use crate::output::byte;
 use crate::output::bytes;
 use crate::output::decimal;
 use crate::reply::Reply;
-use event_loop::next_place;
+use feed::split::following;
 use trace_words::request::PASS_WORDS;
 use trace_words::request::at;
 use trace_words::request::id;
 use trace_words::words::Answer;
+ghost use Prim.Native.Nat.{_<_};
+ghost use lib.ListN.{length};
 
 // Drags started and stopped so far, and calls.
 pub struct Tally {
@@ -103,6 +105,18 @@ fn refused(out: &mut Buffer, n: usize, a: &[u32], r: Reply) -> usize {
     }
     m = bytes(out, m, b": ");
     meaning(out, m, r.code)
+}
+
+// The place after the event at `at`; the end, where it is cut short.
+fn next_place(feed: &[u32], at: usize) -> usize
+    requires { ⌜ at < length (now feed) ⌝ }
+    ensures { λ r. ⌜ at < r ⌝ }
+{
+    let n = following(feed[at]);
+    if n < feed.len() - at {
+        return at + (n + 1);
+    }
+    feed.len()
 }
 
 // How many events the feed has.

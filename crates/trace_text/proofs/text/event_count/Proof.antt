@@ -2,7 +2,7 @@
 use Prim.Native.Nat.{_≤_, _-_}
 use lib.ListN.{length}
 use borrow.Author.Needs.{needs}
-use Rattle.event_loop.proofs.Walk.{less}
+use native.Mathlib.Omega.{arith}
 use Rattle.trace_text.proofs.text.event_count.Statement.{statement}
 use Rattle.trace_text.proofs.text.event_count.Tie as tie
 
@@ -23,8 +23,7 @@ next-place-requires c κs = search needs
 
 loop-less : tie.Need-loop-less Inv-loop μ-loop
 loop-less c =
-    let o = c .before .before in
-    rw (c .next-place .ensures) (less (o .before .before .before .args .feed .now) (o .before .loop .at) (o .loop-test .taken))
+    let o = c .before .before in omega (arith, c .next-place .ensures, o .loop-test .taken)
 
 loop-again : tie.Need-loop-again Inv-loop μ-loop
 loop-again c = search needs
