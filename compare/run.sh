@@ -22,24 +22,29 @@ fi
 bin=$here/target/release
 work=$(mktemp -d)
 trap 'rm -rf "$work"' EXIT
+same() {
+    cmp -s "$1" "$2" || { echo "compare: $2 is not what egui's files give today"; exit 1; }
+}
 # The stored corpora are what egui answers today, and what the test programs hold.
 "$bin/corpora" "$work" > "$work/corpora.md"
-cmp "$work/corpora.md" "$here/corpora.md"
+same "$work/corpora.md" "$here/corpora.md"
 for name in passes interacts edges; do
     crate=$here/../crates/trace_$name
     if [ -d "$crate" ]; then
-        cmp "$work/$name.trace" "$crate/stdin"
-        cmp "$work/$name.sums" "$crate/stdout"
+        same "$work/$name.trace" "$crate/stdin"
+        same "$work/$name.sums" "$crate/stdout"
     fi
 done
-"$bin/sample" | cmp - "$here/../samples/lost-release.trace"
+"$bin/sample" > "$work/sample"
+same "$work/sample" "$here/../samples/lost-release.trace"
 # A new first seed each day, so that the gate does not always run the same traces.
 seed=${SEED:-$(date +%Y%m%d)0000}
 echo "compare: first seed $seed"
 if [ ! -x "$replay" ]; then
     echo "compare: $replay is not there; egui's side alone"
     "$bin/run" calls=500000 seed="$seed"
-    exec "$bin/clearing" lists=1000 seed="$seed"
+    "$bin/clearing" lists=1000 seed="$seed"
+    exit 0
 fi
 "$bin/run" seconds="$seconds" seed="$seed" keep="$here/differs.trace" "$replay" whole
 "$bin/clearing" seconds=$((seconds / 4)) lists=300 seed="$seed" "$replay" whole
