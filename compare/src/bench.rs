@@ -181,6 +181,11 @@ fn inserts(n: u32, widgets: u32, layers: u32, mode: u32) -> u64 {
 
 // ---------------------------------------------------------------- interacts
 
+/// The first call is one beside the n.
+fn lefts(n: u32) -> impl Iterator<Item = u32> {
+    core::iter::chain([0], (1..=n).rev())
+}
+
 fn interacts(n: u32, words: &[u32], click: u32, drag: u32, checked: bool) -> u64 {
     let list: Vec<Hit> = words.chunks(2).map(|w| Hit { id: id_of(w[0]).value(), sense: w[1] }).collect();
     let one = |n: u32| (n != 0).then(|| list[n as usize - 1]);
@@ -201,7 +206,7 @@ fn interacts(n: u32, words: &[u32], click: u32, drag: u32, checked: bool) -> u64
     let mut interaction = InteractionState::default();
     let mut snapshot = InteractionSnapshot::default();
     let mut sum = 0;
-    for left in (1..=n).rev() {
+    for left in lefts(n) {
         let sense = Sense::from_bits((left % 2) as u8).expect("a sense");
         hits.close[0].sense = sense;
         hits.contains_pointer[0].sense = sense;
@@ -225,7 +230,7 @@ fn interacts_checked(n: u32, hits: &mut Hits) -> u64 {
     panel.run_pass(&Pass::default(), vec![crate::Event::PointerMoved(Pos2::new(10.0, 20.0))]);
     let mut sum = 0;
     let mut last = Default::default();
-    for left in (1..=n).rev() {
+    for left in lefts(n) {
         hits.close[0].sense = left % 2;
         hits.contains_pointer[0].sense = left % 2;
         last = panel.interact(66, 66, black_box(hits)).expect("taken");

@@ -167,14 +167,15 @@ fn digest(
     sum
 }
 
-// `times` insertions after a round of new ones.
+// `times` insertions after a round of new ones. One before that: see interacts.
 pub fn run(times: u32, widgets: u32, layers: u32, mode: u32) -> u64 {
     let mut words = [77u64; 2080];
     let mut numbers = [77u32; 5184];
     let mut edges = [77.0f32; 8192];
     let first = widget(0, 1);
     let mut slots = [first; 1024];
-    let mut h = empty();
+    let one = next_step(empty(), &mut words, &mut numbers, &mut edges, 0, layers, 0);
+    let mut h = one.set;
     let mut i: u32 = 0;
     let mut left = times as u64 + widgets as u64;
     while left > 0 {

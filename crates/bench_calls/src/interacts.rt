@@ -177,7 +177,8 @@ fn call(
     call_on(g, codes, words, numbers, close, within, n, c, d, top, all)
 }
 
-// The first entry's sense changes from call to call, so that no call is the same as the last.
+// The first entry's sense changes from call to call, so that no call is the same as the last. One call before the others: what is called at two places
+// stays a function of its own, whose stack can be read off.
 pub fn run(times: u32, given: &[u32], click: u32, drag: u32) -> u64 {
     let mut close = [0u64; 128];
     let mut within = [0u64; 128];
@@ -187,11 +188,24 @@ pub fn run(times: u32, given: &[u32], click: u32, drag: u32) -> u64 {
     let words = [0u64; 2080];
     let numbers = [0u32; 5184];
     let n = at_most(given.len() / 2);
+    let m = n * 2;
     fill(&mut close, given, n);
     fill(&mut within, given, n);
     let c = hit(given, click);
     let d = hit(given, drag);
-    let mut g = start();
+    let mut g = call(
+        start(),
+        &codes,
+        &words,
+        &numbers,
+        &close,
+        &within,
+        m,
+        c,
+        d,
+        &mut top,
+        &mut all,
+    );
     let mut left = times;
     while left > 0 {
         set_sense(&mut close, left);
@@ -203,7 +217,7 @@ pub fn run(times: u32, given: &[u32], click: u32, drag: u32) -> u64 {
             &numbers,
             &close,
             &within,
-            n * 2,
+            m,
             c,
             d,
             &mut top,

@@ -28,6 +28,9 @@ widget-requires c κs = search needs
 empty-requires : tie.Need-empty-requires Inv-loop μ-loop
 empty-requires c κs = search needs
 
+next-step-requires : tie.Need-next-step-requires Inv-loop μ-loop
+next-step-requires c κs = search needs
+
 add-left : tie.Need-add-left Inv-loop μ-loop
 add-left c = search needs
 
@@ -40,8 +43,8 @@ mode-of-requires c κs = search needs
 started-requires : tie.Need-started-requires Inv-loop μ-loop
 started-requires c κs = search needs
 
-next-step-requires : tie.Need-next-step-requires Inv-loop μ-loop
-next-step-requires c κs = search needs
+next-step-requires-2 : tie.Need-next-step-requires-2 Inv-loop μ-loop
+next-step-requires-2 c κs = search needs
 
 base-requires : tie.Need-base-requires Inv-loop μ-loop
 base-requires c κs = search needs
@@ -93,11 +96,12 @@ run-spec =
     μ-loop
     widget-requires
     empty-requires
+    next-step-requires
     add-left
     loop-holds
     mode-of-requires
     started-requires
-    next-step-requires
+    next-step-requires-2
     base-requires
     place-requires
     add-place

@@ -14,13 +14,16 @@ use Rattle.bench_calls.proofs.interacts.set_sense.Reads as set-sense-re
 use Rattle.bench_calls.proofs.interacts.start.Reads as start-reads
 
 abbrev Inv-loop : tie.InvT-loop
-Inv-loop times given click drag close₀ within₀ top₀ all₀ codes words numbers n c d g₀ left₀ close within top all g left = n ≤ 64
+Inv-loop times given click drag close₀ within₀ top₀ all₀ codes words numbers n m c d g₀ left₀ close within top all g left = 0 ≤ left
 
 abbrev μ-loop : tie.MeasureT-loop
-μ-loop times given click drag close₀ within₀ top₀ all₀ codes words numbers n c d g₀ left₀ close within top all g left = left
+μ-loop times given click drag close₀ within₀ top₀ all₀ codes words numbers n m c d g₀ left₀ close within top all g left = left
 
 at-most-requires : tie.Need-at-most-requires Inv-loop μ-loop
 at-most-requires c κs = search needs
+
+mul-m : tie.Need-mul-m Inv-loop μ-loop
+mul-m c = search needs
 
 fill-requires : tie.Need-fill-requires Inv-loop μ-loop
 fill-requires c κs = search needs
@@ -37,6 +40,9 @@ hit-requires-2 c κs = search needs
 start-requires : tie.Need-start-requires Inv-loop μ-loop
 start-requires c κs = search needs
 
+call-requires : tie.Need-call-requires Inv-loop μ-loop
+call-requires c κs = search needs
+
 loop-holds : tie.Need-loop-holds Inv-loop μ-loop
 loop-holds c = search needs
 
@@ -46,11 +52,8 @@ set-sense-requires c κs = search needs
 set-sense-requires-2 : tie.Need-set-sense-requires-2 Inv-loop μ-loop
 set-sense-requires-2 c κs = search needs
 
-mul-call : tie.Need-mul-call Inv-loop μ-loop
-mul-call c = search needs
-
-call-requires : tie.Need-call-requires Inv-loop μ-loop
-call-requires c κs = search needs
+call-requires-2 : tie.Need-call-requires-2 Inv-loop μ-loop
+call-requires-2 c κs = search needs
 
 sub-left : tie.Need-sub-left Inv-loop μ-loop
 sub-left c = search needs
@@ -74,16 +77,17 @@ run-spec =
     Inv-loop
     μ-loop
     at-most-requires
+    mul-m
     fill-requires
     fill-requires-2
     hit-requires
     hit-requires-2
     start-requires
+    call-requires
     loop-holds
     set-sense-requires
     set-sense-requires-2
-    mul-call
-    call-requires
+    call-requires-2
     sub-left
     loop-less
     loop-again
