@@ -28,8 +28,9 @@ use Rattle.input_state.specs.declared.state.InputState.{InputState}
 use Rattle.input_state.specs.View.{Lent, outcome}
 use Rattle.input_state.specs.View as Contract
 use Rattle.panel.specs.Steps.{ShowsInput}
+use Rattle.panel.proofs.Lookup.{looked-up}
 use Rattle.histories.specs.History.{Running, shows, Starts, Passes, after-pass, pass-answer, Given, interact-input, InteractsAs, after-interact, interact-answer, History, rests, then-pass, then-interact}
-use Rattle.histories.specs.History.{IsRun, EveryHistoryIsRun, Balanced, HistoriesBalance, Life, AnswerAlike, HistoriesClear}
+use Rattle.histories.specs.History.{WidgetsAreTheModels, IsRun, EveryHistoryIsRun, Balanced, HistoriesBalance, Life, AnswerAlike, HistoriesClear}
 
 -- ---- one call of the code is the model's call
 record Stepped (x : Running) (c : Call) (a : Outcome) (y : Running) : Type 0 where
@@ -90,6 +91,9 @@ interact-step x g (Refused why) hovered contains o h =
     record { answer = sym (ap of-interact (h .own (shows x) (shows-itself x) refl refl (g .edges) .answer)); panel = refl; in-order = o }
 interact-step x g (Taken a) hovered contains o h =
     record { answer = sym (ap of-interact (h .own (shows x) (shows-itself x) refl refl (g .edges) .answer)); panel = refl; in-order = o }
+
+pub widgets-are-the-models : WidgetsAreTheModels
+widgets-are-the-models g wf = sym (looked-up (g .set) (g .words) (g .numbers) (g .edges) wf)
 
 -- ---- a whole history
 joins : (p p' q : Panel) (c : Call) (a : Outcome) (calls : List Call) (answers : List Outcome) → a ≡ call p c → p' ≡ after p a → answers ≡ outcomes p' calls → q ≡ run p' calls

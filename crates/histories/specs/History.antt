@@ -17,6 +17,7 @@ use Rattle.hit_lists.specs.declared.MaybeHit.{MaybeHit}
 use Rattle.hit_lists.specs.Hits.{input}
 use Rattle.id_lists.specs.Ids.{option-of}
 use Rattle.widget_index.specs.declared.table.WidgetRects.{WidgetRects}
+use Rattle.widget_rect.specs.WellFormed.{WellFormed}
 use Rattle.interaction.specs.declared.state.Interacted.{Interacted}
 use Rattle.interaction.specs.declared.state.Interacted.the-variants.{Refused, Taken}
 use Rattle.interaction.specs.View.{snapshot-of}
@@ -27,7 +28,7 @@ use Rattle.input_state.specs.View.{Lent, outcome}
 use Rattle.input_state.specs.View as Contract
 use Rattle.panel.specs.declared.state.Panel.{Panel}
 use Rattle.panel.specs.View.{shown-by, NoPresses, Fresh}
-use Rattle.panel.specs.Steps.{Interacts}
+use Rattle.panel.specs.Steps.{Interacts, widgets-of}
 
 -- ---- a panel that runs: its records, and what the lent arrays hold
 pub record Running : Type 0 where
@@ -70,6 +71,11 @@ pub record Given : Type 0 where
 abbrev pub interact-input : Given → InteractInput
 interact-input g =
     input (lookup (g .set) (g .words) (g .numbers) (g .edges)) (g .close) (g .within) (g .click) (g .drag) (length (g .hovered)) (length (g .contains))
+
+-- of a set that the operations made, these widgets are the model's
+abbrev pub WidgetsAreTheModels : Type 0
+WidgetsAreTheModels =
+    (g : Given) → WellFormed (g .set) (g .words) (g .numbers) (g .edges) → lookup (g .set) (g .words) (g .numbers) (g .edges) ≡ widgets-of (g .set) (g .words) (g .numbers) (g .edges)
 
 abbrev pub InteractsAs : Running → Given → Interacted → List ℕ → List ℕ → Type 0
 InteractsAs x g r hovered contains =
