@@ -1,22 +1,34 @@
-// Replays a trace on standard input: `replay whole` answers in words, `replay sums` by one checksum a call, `replay text` or `replay` by one
-// line a call.
+// Replays a trace on standard input, up to 1 MiB in the words of compare/FORMAT.md, and answers on standard output:
+//   replay [text]    one line a call
+//   replay sums      one checksum a call
+//   replay whole     the answers' words
+use check::same;
+use libc::STDERR_FILENO;
 use trace::run::Form;
 use trace::run::replay;
 
-fn main() {
-    let mut word = [0u8; 8];
-    let n = os::arg(1, &mut word);
-    if n == 0 {
-        replay(Form::Text);
-        return;
-    }
-    if word[0] == b'w' {
+fn replay_as(arg: &[u8]) {
+    if same(arg, b"whole") {
         replay(Form::Whole);
         return;
     }
-    if word[0] == b's' {
+    if same(arg, b"sums") {
         replay(Form::Sums);
         return;
     }
-    replay(Form::Text);
+    if same(arg, b"text") {
+        replay(Form::Text);
+        return;
+    }
+    io::write_all(STDERR_FILENO, b"usage: replay [text|sums|whole] < trace\n");
+}
+
+fn main() {
+    let mut arg = [0u8; 8];
+    if os::arg_count() < 2 {
+        replay(Form::Text);
+        return;
+    }
+    let n = os::arg(1, &mut arg);
+    replay_as(&arg[..n]);
 }

@@ -32,6 +32,7 @@ use widget_index::table::Edges;
 use widget_index::table::Numbers;
 use widget_index::table::WidgetRects;
 use widget_index::table::Words;
+ghost use mathlib.Core.Path.{_≡_};
 
 pub struct Machine {
     pub panel: Panel,
@@ -49,47 +50,57 @@ pub fn fresh() -> Machine {
     Machine { panel, set }
 }
 
-fn refused(m: Machine) -> Step {
-    Step {
-        machine: m,
-        reply: malformed(),
+// A call that is refused leaves the machine `m` as it was.
+fn stepped(m: Machine, after: Machine, reply: Reply) -> Step
+    ensures { λ r. ⌜ (r .reply .code ≡ 0 → ⊥) → r .machine ≡ m ⌝ }
+{
+    if reply.code == 0 {
+        return Step {
+            machine: after,
+            reply,
+        };
     }
+    Step { machine: m, reply }
 }
 
-fn reset(m: Machine, presses: &mut [u8; 145], w: &[u32]) -> Step {
+// The request doesn't follow the format.
+fn refused(m: Machine) -> Step
+    ensures { λ r. ⌜ (r .reply .code ≡ 0 → ⊥) → r .machine ≡ m ⌝ }
+{
+    stepped(m, m, malformed())
+}
+
+fn reset(m: Machine, presses: &mut [u8; 145], w: &[u32]) -> Step
+    ensures { λ r. ⌜ (r .reply .code ≡ 0 → ⊥) → r .machine ≡ m ⌝ }
+{
     if w.len() > 0 {
         return refused(m);
     }
     *presses = [0; 145];
-    Step {
-        machine: fresh(),
-        reply: taken(0),
-    }
+    stepped(m, fresh(), taken(0))
 }
 
-fn clear_widgets(m: Machine, w: &[u32]) -> Step {
+fn clear_widgets(m: Machine, w: &[u32]) -> Step
+    ensures { λ r. ⌜ (r .reply .code ≡ 0 → ⊥) → r .machine ≡ m ⌝ }
+{
     if w.len() > 0 {
         return refused(m);
     }
     let panel = m.panel;
     let set = empty();
-    Step {
-        machine: Machine { panel, set },
-        reply: taken(0),
-    }
+    stepped(m, Machine { panel, set }, taken(0))
 }
 
-fn set_tally(m: Machine, w: &[u32]) -> Step {
+fn set_tally(m: Machine, w: &[u32]) -> Step
+    ensures { λ r. ⌜ (r .reply .code ≡ 0 → ⊥) → r .machine ≡ m ⌝ }
+{
     if w.len() != 1 {
         return refused(m);
     }
     let mut panel = m.panel;
     panel.tally = at(w, 0);
     let set = m.set;
-    Step {
-        machine: Machine { panel, set },
-        reply: taken(0),
-    }
+    stepped(m, Machine { panel, set }, taken(0))
 }
 
 fn pass_answer(a: &mut Answer, refusal: MaybePassRefusal) -> Reply {
@@ -108,7 +119,9 @@ fn pass(
     presses: &mut [u8; 145],
     a: &mut Answer,
     w: &[u32],
-) -> Step {
+) -> Step
+    ensures { λ r. ⌜ (r .reply .code ≡ 0 → ⊥) → r .machine ≡ m ⌝ }
+{
     if w.len() < PASS_WORDS {
         return refused(m);
     }
@@ -137,10 +150,7 @@ fn pass(
         interaction,
         tally: p.tally,
     };
-    Step {
-        machine: Machine { panel, set },
-        reply: pass_answer(a, refusal),
-    }
+    stepped(m, Machine { panel, set }, pass_answer(a, refusal))
 }
 
 fn inserted(
@@ -151,16 +161,15 @@ fn inserted(
     lent: &mut Lent,
     a: &mut Answer,
     w: &[u32],
-) -> Step {
+) -> Step
+    ensures { λ r. ⌜ (r .reply .code ≡ 0 → ⊥) → r .machine ≡ m ⌝ }
+{
     let panel = m.panel;
     let before = m.set;
     let placed = insert(a, before, words, numbers, edges, lent, w);
     let set = placed.set;
     let reply = placed.reply;
-    Step {
-        machine: Machine { panel, set },
-        reply,
-    }
+    stepped(m, Machine { panel, set }, reply)
 }
 
 fn interacted(
@@ -171,16 +180,15 @@ fn interacted(
     numbers: &Numbers,
     a: &mut Answer,
     w: &[u32],
-) -> Step {
+) -> Step
+    ensures { λ r. ⌜ (r .reply .code ≡ 0 → ⊥) → r .machine ≡ m ⌝ }
+{
     let p = m.panel;
     let set = m.set;
     let stepped = interact(a, p, set, codes, presses, words, numbers, w);
     let panel = stepped.panel;
     let reply = stepped.reply;
-    Step {
-        machine: Machine { panel, set },
-        reply,
-    }
+    stepped(m, Machine { panel, set }, reply)
 }
 
 fn asked(
@@ -190,17 +198,20 @@ fn asked(
     presses: &[u8; 145],
     a: &mut Answer,
     w: &[u32],
-) -> Step {
+) -> Step
+    ensures { λ r. ⌜ (r .reply .code ≡ 0 → ⊥) → r .machine ≡ m ⌝ }
+{
     if w.len() > 0 {
         return refused(m);
     }
     let p = m.panel;
     let input = p.input;
     let devices = p.devices;
-    Step {
-        machine: m,
-        reply: taken(ask(a, 0, input, devices, codes, places, presses)),
-    }
+    stepped(
+        m,
+        m,
+        taken(ask(a, 0, input, devices, codes, places, presses)),
+    )
 }
 
 fn dumped(
@@ -216,7 +227,9 @@ fn dumped(
     lent: &Lent,
     a: &mut Answer,
     w: &[u32],
-) -> Step {
+) -> Step
+    ensures { λ r. ⌜ (r .reply .code ≡ 0 → ⊥) → r .machine ≡ m ⌝ }
+{
     if w.len() > 0 {
         return refused(m);
     }
@@ -238,13 +251,10 @@ fn dumped(
         places,
         presses,
     );
-    Step {
-        machine: m,
-        reply: taken(widgets(a, n, set, words, numbers, edges, lent)),
-    }
+    stepped(m, m, taken(widgets(a, n, set, words, numbers, edges, lent)))
 }
 
-// One request. A refused or malformed one leaves all as before but for the answer's words.
+// One request. The lent arrays of a refused one are as before too: the panel's contracts say so.
 pub fn call(
     m: Machine,
     times: &mut [f64; MAX_LEN],
@@ -259,7 +269,9 @@ pub fn call(
     a: &mut Answer,
     kind: u32,
     w: &[u32],
-) -> Step {
+) -> Step
+    ensures { λ r. ⌜ (r .reply .code ≡ 0 → ⊥) → r .machine ≡ m ⌝ }
+{
     match kind {
         RESET => reset(m, presses, w),
         PASS => pass(m, times, positions, codes, places, presses, a, w),

@@ -17,7 +17,6 @@ use feed::split::following;
 use trace_words::request::PASS_WORDS;
 use trace_words::request::at;
 use trace_words::request::id;
-use trace_words::words::Answer;
 ghost use Prim.Native.Nat.{_<_};
 ghost use lib.ListN.{length};
 
@@ -65,6 +64,7 @@ fn time(out: &mut Buffer, n: usize, t: f64) -> usize {
     bytes(out, m, b"  ")
 }
 
+// The call, wide enough for what follows it.
 fn name(out: &mut Buffer, n: usize, kind: u32) -> usize {
     match kind {
         RESET => bytes(out, n, b"reset     "),
@@ -96,12 +96,25 @@ fn meaning(out: &mut Buffer, n: usize, code: u32) -> usize {
     }
 }
 
-fn refused(out: &mut Buffer, n: usize, a: &[u32], r: Reply) -> usize {
-    let mut m = bytes(out, n, b"refused ");
+// The index of a refusal: a word of the feed, or an entry of a hit list.
+fn index(out: &mut Buffer, n: usize, kind: u32, i: u32) -> usize {
+    if kind == PASS {
+        let m = bytes(out, n, b" at word ");
+        return decimal(out, m, i as u64);
+    }
+    if kind == INTERACT {
+        let m = bytes(out, n, b" at entry ");
+        return decimal(out, m, i as u64);
+    }
+    n
+}
+
+fn refused(out: &mut Buffer, n: usize, a: &[u32], r: Reply, kind: u32) -> usize {
+    let mut m = name(out, n, kind);
+    m = bytes(out, m, b"refused ");
     m = decimal(out, m, r.code as u64);
     if r.words > 0 {
-        m = bytes(out, m, b" at ");
-        m = decimal(out, m, at(a, 0) as u64);
+        m = index(out, m, kind, at(a, 0));
     }
     m = bytes(out, m, b": ");
     meaning(out, m, r.code)
@@ -174,12 +187,25 @@ fn inserted(out: &mut Buffer, n: usize, a: &[u32]) -> usize {
     decimal(out, m, at(a, 1) as u64)
 }
 
-fn taken(out: &mut Buffer, n: usize, a: &Answer, kind: u32, w: &[u32], t: Tally) -> usize {
+fn taken(out: &mut Buffer, n: usize, a: &[u32], kind: u32, w: &[u32], t: Tally) -> usize {
     match kind {
-        PASS => events(out, n, w),
-        INSERT => inserted(out, n, a),
-        INTERACT => snapshot(out, n, a, t),
-        _ => n,
+        PASS => {
+            let m = name(out, n, kind);
+            events(out, m, w)
+        }
+        INSERT => {
+            let m = name(out, n, kind);
+            inserted(out, m, a)
+        }
+        INTERACT => {
+            let m = name(out, n, kind);
+            snapshot(out, m, a, t)
+        }
+        RESET => bytes(out, n, b"reset"),
+        CLEAR_WIDGETS => bytes(out, n, b"clear"),
+        ASK => bytes(out, n, b"ask"),
+        DUMP => bytes(out, n, b"dump"),
+        _ => bytes(out, n, b"set tally"),
     }
 }
 
@@ -211,19 +237,18 @@ pub fn line(
     out: &mut Buffer,
     n: usize,
     now: f64,
-    a: &Answer,
+    a: &[u32],
     r: Reply,
     kind: u32,
     w: &[u32],
     t: Tally,
 ) -> usize {
     let mut m = time(out, n, now);
-    m = name(out, m, kind);
     if r.code == 0 {
         m = taken(out, m, a, kind, w, t);
         return byte(out, m, b'\n');
     }
-    m = refused(out, m, a, r);
+    m = refused(out, m, a, r, kind);
     byte(out, m, b'\n')
 }
 
