@@ -1,7 +1,7 @@
 #!/usr/bin/env python3
 """stack.py PROGRAM: the stack that each entry uses, in bytes, read off the object code.
 
-A function's frame is what its code takes off the stack pointer, with the pushed registers and the return address. An entry's stack is the
+A function's frame is what its code takes off the stack pointer, or uses below it, with the pushed registers and the return address. An entry's stack is the
 sum of the frames along the deepest path of calls from it. Lent arrays and the caller's own records are not in it; records passed or
 returned by value are, where the entry copies them.
 """
@@ -9,8 +9,7 @@ import re, subprocess, sys
 
 def frames(program):
     text = subprocess.run(['objdump', '-d', '-C', '--no-show-raw-insn', program], capture_output=True, text=True, check=True).stdout
-    frame, calls, name = {}, {}, None
-    low, loop = 0, 0
+    frame, calls, below, name = {}, {}, {}, None
     for line in text.splitlines():
         m = re.match(r'^[0-9a-f]+ <(.*)>:$', line)
         if m:
@@ -24,14 +23,17 @@ def frames(program):
         m = re.search(r'\tsub +\$0x([0-9a-f]+),%rsp', line)
         if m:
             frame[name] += int(m[1], 16)
-        # a large frame: its end is computed first, and the pages between are touched one by one
-        m = re.search(r'\tlea +-0x([0-9a-f]+)\(%rsp\),%r11', line)
+        # a large frame: its pages are taken one by one in a loop, which ends at %r11
+        m = re.search(r'\tsub +\$0x([0-9a-f]+),%r11', line)
         if m:
             frame[name] += int(m[1], 16) - 0x1000
+        m = re.search(r'-0x([0-9a-f]+)\(%rsp[,)]', line)
+        if m:
+            below[name] = max(below.get(name, 0), int(m[1], 16))
         m = re.search(r'\t(?:call|jmp) +[0-9a-f]+ <([^>+]*)>', line)
         if m and m[1] != name:
             calls[name].add(m[1])
-    return frame, calls
+    return {n: frame[n] + below.get(n, 0) for n in frame}, calls
 
 def deepest(frame, calls, name, seen=()):
     if name not in frame or name in seen:

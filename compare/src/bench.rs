@@ -104,7 +104,7 @@ fn passes(n: u32, feed: &[u32], checked: bool, ask: bool) -> u64 {
     let mut panel = Panel::default();
     let ready = domain::decode_feed(feed, panel.held()).expect("in the domain");
     crate::set_smooth_factor(p.smooth);
-    let mut answers = 0;
+    let mut answers = if ask { asked(black_box(&panel.input)) } else { 0 };
     for _ in 0..n {
         let events = if checked {
             panel.check_pass(black_box(&p), black_box(feed)).expect("in the domain")

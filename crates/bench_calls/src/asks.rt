@@ -165,7 +165,7 @@ pub fn run(times: u32, feed: &[u32]) -> u64 {
     let mut s = fresh();
     let mut ds = none();
     let i = input();
-    let mut n: u64 = 0;
+    let mut n = asked(0, s, ds, &codes, &presses);
     let mut left = times;
     while left > 0 {
         let r = begin_pass(

@@ -11,8 +11,9 @@ use interaction::state::Interaction;
 use interaction::state::Seen;
 use pointer_events::CODES;
 use widget_index::table::Numbers;
+use widget_index::table::WidgetRects;
 use widget_index::table::Words;
-use widget_rect::questions::empty;
+use widget_index::table::wide;
 ghost use Prim.Native.Nat.{_≤_};
 
 pub struct Going {
@@ -75,14 +76,34 @@ fn next(g: Going, out: Interacted) -> Going {
     }
 }
 
-fn hovering() -> Seen {
+fn bit(n: u32, of: u32) -> bool {
+    if of == 0 {
+        return false;
+    }
+    n / of % 2 == 1
+}
+
+// What the interact is told of the input, in the low bits of a number: 32 while the pointer hovers.
+fn seen_of(n: u32) -> Seen {
     Seen {
-        escape_pressed: false,
-        is_long_touch: false,
-        is_decidedly_dragging: false,
-        could_any_button_be_click: false,
-        any_down: false,
-        has_pointer: true,
+        escape_pressed: bit(n, 1),
+        is_long_touch: bit(n, 2),
+        is_decidedly_dragging: bit(n, 4),
+        could_any_button_be_click: bit(n, 8),
+        any_down: bit(n, 16),
+        has_pointer: bit(n, 32),
+    }
+}
+
+// In the further bits: the number of pointer events, all of them moves, and of widgets.
+fn count_of(n: u32) -> usize {
+    wide(n / 64 % 64)
+}
+
+fn set_of(n: u32) -> WidgetRects {
+    WidgetRects {
+        widgets: wide(n / 4096),
+        layers: 1,
     }
 }
 
@@ -127,6 +148,7 @@ fn shorter(n: usize, limit: usize) -> usize
 
 fn call_on(
     g: Going,
+    told: u32,
     codes: &[u32; CODES],
     words: &Words,
     numbers: &Numbers,
@@ -142,10 +164,10 @@ fn call_on(
     let a = shorter(n, close.len());
     let b = shorter(n, within.len());
     let out = interact(
-        hovering(),
+        seen_of(told),
         codes,
-        1,
-        empty(),
+        count_of(told),
+        set_of(told),
         words,
         numbers,
         s,
@@ -163,6 +185,7 @@ fn call_on(
 // The first `n` words of the two lists.
 fn call(
     g: Going,
+    told: u32,
     codes: &[u32; CODES],
     words: &Words,
     numbers: &Numbers,
@@ -174,12 +197,25 @@ fn call(
     top: &mut [u64; 66],
     all: &mut [u64; 66],
 ) -> Going {
-    call_on(g, codes, words, numbers, close, within, n, c, d, top, all)
+    call_on(
+        g,
+        told,
+        codes,
+        words,
+        numbers,
+        close,
+        within,
+        n,
+        c,
+        d,
+        top,
+        all,
+    )
 }
 
 // The first entry's sense changes from call to call, so that no call is the same as the last. One call before the others: what is called at two places
 // stays a function of its own, whose stack can be read off.
-pub fn run(times: u32, given: &[u32], click: u32, drag: u32) -> u64 {
+pub fn run(times: u32, given: &[u32], click: u32, drag: u32, told: u32) -> u64 {
     let mut close = [0u64; 128];
     let mut within = [0u64; 128];
     let mut top = [0u64; 66];
@@ -195,6 +231,7 @@ pub fn run(times: u32, given: &[u32], click: u32, drag: u32) -> u64 {
     let d = hit(given, drag);
     let mut g = call(
         start(),
+        told,
         &codes,
         &words,
         &numbers,
@@ -212,6 +249,7 @@ pub fn run(times: u32, given: &[u32], click: u32, drag: u32) -> u64 {
         set_sense(&mut within, left);
         g = call(
             g,
+            told,
             &codes,
             &words,
             &numbers,

@@ -64,7 +64,7 @@ fn run(q: Request, words: &[u32]) -> u64 {
     match kind {
         0 => passes::run(q.times, words),
         1 => inserts::run(q.times, q.a, q.b, q.c),
-        2 => interacts::run(q.times, words, q.a, q.b),
+        2 => interacts::run(q.times, words, q.a, q.b, q.c),
         _ => asks::run(q.times, words),
     }
 }

@@ -28,14 +28,17 @@ none-requires c κs = search needs
 input-requires : tie.Need-input-requires Inv-loop μ-loop
 input-requires c κs = search needs
 
+asked-requires : tie.Need-asked-requires Inv-loop μ-loop
+asked-requires c κs = search needs
+
 loop-holds : tie.Need-loop-holds Inv-loop μ-loop
 loop-holds c = search needs
 
 begin-pass-requires : tie.Need-begin-pass-requires Inv-loop μ-loop
 begin-pass-requires c κs = search needs
 
-asked-requires : tie.Need-asked-requires Inv-loop μ-loop
-asked-requires c κs = search needs
+asked-requires-2 : tie.Need-asked-requires-2 Inv-loop μ-loop
+asked-requires-2 c κs = search needs
 
 sub-left : tie.Need-sub-left Inv-loop μ-loop
 sub-left c = search needs
@@ -64,9 +67,10 @@ run-spec =
     fresh-requires
     none-requires
     input-requires
+    asked-requires
     loop-holds
     begin-pass-requires
-    asked-requires
+    asked-requires-2
     sub-left
     loop-less
     loop-again

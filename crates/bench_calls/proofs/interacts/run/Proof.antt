@@ -14,10 +14,10 @@ use Rattle.bench_calls.proofs.interacts.set_sense.Reads as set-sense-re
 use Rattle.bench_calls.proofs.interacts.start.Reads as start-reads
 
 abbrev Inv-loop : tie.InvT-loop
-Inv-loop times given click drag close₀ within₀ top₀ all₀ codes words numbers n m c d g₀ left₀ close within top all g left = 0 ≤ left
+Inv-loop times given click drag told close₀ within₀ top₀ all₀ codes words numbers n m c d g₀ left₀ close within top all g left = 0 ≤ left
 
 abbrev μ-loop : tie.MeasureT-loop
-μ-loop times given click drag close₀ within₀ top₀ all₀ codes words numbers n m c d g₀ left₀ close within top all g left = left
+μ-loop times given click drag told close₀ within₀ top₀ all₀ codes words numbers n m c d g₀ left₀ close within top all g left = left
 
 at-most-requires : tie.Need-at-most-requires Inv-loop μ-loop
 at-most-requires c κs = search needs
