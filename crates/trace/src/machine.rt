@@ -52,7 +52,7 @@ pub fn fresh() -> Machine {
 
 // A call that is refused leaves the machine `m` as it was.
 fn stepped(m: Machine, after: Machine, reply: Reply) -> Step
-    ensures { λ r. ⌜ (r .reply .code ≡ 0 → ⊥) → r .machine ≡ m ⌝ }
+    ensures { λ r. ⌜ ((r .reply .code ≡ 0 → ⊥) → r .machine ≡ m) ⌝ }
 {
     if reply.code == 0 {
         return Step {
@@ -65,13 +65,13 @@ fn stepped(m: Machine, after: Machine, reply: Reply) -> Step
 
 // The request doesn't follow the format.
 fn refused(m: Machine) -> Step
-    ensures { λ r. ⌜ (r .reply .code ≡ 0 → ⊥) → r .machine ≡ m ⌝ }
+    ensures { λ r. ⌜ ((r .reply .code ≡ 0 → ⊥) → r .machine ≡ m) ⌝ }
 {
     stepped(m, m, malformed())
 }
 
 fn reset(m: Machine, presses: &mut [u8; 145], w: &[u32]) -> Step
-    ensures { λ r. ⌜ (r .reply .code ≡ 0 → ⊥) → r .machine ≡ m ⌝ }
+    ensures { λ r. ⌜ ((r .reply .code ≡ 0 → ⊥) → r .machine ≡ m) ⌝ }
 {
     if w.len() > 0 {
         return refused(m);
@@ -81,7 +81,7 @@ fn reset(m: Machine, presses: &mut [u8; 145], w: &[u32]) -> Step
 }
 
 fn clear_widgets(m: Machine, w: &[u32]) -> Step
-    ensures { λ r. ⌜ (r .reply .code ≡ 0 → ⊥) → r .machine ≡ m ⌝ }
+    ensures { λ r. ⌜ ((r .reply .code ≡ 0 → ⊥) → r .machine ≡ m) ⌝ }
 {
     if w.len() > 0 {
         return refused(m);
@@ -92,7 +92,7 @@ fn clear_widgets(m: Machine, w: &[u32]) -> Step
 }
 
 fn set_tally(m: Machine, w: &[u32]) -> Step
-    ensures { λ r. ⌜ (r .reply .code ≡ 0 → ⊥) → r .machine ≡ m ⌝ }
+    ensures { λ r. ⌜ ((r .reply .code ≡ 0 → ⊥) → r .machine ≡ m) ⌝ }
 {
     if w.len() != 1 {
         return refused(m);
@@ -120,7 +120,7 @@ fn pass(
     a: &mut Answer,
     w: &[u32],
 ) -> Step
-    ensures { λ r. ⌜ (r .reply .code ≡ 0 → ⊥) → r .machine ≡ m ⌝ }
+    ensures { λ r. ⌜ ((r .reply .code ≡ 0 → ⊥) → r .machine ≡ m) ⌝ }
 {
     if w.len() < PASS_WORDS {
         return refused(m);
@@ -162,7 +162,7 @@ fn inserted(
     a: &mut Answer,
     w: &[u32],
 ) -> Step
-    ensures { λ r. ⌜ (r .reply .code ≡ 0 → ⊥) → r .machine ≡ m ⌝ }
+    ensures { λ r. ⌜ ((r .reply .code ≡ 0 → ⊥) → r .machine ≡ m) ⌝ }
 {
     let panel = m.panel;
     let before = m.set;
@@ -181,13 +181,13 @@ fn interacted(
     a: &mut Answer,
     w: &[u32],
 ) -> Step
-    ensures { λ r. ⌜ (r .reply .code ≡ 0 → ⊥) → r .machine ≡ m ⌝ }
+    ensures { λ r. ⌜ ((r .reply .code ≡ 0 → ⊥) → r .machine ≡ m) ⌝ }
 {
     let p = m.panel;
     let set = m.set;
-    let stepped = interact(a, p, set, codes, presses, words, numbers, w);
-    let panel = stepped.panel;
-    let reply = stepped.reply;
+    let out = interact(a, p, set, codes, presses, words, numbers, w);
+    let panel = out.panel;
+    let reply = out.reply;
     stepped(m, Machine { panel, set }, reply)
 }
 
@@ -199,7 +199,7 @@ fn asked(
     a: &mut Answer,
     w: &[u32],
 ) -> Step
-    ensures { λ r. ⌜ (r .reply .code ≡ 0 → ⊥) → r .machine ≡ m ⌝ }
+    ensures { λ r. ⌜ ((r .reply .code ≡ 0 → ⊥) → r .machine ≡ m) ⌝ }
 {
     if w.len() > 0 {
         return refused(m);
@@ -228,7 +228,7 @@ fn dumped(
     a: &mut Answer,
     w: &[u32],
 ) -> Step
-    ensures { λ r. ⌜ (r .reply .code ≡ 0 → ⊥) → r .machine ≡ m ⌝ }
+    ensures { λ r. ⌜ ((r .reply .code ≡ 0 → ⊥) → r .machine ≡ m) ⌝ }
 {
     if w.len() > 0 {
         return refused(m);
@@ -270,7 +270,7 @@ pub fn call(
     kind: u32,
     w: &[u32],
 ) -> Step
-    ensures { λ r. ⌜ (r .reply .code ≡ 0 → ⊥) → r .machine ≡ m ⌝ }
+    ensures { λ r. ⌜ ((r .reply .code ≡ 0 → ⊥) → r .machine ≡ m) ⌝ }
 {
     match kind {
         RESET => reset(m, presses, w),

@@ -47,7 +47,10 @@ fn unpack(bytes: &[u8; CHUNK], got: usize, trace: &mut Trace, n: usize) -> usize
     let mut m = n;
     let mut i: usize = 0;
     while i + 4 <= CHUNK {
-        if (got < i + 4) | (WORDS <= m) {
+        if got < i + 4 {
+            return m;
+        }
+        if WORDS <= m {
             return m;
         }
         let low = wide(bytes[i]) + wide(bytes[i + 1]) * 0x100;
@@ -135,6 +138,10 @@ fn ended(out: &mut Buffer, n: usize, form: Form, cut: bool, t: Tally) {
     }
 }
 
+fn counted(t: Tally, a: &Answer, r: Reply, kind: u32) -> Tally {
+    text::counted(t, a, r, kind)
+}
+
 // Record by record. One that is cut short ends the trace.
 pub fn replay_words(trace: &[u32], form: Form) {
     let mut times = [0.0f64; 1000];
@@ -178,17 +185,21 @@ pub fn replay_words(trace: &[u32], form: Form) {
         );
         m = step.machine;
         let r = step.reply;
-        t = text::counted(t, &answer, r, kind);
+        t = counted(t, &answer, r, kind);
         n = written(&mut out, n, form, m, &answer, r, kind, &trace[from..to], t);
         at = to;
     }
     ended(&mut out, n, form, false, t);
 }
 
-fn replay_first(trace: &[u32], n: usize, form: Form) {
+fn replay_part(trace: &[u32], n: usize, form: Form) {
     if n <= trace.len() {
-        replay_words(&trace[..n], form);
+        replay_words(&trace[0..n], form);
     }
+}
+
+fn replay_first(trace: &Trace, n: usize, form: Form) {
+    replay_part(trace, n, form);
 }
 
 // Standard input, up to 1 MiB of it.
