@@ -16,8 +16,12 @@ use trace_text::sums::head;
 use trace_text::sums::sum;
 use trace_text::text;
 use trace_text::text::Tally;
+use trace_words::records::Lent;
 use trace_words::words::Answer;
 use trace_words::words::ROOM;
+use widget_index::table::Edges;
+use widget_index::table::Numbers;
+use widget_index::table::Words;
 ghost use Prim.Native.Nat.{_≤_};
 
 // 1 MiB.
@@ -88,6 +92,11 @@ fn say_if_longer() {
     }
 }
 
+// How many words follow a record's first.
+fn wide_length(head: u32) -> usize {
+    (head % 0x100_0000) as usize
+}
+
 fn whole(out: &mut Buffer, n: usize, a: &Answer, r: Reply) -> usize {
     let mut m = word(out, n, head(r));
     let mut i: usize = 0;
@@ -127,7 +136,7 @@ fn written(
     }
 }
 
-fn ended(out: &mut Buffer, n: usize, form: Form, cut: bool, t: Tally) {
+fn say_end(out: &mut Buffer, n: usize, form: Form, cut: bool, t: Tally) {
     match form {
         Form::Whole => flush(out, n),
         Form::Sums => flush(out, n),
@@ -138,8 +147,59 @@ fn ended(out: &mut Buffer, n: usize, form: Form, cut: bool, t: Tally) {
     }
 }
 
-fn counted(t: Tally, a: &Answer, r: Reply, kind: u32) -> Tally {
-    text::counted(t, a, r, kind)
+// What is carried from call to call: the machine, the bytes that wait to be written, and the count.
+struct Going {
+    machine: Machine,
+    bytes: usize,
+    tally: Tally,
+}
+
+fn one_call(
+    before: Going,
+    times: &mut [f64; 1000],
+    positions: &mut [f32; 2000],
+    codes: &mut [u32; CODES],
+    places: &mut [f32; PLACES],
+    presses: &mut [u8; 145],
+    words: &mut Words,
+    numbers: &mut Numbers,
+    edges: &mut Edges,
+    lent: &mut Lent,
+    answer: &mut Answer,
+    out: &mut Buffer,
+    form: Form,
+    kind: u32,
+    w: &[u32],
+) -> Going {
+    let m = before.machine;
+    let t = before.tally;
+    let step = call(
+        m, times, positions, codes, places, presses, words, numbers, edges, lent, answer, kind, w,
+    );
+    let machine = step.machine;
+    let r = step.reply;
+    let tally = text::counted(t, answer, r, kind);
+    let bytes = written(out, before.bytes, form, machine, answer, r, kind, w, tally);
+    Going {
+        machine,
+        bytes,
+        tally,
+    }
+}
+
+fn ended(out: &mut Buffer, s: Going, form: Form, cut: bool) {
+    let t = s.tally;
+    say_end(out, s.bytes, form, cut, t);
+}
+
+fn start() -> Going {
+    let machine = fresh();
+    let tally = text::none();
+    Going {
+        machine,
+        bytes: 0,
+        tally,
+    }
 }
 
 // Record by record. One that is cut short ends the trace.
@@ -155,21 +215,19 @@ pub fn replay_words(trace: &[u32], form: Form) {
     let mut lent = [0u32; 17408];
     let mut answer = [0u32; 65536];
     let mut out = [0u8; 65536];
-    let mut n: usize = 0;
-    let mut m = fresh();
-    let mut t = text::none();
+    let mut s = start();
     let mut at: usize = 0;
     while at < trace.len() {
-        let kind = trace[at] / 0x100_0000;
-        let len = (trace[at] % 0x100_0000) as usize;
+        let head = trace[at];
+        let len = wide_length(head);
         if trace.len() - at - 1 < len {
-            ended(&mut out, n, form, true, t);
+            ended(&mut out, s, form, true);
             return;
         }
         let from = at + 1;
-        let to = from + len;
-        let step = call(
-            m,
+        at = from + len;
+        s = one_call(
+            s,
             &mut times,
             &mut positions,
             &mut codes,
@@ -180,16 +238,13 @@ pub fn replay_words(trace: &[u32], form: Form) {
             &mut edges,
             &mut lent,
             &mut answer,
-            kind,
-            &trace[from..to],
+            &mut out,
+            form,
+            head / 0x100_0000,
+            &trace[from..at],
         );
-        m = step.machine;
-        let r = step.reply;
-        t = counted(t, &answer, r, kind);
-        n = written(&mut out, n, form, m, &answer, r, kind, &trace[from..to], t);
-        at = to;
     }
-    ended(&mut out, n, form, false, t);
+    ended(&mut out, s, form, false);
 }
 
 fn replay_part(trace: &[u32], n: usize, form: Form) {

@@ -6,34 +6,25 @@ use Rattle.trace.proofs.run.replay_words.Statement.{statement}
 use Rattle.trace.proofs.run.replay_words.Tie as tie
 
 abbrev Inv-loop : tie.InvT-loop
-Inv-loop trace form times₀ positions₀ codes₀ places₀ presses₀ words₀ numbers₀ edges₀ lent₀ answer₀ out₀ n₀ m₀ t₀ at₀ times positions codes places presses words numbers edges lent answer out n m t at = at ≤ length trace
+Inv-loop trace form times₀ positions₀ codes₀ places₀ presses₀ words₀ numbers₀ edges₀ lent₀ answer₀ out₀ s₀ at₀ times positions codes places presses words numbers edges lent answer out s at = at ≤ length trace
 
 abbrev μ-loop : tie.MeasureT-loop
-μ-loop trace form times₀ positions₀ codes₀ places₀ presses₀ words₀ numbers₀ edges₀ lent₀ answer₀ out₀ n₀ m₀ t₀ at₀ times positions codes places presses words numbers edges lent answer out n m t at = length trace - at
+μ-loop trace form times₀ positions₀ codes₀ places₀ presses₀ words₀ numbers₀ edges₀ lent₀ answer₀ out₀ s₀ at₀ times positions codes places presses words numbers edges lent answer out s at = length trace - at
 
-fresh-requires : tie.Need-fresh-requires Inv-loop μ-loop
-fresh-requires c κs = search needs
-
-none-requires : tie.Need-none-requires Inv-loop μ-loop
-none-requires c κs = search needs
+start-requires : tie.Need-start-requires Inv-loop μ-loop
+start-requires c κs = search needs
 
 loop-holds : tie.Need-loop-holds Inv-loop μ-loop
 loop-holds c = search needs
 
-mul-kind : tie.Need-mul-kind Inv-loop μ-loop
-mul-kind c = search needs
+mul-head : tie.Need-mul-head Inv-loop μ-loop
+mul-head c = search needs
 
-shared-slice-read-kind : tie.Need-shared-slice-read-kind Inv-loop μ-loop
-shared-slice-read-kind c = search needs
+shared-slice-read-head : tie.Need-shared-slice-read-head Inv-loop μ-loop
+shared-slice-read-head c = search needs
 
-mul-len : tie.Need-mul-len Inv-loop μ-loop
-mul-len c = search needs
-
-shared-slice-read-len : tie.Need-shared-slice-read-len Inv-loop μ-loop
-shared-slice-read-len c = search needs
-
-cast-len : tie.Need-cast-len Inv-loop μ-loop
-cast-len c = search needs
+wide-length-requires : tie.Need-wide-length-requires Inv-loop μ-loop
+wide-length-requires c κs = search needs
 
 sub-if1 : tie.Need-sub-if1 Inv-loop μ-loop
 sub-if1 c = search needs
@@ -50,41 +41,23 @@ returns c = search needs
 add-from : tie.Need-add-from Inv-loop μ-loop
 add-from c = search needs
 
-add-to : tie.Need-add-to Inv-loop μ-loop
-add-to c = search needs
+add-at : tie.Need-add-at Inv-loop μ-loop
+add-at c = search needs
 
-mul-call : tie.Need-mul-call Inv-loop μ-loop
-mul-call c = search needs
+mul-one-call : tie.Need-mul-one-call Inv-loop μ-loop
+mul-one-call c = search needs
 
-sub-call : tie.Need-sub-call Inv-loop μ-loop
-sub-call c = search needs
+sub-one-call : tie.Need-sub-one-call Inv-loop μ-loop
+sub-one-call c = search needs
 
-part-call-start : tie.Need-part-call-start Inv-loop μ-loop
-part-call-start c = search needs
+part-one-call-start : tie.Need-part-one-call-start Inv-loop μ-loop
+part-one-call-start c = search needs
 
-part-call-end : tie.Need-part-call-end Inv-loop μ-loop
-part-call-end c = search needs
+part-one-call-end : tie.Need-part-one-call-end Inv-loop μ-loop
+part-one-call-end c = search needs
 
-call-requires : tie.Need-call-requires Inv-loop μ-loop
-call-requires c κs = search needs
-
-counted-requires : tie.Need-counted-requires Inv-loop μ-loop
-counted-requires c κs = search needs
-
-mul-written : tie.Need-mul-written Inv-loop μ-loop
-mul-written c = search needs
-
-sub-written : tie.Need-sub-written Inv-loop μ-loop
-sub-written c = search needs
-
-part-written-start : tie.Need-part-written-start Inv-loop μ-loop
-part-written-start c = search needs
-
-part-written-end : tie.Need-part-written-end Inv-loop μ-loop
-part-written-end c = search needs
-
-written-requires : tie.Need-written-requires Inv-loop μ-loop
-written-requires c κs = search needs
+one-call-requires : tie.Need-one-call-requires Inv-loop μ-loop
+one-call-requires c κs = search needs
 
 loop-less : tie.Need-loop-less Inv-loop μ-loop
 loop-less c = search needs
@@ -104,31 +77,22 @@ replay-words-spec =
     (tie.spec
     Inv-loop
     μ-loop
-    fresh-requires
-    none-requires
+    start-requires
     loop-holds
-    mul-kind
-    shared-slice-read-kind
-    mul-len
-    shared-slice-read-len
-    cast-len
+    mul-head
+    shared-slice-read-head
+    wide-length-requires
     sub-if1
     sub-if1-2
     ended-requires
     returns
     add-from
-    add-to
-    mul-call
-    sub-call
-    part-call-start
-    part-call-end
-    call-requires
-    counted-requires
-    mul-written
-    sub-written
-    part-written-start
-    part-written-end
-    written-requires
+    add-at
+    mul-one-call
+    sub-one-call
+    part-one-call-start
+    part-one-call-end
+    one-call-requires
     loop-less
     loop-again
     ended-requires-2
