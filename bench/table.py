@@ -70,7 +70,7 @@ pressed = KINDS['press'](0) + sum((KINDS['moved'](i) for i in range(63)), [])
 row('pass, press and 63 moves', None, 300, lambda n: request(PASS, n, words=pressed))
 for w, l in ((16, 1), (128, 1), (128, 4), (1024, 1), (1024, 32)):
     for c, what in enumerate(('new', 'known', 'moved to top')):
-        row(f'insertion, {w} widgets in {l}, {what}', 2.0, max(2, 2000 // w), lambda n, w=w, l=l, c=c: request(INSERT, n * w, w, l, c), w,
+        row(f'insertion, {w} widgets in {l}, {what}', 2.0, max(1, 256 // w), lambda n, w=w, l=l, c=c: request(INSERT, n * w, w, l, c), w,
             lambda n, w=w, l=l: request(INSERT, n * w, w, l, 3))
 row('interact, 3 hits', 2.0, 2000, lambda n: request(INTERACT, n, 2, 2, 96, hits(3)))
 row('interact, 64 hits', 1.0, 300, lambda n: request(INTERACT, n, 6, 2, 96, hits(64)))

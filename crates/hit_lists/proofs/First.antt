@@ -6,8 +6,9 @@ use mathlib.Core.List.{List, [], _∷_}
 use native.Mathlib.Numerals.{add-one}
 use native.Mathlib.Omega.{arith}
 use lib.Dec.{leb, ltb, eqb}
-use borrow.Author.Tests.{lt-leb, le-leb, ltb-true, eqb-true}
+use borrow.Author.Tests.{lt-ltb, lt-leb, le-leb, ltb-true, eqb-true}
 use lib.ListN.{length, getD, take}
+use lib.Seq.{length-take-le, getD-take}
 use Rattle.model.specs.Interact.{Hit, has-hit, order, order-from}
 use Rattle.hit_lists.specs.Hits.{hits-of, hit-of, hit-at}
 use Rattle.hit_lists.proofs.Walk.{rest, at, next, entries, hit-here}
@@ -103,6 +104,16 @@ stands d n ws e =
     let b = both-true (ltb n (length ws / 2)) (eqb d (getD ws (n * 2) 0)) e in
     let h : n < length ws / 2 = ltb-true _ _ (b .0) in
     has-rest d ws n (omega arith) (hit-here ws d n h (eqb-true _ _ (b .1)))
+
+-- an entry before entry t is one of the first t
+pub stands-below : (d n t : ℕ) (ws : List ℕ) → t * 2 ≤ length ws → (ltb n t && hit-at d n ws) ≡ true → has-hit d (hits-of (take (t * 2) ws)) ≡ true
+unfolding hit-at
+stands-below d n t ws l e =
+    let a = both-true (ltb n t) (hit-at d n ws) e in
+    let b = both-true (ltb n (length ws / 2)) (eqb d (getD ws (n * 2) 0)) (a .1) in
+    let h : n < t = ltb-true _ _ (a .0) in
+    let k : n < length (take (t * 2) ws) / 2 = rw (length-take-le (t * 2) ws l) (omega arith) in
+    stands d n (take (t * 2) ws) (rw (lt-ltb _ _ k, getD-take (t * 2) ws (n * 2) 0 (omega arith)) (b .1))
 
 module _ (d top : ℕ) (ws : List ℕ) where
   pub lies-below : has-hit d (hits-of (take (top * 2) ws)) ≡ true → leb top (order d (hits-of ws)) ≡ false

@@ -4,7 +4,8 @@ use data::limits::MAX_HITS;
 use data::refusal::InteractRefusal;
 ghost use mathlib.Core.Path.{_≡_};
 ghost use Prim.Native.Nat.{_*_};
-ghost use lib.Dec.{leb};
+ghost use mathlib.Core.Bool.{_&&_};
+ghost use lib.Dec.{leb, ltb};
 ghost use lib.ListN.{drop};
 ghost use Rattle.data.specs.Limits.{max-hits};
 ghost use Rattle.data.specs.Sense.{sense-ok, interactive};
@@ -179,6 +180,16 @@ fn hit_at(words: &[u64], at: usize, id: u64) -> bool
     false
 }
 
+// Whether a place before `top` has the id.
+fn hit_below(words: &[u64], top: usize, at: usize, id: u64) -> bool
+    ensures { λ r. ⌜ r ≡ (ltb at top && hit-at id at (now (words .entry))) ⌝ }
+{
+    if at < top {
+        return hit_at(words, at, id);
+    }
+    false
+}
+
 // The first place of the id from `from` on, the number of entries if it has none there.
 pub fn seek(words: &[u64], from: usize, id: u64) -> usize
     ensures { λ r. ⌜ r ≡ seek-from id from (hits-of (drop (from * 2) (now (words .entry)))) ⌝ }
@@ -202,6 +213,9 @@ pub fn lies_from(words: &[u64], top: usize, hint: usize, id: u64) -> bool
         return true;
     }
     if words.len() / 2 <= top {
+        return false;
+    }
+    if hit_below(words, top, hint, id) {
         return false;
     }
     let below = top * 2;
