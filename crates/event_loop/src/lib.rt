@@ -1,5 +1,7 @@
 // A feed read for one component of the panel: it decodes only its own events, whose places are in its list.
 // Floats are not tested again: a pass is surveyed before.
+pub mod readers;
+
 use data::event::Event;
 use data::limits::MAX_EVENTS;
 use feed::shape::MaybeEvent;
