@@ -7,8 +7,6 @@ use Rattle.event_loop.proofs.KnownKind.{whole-as}
 use borrow.Author.Needs.{needs}
 use Rattle.event_loop.proofs.readers.focus_at.Statement.{statement}
 use Rattle.event_loop.proofs.readers.focus_at.Tie as tie
-use Rattle.event_loop.proofs.event_or_other.Reads as event-or-other-reads
-use Rattle.feed.proofs.shape.focus_shape.Reads as focus-shape-reads
 
 mul-focus-shape : tie.Need-mul-focus-shape
 mul-focus-shape c = search needs

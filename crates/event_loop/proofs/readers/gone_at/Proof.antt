@@ -7,8 +7,6 @@ use Rattle.event_loop.proofs.KnownKind.{whole-as}
 use borrow.Author.Needs.{needs}
 use Rattle.event_loop.proofs.readers.gone_at.Statement.{statement}
 use Rattle.event_loop.proofs.readers.gone_at.Tie as tie
-use Rattle.event_loop.proofs.event_or_other.Reads as event-or-other-reads
-use Rattle.feed.proofs.shape.bare.Reads as bare-reads
 
 mul-bare : tie.Need-mul-bare
 mul-bare c = search needs

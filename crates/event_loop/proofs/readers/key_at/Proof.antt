@@ -7,8 +7,6 @@ use Rattle.event_loop.proofs.KnownKind.{whole-as}
 use borrow.Author.Needs.{needs}
 use Rattle.event_loop.proofs.readers.key_at.Statement.{statement}
 use Rattle.event_loop.proofs.readers.key_at.Tie as tie
-use Rattle.event_loop.proofs.event_or_other.Reads as event-or-other-reads
-use Rattle.feed.proofs.shape.key_shape.Reads as key-shape-reads
 
 mul-key-shape : tie.Need-mul-key-shape
 mul-key-shape c = search needs

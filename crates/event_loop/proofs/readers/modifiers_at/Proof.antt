@@ -7,8 +7,6 @@ use Rattle.event_loop.proofs.KnownKind.{whole-as}
 use borrow.Author.Needs.{needs}
 use Rattle.event_loop.proofs.readers.modifiers_at.Statement.{statement}
 use Rattle.event_loop.proofs.readers.modifiers_at.Tie as tie
-use Rattle.event_loop.proofs.event_or_other.Reads as event-or-other-reads
-use Rattle.feed.proofs.shape.modifiers_shape.Reads as modifiers-shape-reads
 
 mul-modifiers-shape : tie.Need-mul-modifiers-shape
 mul-modifiers-shape c = search needs

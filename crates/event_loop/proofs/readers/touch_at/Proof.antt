@@ -7,8 +7,6 @@ use Rattle.event_loop.proofs.KnownKind.{whole-as, short-as}
 use borrow.Author.Needs.{needs}
 use Rattle.event_loop.proofs.readers.touch_at.Statement.{statement}
 use Rattle.event_loop.proofs.readers.touch_at.Tie as tie
-use Rattle.event_loop.proofs.event_or_other.Reads as event-or-other-reads
-use Rattle.feed.proofs.shape.touch_shape.Reads as touch-shape-reads
 
 mul-n : tie.Need-mul-n
 mul-n c = search needs
