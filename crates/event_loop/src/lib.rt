@@ -1,16 +1,16 @@
 // A feed read for one component of the panel: it decodes only its own events, whose places are in its list.
 // Floats are not tested again: a pass is surveyed before.
+pub mod readers;
+
 use data::event::Event;
 use data::limits::MAX_EVENTS;
 use feed::shape::MaybeEvent;
-use feed::shape::shape_at;
-use feed::split::following;
 ghost use mathlib.Core.Path.{_≡_};
 ghost use Prim.Native.Nat.{_+_, _*_};
 ghost use lib.ListN.{getD};
 ghost use Rattle.data.specs.Limits.{max-events};
 ghost use Rattle.feed.specs.Split.{kind};
-ghost use Rattle.event_loop.specs.Shaped.{event-or-other, shaped-at};
+ghost use Rattle.event_loop.specs.Shaped.{event-or-other};
 ghost use Rattle.event_loop.specs.Lists.{list-of};
 
 // The components that read events: the numbers of their lists. List 0 is of the events that none reads.
@@ -88,19 +88,4 @@ fn event_or_other(e: MaybeEvent) -> Event
         MaybeEvent::None => Event::Other,
         MaybeEvent::Some(event) => event,
     }
-}
-
-// The event at `at`, whatever its floats; `Other` where there is none.
-pub fn shaped_at(feed: &[u32], at: usize) -> Event
-    ensures { λ r. ⌜ r ≡ shaped-at (now (feed .entry)) at ⌝ }
-{
-    if at < feed.len() {
-        let n = following(feed[at]);
-        if n < feed.len() - at {
-            let e = shape_at(feed, at);
-            return event_or_other(e);
-        }
-        return Event::Other;
-    }
-    Event::Other
 }

@@ -4,7 +4,6 @@ use event_loop::LISTED;
 use event_loop::SUMS;
 use event_loop::kind_at;
 use event_loop::listed;
-use event_loop::shaped_at;
 ghost use mathlib.Core.Path.{_≡_};
 ghost use Rattle.model.specs.Numbers.{+0, one};
 ghost use Rattle.model.specs.Pass.{zoom-event, zoom-of, rotation-event, rotation-of};
@@ -35,7 +34,7 @@ fn zoom_at(factor: f32, feed: &[u32], at: usize) -> f32
     ensures { λ r. ⌜ r ≡ zoom-event (shaped-at (now (feed .entry)) at) factor ⌝ }
 {
     if kind_at(feed, at) == 7 {
-        let e = shaped_at(feed, at);
+        let e = event_loop::readers::zoom_at(feed, at);
         return zoom_event(e, factor);
     }
     factor
@@ -78,7 +77,7 @@ fn rotation_at(radians: f32, feed: &[u32], at: usize) -> f32
     ensures { λ r. ⌜ r ≡ rotation-event (shaped-at (now (feed .entry)) at) radians ⌝ }
 {
     if kind_at(feed, at) == 8 {
-        let e = shaped_at(feed, at);
+        let e = event_loop::readers::rotate_at(feed, at);
         return rotation_event(e, radians);
     }
     radians

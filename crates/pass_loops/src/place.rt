@@ -5,7 +5,9 @@ use event_loop::LISTED;
 use event_loop::POINTER;
 use event_loop::kind_at;
 use event_loop::listed;
-use event_loop::shaped_at;
+use event_loop::readers::button_at;
+use event_loop::readers::motion_at;
+use event_loop::readers::moved_at;
 use pointer_place::Place;
 use pointer_place::end_place;
 use pointer_place::place_event;
@@ -23,15 +25,25 @@ ghost use Rattle.pass_loops.specs.Passed.{PlacePassed};
 fn place_at(p: Place, feed: &[u32], at: usize) -> Place
     ensures { λ r. ⌜ ((times positions : List Float) → place times positions r ≡ place-event (shaped-at (now (feed .entry)) at) (place times positions p)) ⌝ }
 {
-    let kind = kind_at(feed, at);
-    if kind < 3 {
-        return p;
+    match kind_at(feed, at) {
+        3 => {
+            let e = moved_at(feed, at);
+            place_event(p, e)
+        }
+        4 => {
+            let e = motion_at(feed, at);
+            place_event(p, e)
+        }
+        5 => {
+            let e = button_at(feed, at);
+            place_event(p, e)
+        }
+        6 => {
+            let e = event_loop::readers::gone_at(feed, at);
+            place_event(p, e)
+        }
+        _ => p,
     }
-    if kind < 7 {
-        let e = shaped_at(feed, at);
-        return place_event(p, e);
-    }
-    p
 }
 
 fn place_events(p: Place, feed: &[u32], lists: &[u16; LISTED], count: u8) -> Place
@@ -52,7 +64,7 @@ fn gone_at(feed: &[u32], at: usize) -> bool
     ensures { λ r. ⌜ r ≡ clear-history-after (shaped-at (now (feed .entry)) at ∷ []) ⌝ }
 {
     if kind_at(feed, at) == 6 {
-        let e = shaped_at(feed, at);
+        let e = event_loop::readers::gone_at(feed, at);
         return pointer_place::clears_history(false, e);
     }
     false

@@ -4,7 +4,8 @@ use event_loop::LISTED;
 use event_loop::POINTER;
 use event_loop::kind_at;
 use event_loop::listed;
-use event_loop::shaped_at;
+use event_loop::readers::button_at;
+use event_loop::readers::moved_at;
 use pointer_clicks::clear_events;
 use pointer_events::CODES;
 use pointer_events::PLACES;
@@ -29,11 +30,11 @@ fn press_at(
 {
     let kind = kind_at(feed, at);
     if kind == 3 {
-        let e = shaped_at(feed, at);
+        let e = moved_at(feed, at);
         return press_event(s, codes, positions, options, time, e);
     }
     if kind == 5 {
-        let e = shaped_at(feed, at);
+        let e = button_at(feed, at);
         return press_event(s, codes, positions, options, time, e);
     }
     s

@@ -7,7 +7,6 @@ use event_loop::LISTED;
 use event_loop::WHEEL;
 use event_loop::kind_at;
 use event_loop::listed;
-use event_loop::shaped_at;
 ghost use mathlib.Core.Path.{_≡_};
 ghost use Rattle.model.specs.Wheel.{wheel-event, wheel-events, wheel-pass};
 ghost use Rattle.event_loop.specs.Shaped.{shaped-at};
@@ -62,7 +61,7 @@ fn wheel_at(
     ensures { λ r. ⌜ r ≡ wheel-event «viewport_rect» options time (shaped-at (now (feed .entry)) at) w ⌝ }
 {
     if kind_at(feed, at) == 10 {
-        let e = shaped_at(feed, at);
+        let e = event_loop::readers::wheel_at(feed, at);
         return wheel_event(w, viewport_rect, options, time, e);
     }
     w

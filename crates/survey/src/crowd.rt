@@ -8,8 +8,9 @@ use data::touch::ActiveTouch;
 use event_loop::LIST_COUNT;
 use event_loop::LISTED;
 use event_loop::TOUCHES;
+use event_loop::kind_at;
 use event_loop::listed;
-use event_loop::shaped_at;
+use event_loop::readers::touch_at;
 use touch_state::devices::Devices;
 ghost use mathlib.Core.Path.{_≡_};
 ghost use Rattle.model.specs.Pass.{crowded};
@@ -79,15 +80,17 @@ fn crowd(ds: Devices, feed: &[u32], lists: &[u16; LISTED], reading: Reading) -> 
     let mut i: u8 = 0;
     while i < n {
         let at = listed(lists, TOUCHES, i);
-        let e = shaped_at(feed, at);
-        if is_crowded(held, e) {
-            return Surveyed {
-                refusal: MaybePassRefusal::Some(PassRefusal::NoPlace(at)),
-                devices: held,
-                counts,
-            };
+        if kind_at(feed, at) == 9 {
+            let e = touch_at(feed, at);
+            if is_crowded(held, e) {
+                return Surveyed {
+                    refusal: MaybePassRefusal::Some(PassRefusal::NoPlace(at)),
+                    devices: held,
+                    counts,
+                };
+            }
+            held = held_after(held, e);
         }
-        held = held_after(held, e);
         i += 1;
     }
     Surveyed {

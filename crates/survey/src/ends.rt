@@ -6,7 +6,7 @@ use event_loop::LISTED;
 use event_loop::TOUCHES;
 use event_loop::kind_at;
 use event_loop::listed;
-use event_loop::shaped_at;
+use event_loop::readers::touch_at;
 use touch_device::Device;
 use touch_state::devices::Devices;
 ghost use mathlib.Core.Path.{_≡_};
@@ -60,7 +60,7 @@ fn adds_at(device_id: u64, feed: &[u32], at: usize) -> bool
     ensures { λ r. ⌜ r ≡ added-or-removed-touches «device_id» (shaped-at (now (feed .entry)) at ∷ []) ⌝ }
 {
     if kind_at(feed, at) == 9 {
-        let e = shaped_at(feed, at);
+        let e = touch_at(feed, at);
         return event_adds(device_id, e);
     }
     false

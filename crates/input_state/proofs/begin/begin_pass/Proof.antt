@@ -5,10 +5,6 @@ use mathlib.Core.Path.{_≡_, refl, sym, ap, _∙_}
 use borrow.Author.Needs.{needs}
 use Rattle.input_state.proofs.begin.begin_pass.Statement.{statement}
 use Rattle.input_state.proofs.begin.begin_pass.Tie as tie
-use Rattle.input_state.proofs.begin.look.Reads as look-reads
-use Rattle.input_state.proofs.input.time_of.Reads as time-of-reads
-use Rattle.input_state.proofs.state.act.Reads as act-reads
-use Rattle.survey.proofs.ends.end_devices.Reads as end-devices-reads
 
 look-requires : tie.Need-look-requires
 look-requires c κs = search needs

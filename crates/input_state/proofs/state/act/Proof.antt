@@ -9,14 +9,6 @@ use Rattle.input_state.proofs.Whole.{acted, few, place-all, press-all, 
 use borrow.Author.Needs.{needs}
 use Rattle.input_state.proofs.state.act.Statement.{statement}
 use Rattle.input_state.proofs.state.act.Tie as tie
-use Rattle.input_state.proofs.clock.clock_pass.Reads as clock-pass-reads
-use Rattle.input_state.proofs.input.rect_or.Reads as rect-or-reads
-use Rattle.input_state.proofs.input.time_of.Reads as time-of-reads
-use Rattle.input_state.proofs.pointer.pointer_pass.Reads as pointer-pass-reads
-use Rattle.input_state.proofs.screen.screen_pass.Reads as screen-pass-reads
-use Rattle.input_state.proofs.sums.sums_of.Reads as sums-of-reads
-use Rattle.key_state.proofs.keys.keys_pass.Reads as keys-pass-reads
-use Rattle.pass_loops.proofs.wheel.wheel_pass.Reads as wheel-pass-reads
 
 time-of-requires : tie.Need-time-of-requires
 time-of-requires c κs = search needs

@@ -3,7 +3,6 @@ use borrow.Author.Tests.{le-ltb, lt-ltb}
 use borrow.Author.Needs.{needs}
 use Rattle.key_state.proofs.keys.key_down.Statement.{statement}
 use Rattle.key_state.proofs.keys.key_down.Tie as tie
-use Rattle.key_state.proofs.bits.has.Reads as has-reads
 
 has-requires : tie.Need-has-requires
 has-requires c κs = search needs

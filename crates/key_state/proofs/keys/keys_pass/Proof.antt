@@ -14,8 +14,6 @@ use Rattle.key_state.proofs.Idle.{key-loop}
 use Rattle.key_state.proofs.Steps.{cleared, start, more}
 use Rattle.key_state.proofs.keys.keys_pass.Statement.{statement}
 use Rattle.key_state.proofs.keys.keys_pass.Tie as tie
-use Rattle.event_loop.proofs.listed.Reads as listed-reads
-use Rattle.key_state.proofs.keys.key_at.Reads as key-at-reads
 
 abbrev Inv-loop : tie.InvT-loop
 Inv-loop presses₀ feed lists count s₀ i₀ presses s i =

@@ -10,8 +10,6 @@ use Rattle.event_loop.specs.Lists.{listed-events, sums-list}
 use Rattle.key_state.proofs.Idle.{rotation-loop}
 use Rattle.key_state.proofs.sums.rotation_of.Statement.{statement}
 use Rattle.key_state.proofs.sums.rotation_of.Tie as tie
-use Rattle.event_loop.proofs.listed.Reads as listed-reads
-use Rattle.key_state.proofs.sums.rotation_at.Reads as rotation-at-reads
 
 abbrev Inv-loop : tie.InvT-loop
 Inv-loop feed lists count radians₀ i₀ radians i = (i ≤ count) × (radians ≡ rotation-of (listed-events feed lists sums-list i) +0)

@@ -11,18 +11,18 @@ use Rattle.key_state.proofs.sums.zoom_at.Tie as tie
 kind-at-requires : tie.Need-kind-at-requires
 kind-at-requires c κs = search needs
 
-shaped-at-requires : tie.Need-shaped-at-requires
-shaped-at-requires c κs = search needs
+zoom-at-requires : tie.Need-zoom-at-requires
+zoom-at-requires c κs = search needs
 
 zoom-event-requires : tie.Need-zoom-event-requires
 zoom-event-requires c κs = search needs
 
 returns : tie.Need-returns
-returns c = c .zoom-event .ensures ∙ rw (c .before .shaped-at .ensures)
+returns c = c .zoom-event .ensures ∙ rw (c .before .zoom-at .ensures (sym (c .before .before .before .kind-at .ensures) ∙ c .before .before .if1 .taken))
 
 returns-2 : tie.Need-returns-2
 returns-2 c = sym (zoom-idle _ _ (not-of-kind _ _ 7 (λ e. c .if1 .left (c .before .kind-at .ensures ∙ e)) (λ e. omega arith)))
 
 pub zoom-at-spec : {M : Type 1} → statement M
 zoom-at-spec =
-    tie.close (tie.spec kind-at-requires shaped-at-requires zoom-event-requires returns returns-2)
+    tie.close (tie.spec kind-at-requires zoom-at-requires zoom-event-requires returns returns-2)

@@ -9,8 +9,6 @@ use Rattle.event_loop.specs.Lists.{listed-events, sums-list}
 use Rattle.key_state.proofs.Idle.{zoom-loop}
 use Rattle.key_state.proofs.sums.zoom_of.Statement.{statement}
 use Rattle.key_state.proofs.sums.zoom_of.Tie as tie
-use Rattle.event_loop.proofs.listed.Reads as listed-reads
-use Rattle.key_state.proofs.sums.zoom_at.Reads as zoom-at-reads
 
 abbrev Inv-loop : tie.InvT-loop
 Inv-loop feed lists count factor₀ i₀ factor i = (i ≤ count) × (factor ≡ zoom-of (listed-events feed lists sums-list i) one)

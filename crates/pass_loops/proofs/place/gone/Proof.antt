@@ -8,8 +8,6 @@ use Rattle.event_loop.specs.Lists.{listed-events, pointer-list}
 use Rattle.pass_loops.proofs.Loops.{gone-loop}
 use Rattle.pass_loops.proofs.place.gone.Statement.{statement}
 use Rattle.pass_loops.proofs.place.gone.Tie as tie
-use Rattle.event_loop.proofs.listed.Reads as listed-reads
-use Rattle.pass_loops.proofs.place.gone_at.Reads as gone-at-reads
 
 abbrev Inv-loop : tie.InvT-loop
 Inv-loop feed lists count found₀ i₀ found i = (i ≤ count) × (found ≡ clear-history-after (listed-events feed lists pointer-list i))

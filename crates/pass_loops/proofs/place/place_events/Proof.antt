@@ -11,8 +11,6 @@ use Rattle.event_loop.specs.Lists.{listed-events, pointer-list}
 use Rattle.pass_loops.proofs.Loops.{place-loop}
 use Rattle.pass_loops.proofs.place.place_events.Statement.{statement}
 use Rattle.pass_loops.proofs.place.place_events.Tie as tie
-use Rattle.event_loop.proofs.listed.Reads as listed-reads
-use Rattle.pass_loops.proofs.place.place_at.Reads as place-at-reads
 
 abbrev Inv-loop : tie.InvT-loop
 Inv-loop feed lists count s₀ i₀ s i =

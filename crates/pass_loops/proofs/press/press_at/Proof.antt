@@ -1,8 +1,8 @@
--- `press/press_at` meets its contract: each way to a return is the case of the definition that its tests pick. Assumes nothing.
+-- `press::press_at` meets its contract. Assumes nothing.
 use Rattle.pass_loops.proofs.Loops.{press-idle}
 use Rattle.pointer_state.proofs.Steps.{idle}
 use Rattle.event_loop.proofs.OfKind.{not-of-kind}
-use mathlib.Core.Path.{_≡_, refl, sym, ap, _∙_}
+use mathlib.Core.Path.{sym, _∙_}
 use native.Mathlib.Omega.{arith}
 use borrow.Author.Needs.{needs}
 use Rattle.pass_loops.proofs.press.press_at.Statement.{statement}
@@ -11,23 +11,23 @@ use Rattle.pass_loops.proofs.press.press_at.Tie as tie
 kind-at-requires : tie.Need-kind-at-requires
 kind-at-requires c κs = search needs
 
-shaped-at-requires : tie.Need-shaped-at-requires
-shaped-at-requires c κs = search needs
+moved-at-requires : tie.Need-moved-at-requires
+moved-at-requires c κs = search needs
 
 press-event-requires : tie.Need-press-event-requires
 press-event-requires c κs = search needs
 
 returns : tie.Need-returns
-returns c = rw (← c .before .before .before .shaped-at .ensures) (c .press-event .ensures)
+returns c = rw (← c .before .before .before .moved-at .ensures (sym (c .before .before .before .before .before .kind-at .ensures) ∙ c .before .before .before .before .if1 .taken)) (c .press-event .ensures)
 
-shaped-at-requires-2 : tie.Need-shaped-at-requires-2
-shaped-at-requires-2 c κs = search needs
+button-at-requires : tie.Need-button-at-requires
+button-at-requires c κs = search needs
 
 press-event-requires-2 : tie.Need-press-event-requires-2
 press-event-requires-2 c κs = search needs
 
 returns-2 : tie.Need-returns-2
-returns-2 c = rw (← c .before .before .before .shaped-at2 .ensures) (c .press-event2 .ensures)
+returns-2 c = rw (← c .before .before .before .button-at .ensures (sym (c .before .before .before .before .before .before .kind-at .ensures) ∙ c .before .before .before .before .if2 .taken)) (c .press-event2 .ensures)
 
 returns-3 : tie.Need-returns-3
 returns-3 c =
@@ -42,10 +42,10 @@ press-at-spec =
     tie.close
     (tie.spec
     kind-at-requires
-    shaped-at-requires
+    moved-at-requires
     press-event-requires
     returns
-    shaped-at-requires-2
+    button-at-requires
     press-event-requires-2
     returns-2
     returns-3)

@@ -13,9 +13,6 @@ use Rattle.event_loop.proofs.Loops.{count}
 use Rattle.pass_loops.proofs.Loops.{press-loop, more}
 use Rattle.pass_loops.proofs.press.press_pass.Statement.{statement}
 use Rattle.pass_loops.proofs.press.press_pass.Tie as tie
-use Rattle.event_loop.proofs.listed.Reads as listed-reads
-use Rattle.pass_loops.proofs.press.press_at.Reads as press-at-reads
-use Rattle.pointer_clicks.proofs.clear_events.Reads as clear-events-reads
 
 abbrev Inv-loop : tie.InvT-loop
 Inv-loop codes₀ positions₀ options time feed lists count t₀ i₀ codes positions t i =

@@ -8,8 +8,6 @@ use Rattle.event_loop.specs.Lists.{listed-events, wheel-list}
 use Rattle.pass_loops.proofs.Loops.{wheel-loop}
 use Rattle.pass_loops.proofs.wheel.wheel_events.Statement.{statement}
 use Rattle.pass_loops.proofs.wheel.wheel_events.Tie as tie
-use Rattle.event_loop.proofs.listed.Reads as listed-reads
-use Rattle.pass_loops.proofs.wheel.wheel_at.Reads as wheel-at-reads
 
 abbrev Inv-loop : tie.InvT-loop
 Inv-loop viewport-rect options time feed lists count v₀ i₀ v i = (i ≤ count) × (v ≡ wheel-events viewport-rect options time (listed-events feed lists wheel-list i) v₀)

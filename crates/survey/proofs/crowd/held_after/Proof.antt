@@ -4,7 +4,6 @@ use Rattle.survey.specs.Survey.{fits-event}
 use borrow.Author.Needs.{needs}
 use Rattle.survey.proofs.crowd.held_after.Statement.{statement}
 use Rattle.survey.proofs.crowd.held_after.Tie as tie
-use Rattle.touch_state.proofs.devices.on_touch.Reads as on-touch-reads
 
 enum-known-e : tie.Need-enum-known-e
 enum-known-e c = search needs

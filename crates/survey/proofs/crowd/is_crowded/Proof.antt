@@ -3,7 +3,6 @@ use Rattle.model.specs.Pass.{crowded}
 use borrow.Author.Needs.{needs}
 use Rattle.survey.proofs.crowd.is_crowded.Statement.{statement}
 use Rattle.survey.proofs.crowd.is_crowded.Tie as tie
-use Rattle.touch_state.proofs.devices.no_place.Reads as no-place-reads
 
 enum-known-e : tie.Need-enum-known-e
 enum-known-e c = search needs

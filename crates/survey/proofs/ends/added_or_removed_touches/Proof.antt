@@ -8,8 +8,6 @@ use Rattle.event_loop.specs.Lists.{listed-events, touch-list}
 use Rattle.survey.proofs.Marks.{adds-loop}
 use Rattle.survey.proofs.ends.added_or_removed_touches.Statement.{statement}
 use Rattle.survey.proofs.ends.added_or_removed_touches.Tie as tie
-use Rattle.event_loop.proofs.listed.Reads as listed-reads
-use Rattle.survey.proofs.ends.adds_at.Reads as adds-at-reads
 
 abbrev Inv-loop : tie.InvT-loop
 Inv-loop device-id feed lists count found₀ i₀ found i = (i ≤ count) × (found ≡ added-or-removed-touches device-id (listed-events feed lists touch-list i))

@@ -3,8 +3,6 @@ use Rattle.survey.proofs.Marks.{all-ended}
 use borrow.Author.Needs.{needs}
 use Rattle.survey.proofs.ends.end_devices.Statement.{statement}
 use Rattle.survey.proofs.ends.end_devices.Tie as tie
-use Rattle.survey.proofs.ends.mark.Reads as mark-reads
-use Rattle.touch_state.proofs.devices.end_pass.Reads as end-pass-reads
 
 returns : tie.Need-returns
 returns c = search needs

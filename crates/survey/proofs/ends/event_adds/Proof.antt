@@ -6,7 +6,6 @@ use borrow.Author.Tests.{eq-eqb, ne-eqb}
 use borrow.Author.Needs.{needs}
 use Rattle.survey.proofs.ends.event_adds.Statement.{statement}
 use Rattle.survey.proofs.ends.event_adds.Tie as tie
-use Rattle.survey.proofs.ends.adds_or_removes.Reads as adds-or-removes-reads
 
 enum-known-e : tie.Need-enum-known-e
 enum-known-e c = search needs

@@ -3,7 +3,6 @@ use Rattle.survey.specs.Ends.{marked-by}
 use borrow.Author.Needs.{needs}
 use Rattle.survey.proofs.ends.mark_device.Statement.{statement}
 use Rattle.survey.proofs.ends.mark_device.Tie as tie
-use Rattle.survey.proofs.ends.added_or_removed_touches.Reads as added-or-removed-touches-reads
 
 added-or-removed-touches-requires : tie.Need-added-or-removed-touches-requires
 added-or-removed-touches-requires c κs = search needs

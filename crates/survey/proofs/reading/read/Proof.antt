@@ -12,9 +12,6 @@ use Rattle.survey.specs.Survey.{option}
 use Rattle.survey.proofs.Places.{Reads, reads-first, fits, reads-more, read-done, over-is, malformed-is, outside-is, none-is, none-some}
 use Rattle.survey.proofs.reading.read.Statement.{statement}
 use Rattle.survey.proofs.reading.read.Tie as tie
-use Rattle.event_loop.proofs.list_at.Reads as list-at-reads
-use Rattle.feed.proofs.decode.event_at.Reads as event-at-reads
-use Rattle.survey.proofs.reading.put.Reads as put-reads
 
 abbrev Inv-loop : tie.InvT-loop
 Inv-loop feed lists₀ counts₀ n₀ at₀ lists counts n at = (n ≤ 64) × Reads feed (64 - n) n at lists counts
