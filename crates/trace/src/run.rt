@@ -174,7 +174,19 @@ fn one_call(
     let m = before.machine;
     let t = before.tally;
     let step = call(
-        m, times, positions, codes, places, presses, words, numbers, edges, lent, answer, kind, w,
+        m,
+        times,
+        positions,
+        codes,
+        places,
+        presses,
+        words,
+        numbers,
+        edges,
+        lent,
+        answer,
+        kind,
+        w,
     );
     let machine = step.machine;
     let r = step.reply;
