@@ -229,6 +229,8 @@ pub fn replay_words(trace: &[u32], form: Form) {
     let mut out = [0u8; 65536];
     let mut s = start();
     let mut at: usize = 0;
+    // A trace has no more records than words.
+    let mut left: usize = trace.len();
     while at < trace.len() {
         let head = trace[at];
         let len = wide_length(head);
@@ -255,6 +257,11 @@ pub fn replay_words(trace: &[u32], form: Form) {
             head / 0x100_0000,
             &trace[from..at],
         );
+        if left == 0 {
+            ended(&mut out, s, form, true);
+            return;
+        }
+        left -= 1;
     }
     ended(&mut out, s, form, false);
 }

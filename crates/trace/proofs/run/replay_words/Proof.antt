@@ -1,15 +1,14 @@
 -- Safe, and it ends: the measure is what is left. Assumes nothing.
-use Prim.Native.Nat.{_≤_, _-_}
-use lib.ListN.{length}
+use Prim.Native.Nat.{_≤_}
 use borrow.Author.Needs.{needs}
 use Rattle.trace.proofs.run.replay_words.Statement.{statement}
 use Rattle.trace.proofs.run.replay_words.Tie as tie
 
 abbrev Inv-loop : tie.InvT-loop
-Inv-loop trace form times₀ positions₀ codes₀ places₀ presses₀ words₀ numbers₀ edges₀ lent₀ answer₀ out₀ s₀ at₀ times positions codes places presses words numbers edges lent answer out s at = at ≤ length trace
+Inv-loop trace form times₀ positions₀ codes₀ places₀ presses₀ words₀ numbers₀ edges₀ lent₀ answer₀ out₀ s₀ at₀ left₀ times positions codes places presses words numbers edges lent answer out s at left = 0 ≤ at
 
 abbrev μ-loop : tie.MeasureT-loop
-μ-loop trace form times₀ positions₀ codes₀ places₀ presses₀ words₀ numbers₀ edges₀ lent₀ answer₀ out₀ s₀ at₀ times positions codes places presses words numbers edges lent answer out s at = length trace - at
+μ-loop trace form times₀ positions₀ codes₀ places₀ presses₀ words₀ numbers₀ edges₀ lent₀ answer₀ out₀ s₀ at₀ left₀ times positions codes places presses words numbers edges lent answer out s at left = left
 
 start-requires : tie.Need-start-requires Inv-loop μ-loop
 start-requires c κs = search needs
@@ -59,17 +58,26 @@ part-one-call-end c = search needs
 one-call-requires : tie.Need-one-call-requires Inv-loop μ-loop
 one-call-requires c κs = search needs
 
+ended-requires-2 : tie.Need-ended-requires-2 Inv-loop μ-loop
+ended-requires-2 c κs = search needs
+
+returns-2 : tie.Need-returns-2 Inv-loop μ-loop
+returns-2 c = search needs
+
+sub-left : tie.Need-sub-left Inv-loop μ-loop
+sub-left c = search needs
+
 loop-less : tie.Need-loop-less Inv-loop μ-loop
 loop-less c = search needs
 
 loop-again : tie.Need-loop-again Inv-loop μ-loop
 loop-again c = search needs
 
-ended-requires-2 : tie.Need-ended-requires-2 Inv-loop μ-loop
-ended-requires-2 c κs = search needs
+ended-requires-3 : tie.Need-ended-requires-3 Inv-loop μ-loop
+ended-requires-3 c κs = search needs
 
-returns-2 : tie.Need-returns-2 Inv-loop μ-loop
-returns-2 c = search needs
+returns-3 : tie.Need-returns-3 Inv-loop μ-loop
+returns-3 c = search needs
 
 pub replay-words-spec : {M : Type 1} → statement M
 replay-words-spec =
@@ -93,7 +101,10 @@ replay-words-spec =
     part-one-call-start
     part-one-call-end
     one-call-requires
+    ended-requires-2
+    returns-2
+    sub-left
     loop-less
     loop-again
-    ended-requires-2
-    returns-2)
+    ended-requires-3
+    returns-3)
