@@ -1,10 +1,10 @@
 #!/bin/sh
 # Compares with egui where cargo and egui's sources are at hand; else says so and ends with 0.
-#   compare/run.sh [SECONDS]       default 120; EGUI_SRC: the src/ folder of egui 0.37.0
+#   compare/run.sh [SECONDS]       default 60; EGUI_SRC: the src/ folder of egui 0.37.0
 # The program compared is target/bin/replay, as `rt check` leaves it. Ends with 1 at any difference.
 set -eu
 here=$(cd "$(dirname "$0")" && pwd)
-seconds=${1:-120}
+seconds=${1:-60}
 from=${EGUI_SRC:-$here/../../shared/docs/src/src}
 replay=${REPLAY:-$here/../target/bin/replay}
 if ! command -v cargo > /dev/null; then
