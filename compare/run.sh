@@ -25,16 +25,11 @@ trap 'rm -rf "$work"' EXIT
 same() {
     cmp -s "$1" "$2" || { echo "compare: $2 is not what egui's files give today"; exit 1; }
 }
-# The stored corpora are what egui answers today, and what the test programs hold.
-"$bin/corpora" "$work" > "$work/corpora.md"
+# The stored corpora are what egui answers today, and what the test program holds.
+"$bin/corpora" "$work" "$work" > "$work/corpora.md"
 same "$work/corpora.md" "$here/corpora.md"
-for name in passes interacts edges; do
-    crate=$here/../crates/trace_$name
-    if [ -d "$crate" ]; then
-        same "$work/$name.trace" "$crate/stdin"
-        same "$work/$name.sums" "$crate/stdout"
-    fi
-done
+same "$work/stdin" "$here/../crates/trace_corpora/stdin"
+same "$work/stdout" "$here/../crates/trace_corpora/stdout"
 "$bin/sample" > "$work/sample"
 same "$work/sample" "$here/../samples/lost-release.trace"
 # A new first seed each day, so that the gate does not always run the same traces.

@@ -13,6 +13,7 @@ pub fn script() -> Script {
     widgets(&mut s);
     interactions(&mut s);
     keys(&mut s);
+    crate::surprises::surprises(&mut s);
     slips(&mut s);
     refused_feeds(&mut s);
     refused_numbers(&mut s);

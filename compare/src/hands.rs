@@ -111,6 +111,38 @@ impl Maker {
         self.some_interact();
     }
 
+    /// Pointer events of each kind in any order, a few in a pass, at times given and not.
+    pub fn points(&mut self) {
+        self.call(RESET, &[]);
+        self.new_options();
+        for _ in 0..40 {
+            let mut feed = Vec::new();
+            for _ in 0..self.rng().pick(&[0, 1, 1, 2, 2, 3, 5]) {
+                let at = if self.rng().once_in(8) { self.place() } else { self.near() };
+                let b = self.rng().pick(&[0, 0, 0, 1, 2, 3, 4]);
+                match self.rng().below(16) {
+                    0..=4 => put(&mut feed, 3, 0, &[at.x, at.y]),
+                    5..=7 => self.button(&mut feed, b, true, at),
+                    8..=11 => self.button(&mut feed, b, false, at),
+                    12 => put(&mut feed, 6, 0, &[]),
+                    13 => put(&mut feed, 4, 0, &[at.x, at.y]),
+                    _ => self.s.event(&mut feed),
+                }
+            }
+            let later = self.now() + self.rng().pick(&[0.0, 1.0 / 64.0, 1.0 / 64.0, 1.0 / 60.0, 0.05, 0.25, 1.0, 1.0 / 1_073_741_824.0]);
+            if self.rng().once_in(8) {
+                let p = self.pass_of(None);
+                self.call(PASS, &words::write_pass(&p, &feed));
+            } else {
+                self.at_time(later, &feed);
+            }
+        }
+    }
+
+    fn near(&mut self) -> Pos2 {
+        Pos2::new(self.rng().below(40) as f32 / 4.0, self.rng().below(40) as f32 / 4.0)
+    }
+
     /// Drag-only, click-only and click-and-drag widgets, pressed, moved in and out of, left, aborted, vanished.
     pub fn drags(&mut self) {
         self.new_options();
@@ -380,6 +412,37 @@ impl Maker {
                 put(&mut feed, 3, 0, &[p.x, p.y]);
             }
             self.soon(&feed);
+        }
+    }
+
+    /// A few fingers on up to four devices among wheel events, the pointer known, moved and gone.
+    pub fn pinch(&mut self) {
+        self.call(RESET, &[]);
+        self.new_options();
+        let devices = 1 + self.rng().below(4) as usize;
+        for k in 0..40 {
+            let mut feed = Vec::new();
+            for _ in 0..self.rng().pick(&[1, 1, 2, 2, 3, 4]) {
+                if self.rng().below(8) < 5 {
+                    let (d, id) = (self.rng().pick(&DEVICES[..devices]), finger_id(self.rng().below(10)));
+                    let phase = self.rng().pick(&[0, 0, 0, 1, 1, 1, 1, 1, 2, 3]);
+                    let (p, force) = (self.near(), self.force());
+                    touch(&mut feed, d, id, phase, p, force);
+                } else {
+                    let low = self.s.flags() | (self.rng().below(3) as u32) << 5 | self.rng().pick(&[1, 1, 1, 0, 2, 3]) << 7 | (self.rng().below(4) as u32) << 9;
+                    let (x, y) = self.wheel_delta();
+                    put(&mut feed, 10, low, &[x, y]);
+                }
+            }
+            if k == 0 || self.rng().once_in(6) {
+                let p = self.near();
+                put(&mut feed, 3, 0, &[p.x, p.y]);
+            }
+            if self.rng().once_in(24) {
+                put(&mut feed, 6, 0, &[]);
+            }
+            let later = self.now() + self.rng().pick(&[0.0, 1.0 / 64.0, 1.0 / 64.0, 1.0 / 60.0, 0.05, 0.15, 0.25, 1.0, 1.125]);
+            self.at_time(later, &feed);
         }
     }
 

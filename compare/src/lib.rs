@@ -180,4 +180,5 @@ pub mod naming;
 pub mod panel;
 pub mod scenes;
 pub mod script;
+pub mod surprises;
 pub mod words;

@@ -14,7 +14,7 @@ pub const UNITS: [&str; 3] = ["Point", "Line", "Page"];
 pub const SOURCES: [&str; 4] = ["Unknown", "Wheel", "Trackpad", "Momentum"];
 
 /// What a run of ten traces or more must meet.
-const AIMS: [&str; 33] = [
+const AIMS: [&str; 35] = [
     "10 touches on a device",
     "1,000 samples in the history",
     "1,024 widgets",
@@ -37,6 +37,8 @@ const AIMS: [&str; 33] = [
     "lent contents of others",
     "long touch",
     "moved to top",
+    "pass with a pointer event",
+    "pass with a touch or wheel event",
     "pinch Horizontal",
     "pinch Proportional",
     "pinch Vertical",
@@ -154,10 +156,12 @@ impl Met {
     }
 
     fn feed(&mut self, feed: &[u32]) {
-        let mut at = 0;
+        let (mut at, mut pointed, mut touched) = (0, false, false);
         while at < feed.len() {
             let (kind, low) = ((feed[at] >> 28) as usize, (feed[at] & 0x0FFF_FFFF) as usize);
             self.events[kind] += 1;
+            pointed |= (3..=6).contains(&kind);
+            touched |= kind == 9 || kind == 10;
             let force = kind == 9 && low & 4 != 0;
             match kind {
                 1 => self.keys[low & 255] = true,
@@ -169,6 +173,8 @@ impl Met {
             self.aim("touch with force", force);
             at += 1 + domain::LENGTHS[kind] + force as usize;
         }
+        self.aim("pass with a pointer event", pointed);
+        self.aim("pass with a touch or wheel event", touched);
     }
 
     pub fn add(&mut self, other: &Met) {

@@ -1,4 +1,3 @@
 // A trace of calls, replayed over the panel: compare/FORMAT.md says what stands where.
-pub mod interact;
-pub mod machine;
+pub mod call;
 pub mod run;

@@ -1,95 +1,39 @@
 // A whole trace: read, replayed, answered.
-use crate::machine::Machine;
-use crate::machine::call;
-use crate::machine::fresh;
-use libc::STDERR_FILENO;
+use crate::call::call;
 use panel::clock::time;
 use pointer_events::CODES;
 use pointer_events::PLACES;
+use trace_machine::machine::Machine;
+use trace_machine::machine::Step;
+use trace_machine::machine::fresh;
+use trace_text::input::Record;
+use trace_text::input::WORDS;
+use trace_text::input::is_read;
 use trace_text::output::Buffer;
 use trace_text::output::byte;
 use trace_text::output::flush;
 use trace_text::output::hex;
 use trace_text::output::word;
-use trace_text::reply::Reply;
 use trace_text::sums::head;
 use trace_text::sums::sum;
 use trace_text::text;
 use trace_text::text::Tally;
 use trace_words::records::Lent;
+use trace_words::reply::Reply;
 use trace_words::words::Answer;
 use trace_words::words::ROOM;
 use widget_index::table::Edges;
 use widget_index::table::Numbers;
 use widget_index::table::Words;
-ghost use Prim.Native.Nat.{_≤_};
 
-// 1 MiB.
-pub const WORDS: usize = 262144;
-
-pub type Trace = [u32; 262144];
-
-const CHUNK: usize = 4096;
-
-const CHUNKS: u32 = 256;
+// No trace has more.
+const RECORDS: u32 = 0xFFFF_FFFF;
 
 // How the answers are written.
 pub enum Form {
     Whole,
     Sums,
     Text,
-}
-
-fn wide(x: u8) -> u32
-    ensures { λ r. ⌜ r ≤ 255 ⌝ }
-{
-    x as u32
-}
-
-// The words of `got` bytes, after the first `n` of the trace; a word cut short is left out.
-fn unpack(bytes: &[u8; CHUNK], got: usize, trace: &mut Trace, n: usize) -> usize {
-    let mut m = n;
-    let mut i: usize = 0;
-    while i + 4 <= CHUNK {
-        if got < i + 4 {
-            return m;
-        }
-        if WORDS <= m {
-            return m;
-        }
-        let low = wide(bytes[i]) + wide(bytes[i + 1]) * 0x100;
-        let high = wide(bytes[i + 2]) + wide(bytes[i + 3]) * 0x100;
-        trace[m] = low + high * 0x1_0000;
-        m += 1;
-        i += 4;
-    }
-    m
-}
-
-// The number of words read.
-fn read(trace: &mut Trace) -> usize {
-    let mut bytes = [0u8; CHUNK];
-    let mut n: usize = 0;
-    let mut left: u32 = CHUNKS;
-    while left > 0 {
-        let got = io::read_full(0, &mut bytes);
-        n = unpack(&bytes, got, trace, n);
-        if got < CHUNK {
-            return n;
-        }
-        left -= 1;
-    }
-    n
-}
-
-fn say_if_longer() {
-    let mut more = [0u8; 1];
-    if io::read_full(0, &mut more) > 0 {
-        io::write_all(
-            STDERR_FILENO,
-            b"the trace is longer than 1 MiB: what follows is not replayed\n",
-        );
-    }
 }
 
 // How many words follow a record's first.
@@ -110,15 +54,34 @@ fn whole(out: &mut Buffer, n: usize, a: &Answer, r: Reply) -> usize {
     m
 }
 
+fn line(
+    out: &mut Buffer,
+    n: usize,
+    now: f64,
+    a: &Answer,
+    r: Reply,
+    kind: u32,
+    request: &Record,
+    len: usize,
+    t: Tally,
+) -> usize {
+    if WORDS < len {
+        return n;
+    }
+    let all: &[u32] = request;
+    text::line(out, n, now, a, r, kind, &all[0..len], t)
+}
+
 fn written(
     out: &mut Buffer,
     n: usize,
     form: Form,
-    m: Machine,
+    now: f64,
     a: &Answer,
     r: Reply,
     kind: u32,
-    w: &[u32],
+    request: &Record,
+    len: usize,
     t: Tally,
 ) -> usize {
     match form {
@@ -127,12 +90,7 @@ fn written(
             let k = hex(out, n, sum(a, r));
             byte(out, k, b'\n')
         }
-        Form::Text => {
-            let p = m.panel;
-            let input = p.input;
-            let clock = input.clock;
-            text::line(out, n, time(clock), a, r, kind, w, t)
-        }
+        Form::Text => line(out, n, now, a, r, kind, request, len, t),
     }
 }
 
@@ -154,6 +112,47 @@ struct Going {
     tally: Tally,
 }
 
+// The time that a line of text gives.
+fn now(m: Machine) -> f64 {
+    let p = m.panel;
+    let input = p.input;
+    let clock = input.clock;
+    time(clock)
+}
+
+fn answered(
+    before: Going,
+    answer: &Answer,
+    out: &mut Buffer,
+    form: Form,
+    kind: u32,
+    request: &Record,
+    len: usize,
+    step: Step,
+) -> Going {
+    let t = before.tally;
+    let r = step.reply;
+    let machine = step.machine;
+    let tally = text::counted(t, answer, r, kind);
+    let bytes = written(
+        out,
+        before.bytes,
+        form,
+        now(machine),
+        answer,
+        r,
+        kind,
+        request,
+        len,
+        tally,
+    );
+    Going {
+        machine,
+        bytes,
+        tally,
+    }
+}
+
 fn one_call(
     before: Going,
     times: &mut [f64; 1000],
@@ -169,10 +168,14 @@ fn one_call(
     out: &mut Buffer,
     form: Form,
     kind: u32,
-    w: &[u32],
+    request: &Record,
+    len: usize,
 ) -> Going {
+    if WORDS < len {
+        return before;
+    }
+    let all: &[u32] = request;
     let m = before.machine;
-    let t = before.tally;
     let step = call(
         m,
         times,
@@ -186,17 +189,9 @@ fn one_call(
         lent,
         answer,
         kind,
-        w,
+        &all[0..len],
     );
-    let machine = step.machine;
-    let r = step.reply;
-    let tally = text::counted(t, answer, r, kind);
-    let bytes = written(out, before.bytes, form, machine, answer, r, kind, w, tally);
-    Going {
-        machine,
-        bytes,
-        tally,
-    }
+    answered(before, answer, out, form, kind, request, len, step)
 }
 
 fn ended(out: &mut Buffer, s: Going, form: Form, cut: bool) {
@@ -214,8 +209,8 @@ fn start() -> Going {
     }
 }
 
-// Record by record. One that is cut short ends the trace.
-pub fn replay_words(trace: &[u32], form: Form) {
+// Standard input, record by record. One that is cut short, or longer than `input` takes, ends the trace.
+pub fn replay(form: Form) {
     let mut times = [0.0f64; 1000];
     let mut positions = [0.0f32; 2000];
     let mut codes = [0u32; CODES];
@@ -227,19 +222,17 @@ pub fn replay_words(trace: &[u32], form: Form) {
     let mut lent = [0u32; 17408];
     let mut answer = [0u32; 65536];
     let mut out = [0u8; 65536];
+    let mut request = [0u32; 262144];
     let mut s = start();
-    let mut at: usize = 0;
-    // A trace has no more records than words.
-    let mut left: usize = trace.len();
-    while at < trace.len() {
-        let head = trace[at];
+    let mut left: u32 = RECORDS;
+    let mut more = is_read(&mut request, 1);
+    while more {
+        let head = request[0];
         let len = wide_length(head);
-        if trace.len() - at - 1 < len {
+        if !is_read(&mut request, len) {
             ended(&mut out, s, form, true);
             return;
         }
-        let from = at + 1;
-        at = from + len;
         s = one_call(
             s,
             &mut times,
@@ -255,8 +248,10 @@ pub fn replay_words(trace: &[u32], form: Form) {
             &mut out,
             form,
             head / 0x100_0000,
-            &trace[from..at],
+            &request,
+            len,
         );
+        more = is_read(&mut request, 1);
         if left == 0 {
             ended(&mut out, s, form, true);
             return;
@@ -264,24 +259,4 @@ pub fn replay_words(trace: &[u32], form: Form) {
         left -= 1;
     }
     ended(&mut out, s, form, false);
-}
-
-fn replay_part(trace: &[u32], n: usize, form: Form) {
-    if n <= trace.len() {
-        replay_words(&trace[0..n], form);
-    }
-}
-
-fn replay_first(trace: &Trace, n: usize, form: Form) {
-    replay_part(trace, n, form);
-}
-
-// Standard input, up to 1 MiB of it.
-pub fn replay(form: Form) {
-    let mut trace = [0u32; 262144];
-    let n = read(&mut trace);
-    replay_first(&trace, n, form);
-    if n == WORDS {
-        say_if_longer();
-    }
 }

@@ -1,6 +1,6 @@
-// The first word of an answer, and the three forms in which answers are written.
+// What is read of standard input, and the three forms in which answers are written.
 pub mod calls;
+pub mod input;
 pub mod output;
-pub mod reply;
 pub mod sums;
 pub mod text;

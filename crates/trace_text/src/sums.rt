@@ -1,5 +1,5 @@
 // FNV-1a, 64 bits, of an answer's words as little-endian bytes, the first word included.
-use crate::reply::Reply;
+use trace_words::reply::Reply;
 use trace_words::words::Answer;
 use trace_words::words::ROOM;
 

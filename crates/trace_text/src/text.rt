@@ -6,18 +6,17 @@ use crate::calls::INSERT;
 use crate::calls::INTERACT;
 use crate::calls::PASS;
 use crate::calls::RESET;
-use crate::calls::SET_TALLY;
 use crate::output::Buffer;
 use crate::output::aligned;
 use crate::output::byte;
 use crate::output::bytes;
 use crate::output::decimal;
-use crate::reply::Reply;
 use feed::split::following;
+use trace_words::reply::Reply;
 use trace_words::request::PASS_WORDS;
 use trace_words::request::at;
 use trace_words::request::id;
-ghost use Prim.Native.Nat.{_<_};
+ghost use Prim.Native.Nat.{_<_, _≤_};
 ghost use lib.ListN.{length};
 
 // Drags started and stopped so far, and calls.
@@ -64,19 +63,33 @@ fn time(out: &mut Buffer, n: usize, t: f64) -> usize {
     bytes(out, m, b"  ")
 }
 
+// A call's number, or 9 for one that is unknown.
+fn known(kind: u32) -> usize
+    ensures { λ r. ⌜ r ≤ 9 ⌝ }
+{
+    if kind < 9 {
+        return kind as usize;
+    }
+    9
+}
+
+// The k-th of names that take ten bytes each.
+fn name_of(out: &mut Buffer, n: usize, names: &[u8], k: usize) -> usize
+    requires { ⌜ k ≤ 9 ⌝ }
+{
+    let from = k * 10;
+    let to = from + 10;
+    if names.len() < to {
+        return n;
+    }
+    bytes(out, n, &names[from..to])
+}
+
 // The call, wide enough for what follows it.
 fn name(out: &mut Buffer, n: usize, kind: u32) -> usize {
-    match kind {
-        RESET => bytes(out, n, b"reset     "),
-        PASS => bytes(out, n, b"pass      "),
-        INSERT => bytes(out, n, b"insert    "),
-        CLEAR_WIDGETS => bytes(out, n, b"clear     "),
-        INTERACT => bytes(out, n, b"interact  "),
-        ASK => bytes(out, n, b"ask       "),
-        DUMP => bytes(out, n, b"dump      "),
-        SET_TALLY => bytes(out, n, b"set tally "),
-        _ => bytes(out, n, b"?         "),
-    }
+    let names =
+        b"reset     pass      insert    clear     interact  ask       dump      ?         set tally ?         ";
+    name_of(out, n, names, known(kind))
 }
 
 // What 01's table says of a refusal.
@@ -87,6 +100,12 @@ fn meaning(out: &mut Buffer, n: usize, code: u32) -> usize {
         3 => bytes(out, n, b"the time given is below the panel's"),
         4 => bytes(out, n, b"event 65, or hit entry 65"),
         5 => bytes(out, n, b"no place for a device or touch"),
+        _ => meaning_from_6(out, n, code),
+    }
+}
+
+fn meaning_from_6(out: &mut Buffer, n: usize, code: u32) -> usize {
+    match code {
         6 => bytes(out, n, b"no place for a widget or layer"),
         7 => bytes(out, n, b"the widget is known on another layer"),
         8 => bytes(out, n, b"an id buffer or a lent slice is too short"),
@@ -187,6 +206,17 @@ fn inserted(out: &mut Buffer, n: usize, a: &[u32]) -> usize {
     decimal(out, m, at(a, 1) as u64)
 }
 
+// A call of which no more is said.
+fn alone(out: &mut Buffer, n: usize, kind: u32) -> usize {
+    match kind {
+        RESET => bytes(out, n, b"reset"),
+        CLEAR_WIDGETS => bytes(out, n, b"clear"),
+        ASK => bytes(out, n, b"ask"),
+        DUMP => bytes(out, n, b"dump"),
+        _ => bytes(out, n, b"set tally"),
+    }
+}
+
 fn taken(out: &mut Buffer, n: usize, a: &[u32], kind: u32, w: &[u32], t: Tally) -> usize {
     match kind {
         PASS => {
@@ -201,11 +231,7 @@ fn taken(out: &mut Buffer, n: usize, a: &[u32], kind: u32, w: &[u32], t: Tally) 
             let m = name(out, n, kind);
             snapshot(out, m, a, t)
         }
-        RESET => bytes(out, n, b"reset"),
-        CLEAR_WIDGETS => bytes(out, n, b"clear"),
-        ASK => bytes(out, n, b"ask"),
-        DUMP => bytes(out, n, b"dump"),
-        _ => bytes(out, n, b"set tally"),
+        _ => alone(out, n, kind),
     }
 }
 

@@ -2,3 +2,4 @@
 pub mod insert;
 pub mod lent;
 pub mod slices;
+pub mod widgets;

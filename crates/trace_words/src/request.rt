@@ -1,13 +1,8 @@
 // What the words of a request say. A word past the end is 0: the lengths are tested before.
 use data::layers::LayerId;
-use data::modifiers::Modifiers;
-use data::options::InputOptions;
-use data::pointer::MaybeF64;
 use data::widget::WidgetRect;
 use emath::pos2::Pos2;
 use emath::rect::Rect;
-use input_state::input::MaybeRect;
-use input_state::input::PassInput;
 
 pub fn at(w: &[u32], i: usize) -> u32 {
     if i < w.len() {
@@ -16,7 +11,7 @@ pub fn at(w: &[u32], i: usize) -> u32 {
     0
 }
 
-fn float(w: &[u32], i: usize) -> f32 {
+pub fn float(w: &[u32], i: usize) -> f32 {
     ieee::bits::from_bits32(at(w, i))
 }
 
@@ -25,7 +20,7 @@ pub fn id(w: &[u32], i: usize, j: usize) -> u64 {
     at(w, i) as u64 + at(w, j) as u64 * 0x1_0000_0000
 }
 
-fn seconds(w: &[u32], i: usize, j: usize) -> f64 {
+pub fn seconds(w: &[u32], i: usize, j: usize) -> f64 {
     ieee::bits::from_bits64(id(w, i, j))
 }
 
@@ -36,67 +31,8 @@ pub fn bit(w: u32, of: u32) -> bool {
     w / of % 2 == 1
 }
 
-// ---- a pass
-
+// A pass has as many, and then the feed.
 pub const PASS_WORDS: usize = 18;
-
-fn time_given(w: &[u32]) -> MaybeF64 {
-    if bit(at(w, 0), 1) {
-        return MaybeF64::Some(seconds(w, 1, 2));
-    }
-    MaybeF64::None
-}
-
-fn rect_given(w: &[u32]) -> MaybeRect {
-    if bit(at(w, 0), 2) {
-        let min = Pos2 {
-            x: float(w, 6),
-            y: float(w, 7),
-        };
-        let max = Pos2 {
-            x: float(w, 8),
-            y: float(w, 9),
-        };
-        return MaybeRect::Some(Rect { min, max });
-    }
-    MaybeRect::None
-}
-
-fn options(w: &[u32]) -> InputOptions {
-    let patterns = at(w, 17);
-    let zoom_modifier = Modifiers::of(patterns);
-    let horizontal_scroll_modifier = Modifiers::of(patterns / 32);
-    let vertical_scroll_modifier = Modifiers::of(patterns / 1024);
-    InputOptions {
-        line_scroll_speed: float(w, 10),
-        scroll_zoom_speed: float(w, 11),
-        max_click_dist: float(w, 12),
-        max_click_duration: seconds(w, 13, 14),
-        max_double_click_delay: seconds(w, 15, 16),
-        zoom_modifier,
-        horizontal_scroll_modifier,
-        vertical_scroll_modifier,
-    }
-}
-
-pub fn pass_input(w: &[u32]) -> PassInput {
-    let time = time_given(w);
-    let screen_rect = rect_given(w);
-    let options = options(w);
-    let bits = at(w, 0);
-    PassInput {
-        time,
-        screen_rect,
-        predicted_dt: float(w, 3),
-        smoothing_factor: float(w, 4),
-        pixels_per_point: float(w, 5),
-        focused: bit(bits, 4),
-        requested_repaint: bit(bits, 8),
-        options,
-    }
-}
-
-// ---- an insertion
 
 pub const WIDGET_WORDS: usize = 17;
 

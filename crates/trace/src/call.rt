@@ -1,0 +1,227 @@
+// One call.
+use emath::history::MAX_LEN;
+use emath::history::PARTS;
+use panel::widgets::empty;
+use pointer_events::CODES;
+use pointer_events::PLACES;
+use trace_answers::ask::ask;
+use trace_answers::dump::dump;
+use trace_interact::interact::interact;
+use trace_machine::machine::Change;
+use trace_machine::machine::Machine;
+use trace_machine::machine::Step;
+use trace_machine::machine::changed;
+use trace_machine::machine::kept;
+use trace_machine::machine::reset;
+use trace_machine::machine::with_interaction;
+use trace_machine::machine::with_set;
+use trace_machine::passes::pass;
+use trace_text::calls::ASK;
+use trace_text::calls::CLEAR_WIDGETS;
+use trace_text::calls::DUMP;
+use trace_text::calls::INSERT;
+use trace_text::calls::INTERACT;
+use trace_text::calls::PASS;
+use trace_text::calls::RESET;
+use trace_text::calls::SET_TALLY;
+use trace_widgets::insert::insert;
+use trace_widgets::widgets::widgets;
+use trace_words::records::Lent;
+use trace_words::reply::Reply;
+use trace_words::reply::malformed;
+use trace_words::reply::taken;
+use trace_words::request::at;
+use trace_words::words::Answer;
+use widget_index::table::Edges;
+use widget_index::table::Numbers;
+use widget_index::table::Words;
+ghost use mathlib.Core.Path.{_≡_};
+
+fn inserted(
+    m: Machine,
+    words: &mut Words,
+    numbers: &mut Numbers,
+    edges: &mut Edges,
+    lent: &mut Lent,
+    a: &mut Answer,
+    w: &[u32],
+) -> Change {
+    let before = m.set;
+    let placed = insert(a, before, words, numbers, edges, lent, w);
+    let set = placed.set;
+    let reply = placed.reply;
+    with_set(m, set, reply)
+}
+
+fn clear_widgets(m: Machine, w: &[u32]) -> Change {
+    if w.len() > 0 {
+        return kept(m, malformed());
+    }
+    with_set(m, empty(), taken(0))
+}
+
+fn set_tally(m: Machine, w: &[u32]) -> Change {
+    if w.len() != 1 {
+        return kept(m, malformed());
+    }
+    let p = m.panel;
+    let interaction = p.interaction;
+    with_interaction(m, interaction, at(w, 0), taken(0))
+}
+
+fn interacted(
+    m: Machine,
+    codes: &[u32; CODES],
+    presses: &[u8; 145],
+    words: &Words,
+    numbers: &Numbers,
+    a: &mut Answer,
+    w: &[u32],
+) -> Change {
+    let p = m.panel;
+    let set = m.set;
+    let out = interact(a, p, set, codes, presses, words, numbers, w);
+    let interaction = out.interaction;
+    let reply = out.reply;
+    with_interaction(m, interaction, out.tally, reply)
+}
+
+fn asked(
+    m: Machine,
+    codes: &[u32; CODES],
+    places: &[f32; PLACES],
+    presses: &[u8; 145],
+    a: &mut Answer,
+    w: &[u32],
+) -> Reply {
+    if w.len() > 0 {
+        return malformed();
+    }
+    let p = m.panel;
+    let input = p.input;
+    let devices = p.devices;
+    taken(ask(a, 0, input, devices, codes, places, presses))
+}
+
+fn dumped(
+    m: Machine,
+    times: &[f64; MAX_LEN],
+    positions: &[f32; PARTS],
+    codes: &[u32; CODES],
+    places: &[f32; PLACES],
+    presses: &[u8; 145],
+    words: &Words,
+    numbers: &Numbers,
+    edges: &Edges,
+    lent: &Lent,
+    a: &mut Answer,
+    w: &[u32],
+) -> Reply {
+    if w.len() > 0 {
+        return malformed();
+    }
+    let p = m.panel;
+    let set = m.set;
+    let input = p.input;
+    let devices = p.devices;
+    let interaction = p.interaction;
+    let n = dump(
+        a,
+        0,
+        input,
+        devices,
+        interaction,
+        p.tally,
+        times,
+        positions,
+        codes,
+        places,
+        presses,
+    );
+    taken(widgets(a, n, set, words, numbers, edges, lent))
+}
+
+// The calls that change no input.
+fn change(
+    m: Machine,
+    times: &[f64; MAX_LEN],
+    positions: &[f32; PARTS],
+    codes: &[u32; CODES],
+    places: &[f32; PLACES],
+    presses: &[u8; 145],
+    words: &mut Words,
+    numbers: &mut Numbers,
+    edges: &mut Edges,
+    lent: &mut Lent,
+    a: &mut Answer,
+    kind: u32,
+    w: &[u32],
+) -> Change {
+    match kind {
+        INSERT => inserted(m, words, numbers, edges, lent, a, w),
+        CLEAR_WIDGETS => clear_widgets(m, w),
+        INTERACT => interacted(m, codes, presses, words, numbers, a, w),
+        ASK => kept(m, asked(m, codes, places, presses, a, w)),
+        DUMP => kept(
+            m,
+            dumped(
+                m,
+                times,
+                positions,
+                codes,
+                places,
+                presses,
+                words,
+                numbers,
+                edges,
+                lent,
+                a,
+                w,
+            ),
+        ),
+        SET_TALLY => set_tally(m, w),
+        _ => kept(m, malformed()),
+    }
+}
+
+// One request. The lent arrays of a refused one are as before too: the panel's contracts say so.
+pub fn call(
+    m: Machine,
+    times: &mut [f64; MAX_LEN],
+    positions: &mut [f32; PARTS],
+    codes: &mut [u32; CODES],
+    places: &mut [f32; PLACES],
+    presses: &mut [u8; 145],
+    words: &mut Words,
+    numbers: &mut Numbers,
+    edges: &mut Edges,
+    lent: &mut Lent,
+    a: &mut Answer,
+    kind: u32,
+    w: &[u32],
+) -> Step
+    ensures { λ r. ⌜ ((r .reply .code ≡ 0 → ⊥) → r .machine ≡ m) ⌝ }
+{
+    match kind {
+        RESET => reset(m, presses, w),
+        PASS => pass(m, times, positions, codes, places, presses, a, w),
+        _ => {
+            let c = change(
+                m,
+                times,
+                positions,
+                codes,
+                places,
+                presses,
+                words,
+                numbers,
+                edges,
+                lent,
+                a,
+                kind,
+                w,
+            );
+            changed(m, c)
+        }
+    }
+}

@@ -1,0 +1,7 @@
+// Replays the stored corpora, one after the other; standard output is egui's answers, one checksum a call. compare/corpora.md says what they hold.
+use trace::run::Form;
+use trace::run::replay;
+
+fn main() {
+    replay(Form::Sums);
+}

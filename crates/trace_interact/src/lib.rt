@@ -1,0 +1,2 @@
+// INTERACT, read from a request and answered.
+pub mod interact;

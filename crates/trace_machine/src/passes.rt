@@ -1,0 +1,46 @@
+// PASS.
+use crate::given::pass_input;
+use crate::machine::Machine;
+use crate::machine::Step;
+use crate::machine::passed;
+use crate::machine::refused;
+use emath::history::MAX_LEN;
+use emath::history::PARTS;
+use pointer_events::CODES;
+use pointer_events::PLACES;
+use trace_words::request::PASS_WORDS;
+use trace_words::words::Answer;
+ghost use mathlib.Core.Path.{_≡_};
+
+pub fn pass(
+    m: Machine,
+    times: &mut [f64; MAX_LEN],
+    positions: &mut [f32; PARTS],
+    codes: &mut [u32; CODES],
+    places: &mut [f32; PLACES],
+    presses: &mut [u8; 145],
+    a: &mut Answer,
+    w: &[u32],
+) -> Step
+    ensures { λ r. ⌜ ((r .reply .code ≡ 0 → ⊥) → r .machine ≡ m) ⌝ }
+{
+    if w.len() < PASS_WORDS {
+        return refused(m);
+    }
+    let p = m.panel;
+    let input = p.input;
+    let devices = p.devices;
+    let given = pass_input(w);
+    let begun = panel::pass::pass(
+        input,
+        devices,
+        times,
+        positions,
+        codes,
+        places,
+        presses,
+        given,
+        &w[PASS_WORDS..],
+    );
+    passed(m, a, begun)
+}

@@ -1,0 +1,3 @@
+// Parts of the answer of DUMP.
+pub mod devices;
+pub mod parts;
