@@ -1,5 +1,4 @@
 // Insertions of the same widgets, round by round, each round in the same order; they stand in turn in each of some layers.
-use crate::slots::settled;
 use crate::sums::mix;
 use data::layers::LayerId;
 use data::widget::WidgetRect;
@@ -14,6 +13,7 @@ use widget_insert::decide;
 use widget_rect::questions::MaybeOrder;
 use widget_rect::questions::empty;
 use widget_rect::questions::order;
+use widget_slices::settled;
 ghost use Prim.Native.Nat.{_≤_};
 
 pub struct Step {

@@ -4,7 +4,6 @@ mod asks;
 mod inserts;
 mod interacts;
 mod passes;
-mod slots;
 mod sums;
 
 use libc::STDOUT_FILENO;

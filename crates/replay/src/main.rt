@@ -1,4 +1,4 @@
-// Replays a trace on standard input, up to 1 MiB in the words of compare/FORMAT.md, and answers on standard output:
+// Replays a trace on standard input, in the words of compare/FORMAT.md, and answers on standard output:
 //   replay [text]    one line a call
 //   replay sums      one checksum a call
 //   replay whole     the answers' words

@@ -6,6 +6,7 @@ use data::pointer::ButtonsDown;
 use emath::history::History;
 use emath::history::MAX_LEN;
 use emath::history::PARTS;
+use id_lists::MaybeId;
 use interaction::state::Interaction;
 use pointer_clicks::ClickPast;
 use pointer_clicks::Held;
@@ -15,7 +16,7 @@ use trace_words::words::count;
 use trace_words::words::flag;
 use trace_words::words::flags;
 use trace_words::words::float;
-use trace_words::words::maybe_id;
+use trace_words::words::id;
 use trace_words::words::maybe_pos;
 use trace_words::words::maybe_seconds;
 use trace_words::words::maybe_vec;
@@ -123,6 +124,14 @@ pub fn options(a: &mut Answer, n: usize, o: InputOptions) -> usize {
         m,
         zoom.number() + 32 * horizontal.number() + 1024 * vertical.number(),
     )
+}
+
+// None is 0.
+pub fn maybe_id(a: &mut Answer, n: usize, d: MaybeId) -> usize {
+    match d {
+        MaybeId::None => id(a, n, 0),
+        MaybeId::Some(x) => id(a, n, x),
+    }
 }
 
 pub fn interaction(a: &mut Answer, n: usize, i: Interaction, tally: u32) -> usize {

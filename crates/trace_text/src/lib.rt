@@ -1,6 +1,4 @@
-// What is read of standard input, and the three forms in which answers are written.
+// An answer's checksum, and a call in plain text.
 pub mod calls;
-pub mod input;
-pub mod output;
 pub mod sums;
 pub mod text;

@@ -2,7 +2,6 @@
 use crate::lent::gathered;
 use crate::lent::given;
 use crate::lent::scatter;
-use crate::slices::settled;
 use data::widget::WidgetRect;
 use trace_words::records;
 use trace_words::records::Lent;
@@ -30,6 +29,7 @@ use widget_index::table::count_at;
 use widget_index::table::layer_of;
 use widget_index::table::layers_of;
 use widget_insert::decide;
+use widget_slices::settled;
 
 // The set after an insertion, and the answer.
 pub struct Placed {

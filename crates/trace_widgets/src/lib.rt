@@ -1,5 +1,4 @@
 // INSERT: an insertion, with the layer's widgets lent.
 pub mod insert;
 pub mod lent;
-pub mod slices;
 pub mod widgets;

@@ -7,7 +7,6 @@ use emath::pos2::Pos2;
 use emath::rect::Rect;
 use emath::vec2::MaybeVec2;
 use emath::vec2::Vec2;
-use id_lists::MaybeId;
 
 pub const ROOM: usize = 65536;
 
@@ -101,13 +100,5 @@ pub fn maybe_seconds(a: &mut Answer, n: usize, t: MaybeF64) -> usize {
             let m = word(a, n, 1);
             seconds(a, m, s)
         }
-    }
-}
-
-// None is 0.
-pub fn maybe_id(a: &mut Answer, n: usize, d: MaybeId) -> usize {
-    match d {
-        MaybeId::None => id(a, n, 0),
-        MaybeId::Some(x) => id(a, n, x),
     }
 }

@@ -13,7 +13,6 @@ use Rattle.bench_calls.proofs.inserts.next_step.Reads as next-step-read
 use Rattle.bench_calls.proofs.inserts.place.Reads as place-reads
 use Rattle.bench_calls.proofs.inserts.started.Reads as started-reads
 use Rattle.bench_calls.proofs.inserts.widget.Reads as widget-reads
-use Rattle.bench_calls.proofs.slots.settled.Reads as settled-reads
 use Rattle.widget_rect.proofs.questions.empty.Reads as empty-reads
 
 abbrev Inv-loop : tie.InvT-loop

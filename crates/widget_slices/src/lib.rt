@@ -1,4 +1,4 @@
-// The slots of the widgets, lent to `settle` and taken back. The array goes in and out by value: its copies are measured by themselves.
+// The widgets of a layer, as the caller of an insertion keeps them: an array by value, lent to `settle` and taken back.
 use data::widget::WidgetRect;
 use widget_rect::slice::settle;
 ghost use mathlib.Core.Path.{_≡_};

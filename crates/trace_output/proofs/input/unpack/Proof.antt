@@ -1,8 +1,8 @@
 -- Safe, and it ends: the measure is what is left. Assumes nothing.
 use Prim.Native.Nat.{_≤_, _-_}
 use borrow.Author.Needs.{needs}
-use Rattle.trace_text.proofs.input.unpack.Statement.{statement}
-use Rattle.trace_text.proofs.input.unpack.Tie as tie
+use Rattle.trace_output.proofs.input.unpack.Statement.{statement}
+use Rattle.trace_output.proofs.input.unpack.Tie as tie
 
 abbrev Inv-loop : tie.InvT-loop
 Inv-loop bytes got request₀ n m₀ i₀ request m i = i ≤ 4096

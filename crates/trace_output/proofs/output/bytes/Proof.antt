@@ -2,8 +2,8 @@
 use Prim.Native.Nat.{_≤_, _-_}
 use lib.ListN.{length}
 use borrow.Author.Needs.{needs}
-use Rattle.trace_text.proofs.output.bytes.Statement.{statement}
-use Rattle.trace_text.proofs.output.bytes.Tie as tie
+use Rattle.trace_output.proofs.output.bytes.Statement.{statement}
+use Rattle.trace_output.proofs.output.bytes.Tie as tie
 
 abbrev Inv-loop : tie.InvT-loop
 Inv-loop out₀ n text m₀ i₀ out m i = i ≤ length text

@@ -1,4 +1,4 @@
--- `bench_calls::slots::settled` meets its contract: a walk of its MIR, by hand. The local array's records are lent to `settle` and come back.
+-- `widget_slices::settled` meets its contract: a walk of its MIR, by hand. The local array's records are lent to `settle` and come back.
 -- Assumes nothing.
 use mathlib.Core.Path.{_≡_, refl, sym, _∙_, ap, subst}
 use Prim.Native.Nat.{_≤_, ℕ, _<_, _^_}
@@ -19,7 +19,7 @@ use ghost.Atoms.{Atoms, sem}
 use contract.Monad.{Fun, fact}
 use contract.Running.{givenOf, tables, tablesOf}
 use types.Kit.{Given, ‵, raw, some, later, _⊛_, _$_, _∵_, !, qed, by, move, keep, drop, use1, use2, use3, split, join, pick, rewrite, fsplit, fjoin, fpick, fpack, feqL, feqI, suffices, frame, await, done}
-use types.Run.{look, init, forget, stop, from, load, lit, addr, of-opd, and-then, no-more, assigns, land, returns, enter, alloc1, alloc0, params1, pass1, pass0, free1, free0}
+use types.Run.{look, init, forget, stop, from, load, addr, of-opd, and-then, no-more, assigns, land, returns, enter, alloc1, alloc0, params1, pass1, pass0, free1, free0}
 use types.Part.{agg}
 use types.Share.{arr-parts}
 use types.SemTy.{cells, Arr}
@@ -57,10 +57,10 @@ use Rattle.widget_rect.proofs.slice.settle as callee
 use Rattle.widget_rect.proofs.slice.settle.Symbol as callee-def
 use Rattle.widget_rect.proofs.slice.settle.Symbol.{name as #settle}
 use Rattle.widget_rect.proofs.slice.settle.Met as callee-thm
-use Rattle.bench_calls.proofs.slots.settled.Key.{name as #settled}
-use Rattle.bench_calls.proofs.slots.settled as f
-use Rattle.bench_calls.proofs.slots.settled.Statement as stated
-use Rattle.bench_calls.proofs.slots.settled.Code as code
+use Rattle.widget_slices.proofs.settled.Key.{name as #settled}
+use Rattle.widget_slices.proofs.settled as f
+use Rattle.widget_slices.proofs.settled.Statement as stated
+use Rattle.widget_slices.proofs.settled.Code as code
 
 -- an array by value is passed: nothing is said of it at exit, and nothing need be had
 abbrev stayed : Stays (f.ended .signature .params) (f.ended .kept)

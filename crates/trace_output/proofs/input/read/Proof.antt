@@ -2,8 +2,8 @@
 use lib.ListN.{length}
 use mathlib.Core.Path.{_≡_}
 use borrow.Author.Needs.{needs}
-use Rattle.trace_text.proofs.input.read.Statement.{statement}
-use Rattle.trace_text.proofs.input.read.Tie as tie
+use Rattle.trace_output.proofs.input.read.Statement.{statement}
+use Rattle.trace_output.proofs.input.read.Tie as tie
 
 abbrev Inv-loop : tie.InvT-loop
 Inv-loop words₀ len bytes₀ n₀ left₀ words bytes n left = 4096 ≡ length bytes

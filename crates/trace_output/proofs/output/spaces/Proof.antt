@@ -1,8 +1,8 @@
 -- Safe, and it ends: the measure is what is left. Assumes nothing.
 use Prim.Native.Nat.{_≤_}
 use borrow.Author.Needs.{needs}
-use Rattle.trace_text.proofs.output.spaces.Statement.{statement}
-use Rattle.trace_text.proofs.output.spaces.Tie as tie
+use Rattle.trace_output.proofs.output.spaces.Statement.{statement}
+use Rattle.trace_output.proofs.output.spaces.Tie as tie
 
 abbrev Inv-loop : tie.InvT-loop
 Inv-loop out₀ n k m₀ left₀ out m left = 0 ≤ left
