@@ -18,25 +18,62 @@ use Rattle.model.specs.Wheel.{wheel-default, wheel-pass}
 use Rattle.model.specs.Pass.{Panel, Interaction, or-else, own-refusal, time-of, time-or, rect-or, clock-pass, screen-pass, is-empty, key-events, keys-pass, sums-of, decidedly-dragging, fresh, fresh-place, fresh-press, pass-events, begin-pass, pass-refusal, pass-by, pass}
 use Rattle.model.specs.Pass as Pass
 use Rattle.event_loop.specs.Shaped.{shaped-events}
-use Rattle.event_loop.specs.Lists.{pointer-list, keys-list, sums-list, touch-list, wheel-list, list-count, listed-events, Listed}
+use Rattle.event_loop.specs.Lists.{pointer-list, keys-list, sums-list, touch-list, wheel-list, list-count, listed, listed-events, Listed}
 use Rattle.event_loop.proofs.Loops.{own-fewer}
 use Rattle.pass_loops.proofs.Loops.{place-pass-own, press-pass-own, wheel-pass-own}
 use Rattle.key_state.specs.View.{begun}
 use Rattle.key_state.proofs.Idle.{zoom-own, rotation-own, key-own}
 use Rattle.touch_state.specs.View.{view}
 use Rattle.touch_state.specs.declared.devices.Devices.{Devices}
-use Rattle.survey.specs.Survey.{option, fits-events, fits-survey}
+use Rattle.survey.specs.Survey.{option, fits-events, fits-survey, crowd-then, Read}
+use Rattle.survey.specs.declared.reading.Reading.{Reading}
+use Rattle.survey.proofs.Places.{fits-loop, survey-is, none-refused, devices-are}
 use Rattle.survey.specs.Laws.{InOrder}
 use Rattle.survey.proofs.Formed.{survey-law, events-law, end-law}
 use Rattle.survey.proofs.Accepted.{accepted}
 use Rattle.survey.proofs.Marks.{ended-own}
 use Rattle.input_state.specs.declared.input.PassInput.{PassInput}
 use Rattle.input_state.specs.declared.state.InputState.{InputState}
-use Rattle.input_state.specs.View.{Lent, panel, time-given, input, begin-by, outcome, Acted, refusal-of, Begun}
+use Rattle.input_state.specs.View.{Lent, panel, time-given, input, begin-by, outcome, Acted, refusal-of, Looked, Begun}
 use Rattle.input_state.specs.declared.begin.Begun.{Begun as Answer}
 
 pub some-none : {X : Type 0} {r : PassRefusal} → some r ≡ none → X
 some-none e = let z : _≡_ {A = ℕ} 0 1 = cc in absurd (omega arith)
+
+-- ---- before the events: its own numbers, what reading tells, and the touch events
+module _ (i : PassInput) (ws ps : List ℕ) (old : Float) (r : Reading) (vs : List TouchState) (looked : Looked i ws ps old r) where
+  abbrev touches : ℕ
+  touches = getD (r .counts) touch-list 0
+
+  pub record Surveys (refusal : Option PassRefusal) (held : List TouchState) : Type 0 where
+    pub first : refusal ≡ refusal-of i ws old vs
+    pub devices : refusal-of i ws old vs ≡ none → held ≡ fits-events (shaped-events ws) vs
+    pub lists : refusal-of i ws old vs ≡ none → Listed ws ps (r .counts)
+
+  pub surveys : (refusal : Option PassRefusal) (held : List TouchState) →
+      refusal ≡ crowd-then ws (listed ps touch-list touches) (λ us. option (r .refusal)) vs →
+      (refusal ≡ none → held ≡ fits-events (listed-events ws ps touch-list touches) vs) → Surveys refusal held
+  unfolding refusal-of or-else crowd-then listed
+  surveys refusal held is are = go (own-refusal (input ws i) old) refl
+    where
+      go : (o : Option PassRefusal) → own-refusal (input ws i) old ≡ o → Surveys refusal held
+      go (some q) e =
+          let own = looked .own q e in
+          let none-counted : refusal ≡ some q = is ∙ rw (own .1) (own .0) in
+          record { first = none-counted ∙ rw e; devices = λ z. some-none (rw e at z); lists = λ z. some-none (rw e at z) }
+      go none e =
+          let read = looked .read e in
+          let same : refusal ≡ fits-survey max-events (items ws) vs = is ∙ survey-is ws ps r vs read in
+          record {
+            first = same ∙ rw e;
+            devices = λ z. are (same ∙ rw e at z) ∙ devices-are ws ps r vs read (rw e at z);
+            lists = λ z. read .lists (none-refused ws ps r vs read (rw e at z));
+          }
+
+  -- with no touch event
+  pub surveys-none : touches ≡ 0 → Surveys (option (r .refusal)) vs
+  unfolding crowd-then listed
+  surveys-none n = surveys (option (r .refusal)) vs (rw n) (λ z. rw n (sym (fits-loop .begins ws ps touch-list vs)))
 
 pub fresh-is : (c : Pass.Clock) (s : Pass.Screen) (q : Place) (r : Press) (w : WheelState) (k : Pass.Keys) (m : Pass.Sums) →
     c ≡ fresh .clock → s ≡ fresh .screen → q ≡ fresh-place → r ≡ fresh-press → w ≡ wheel-default → k ≡ fresh .keys → m ≡ fresh .sums →

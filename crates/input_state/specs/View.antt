@@ -4,7 +4,7 @@ use mathlib.Core.Path.{_≡_}
 use mathlib.Core.Bool.{Bool, not, _&&_}
 use mathlib.Core.List.{List, [], map}
 use mathlib.Core.Option.{Option, none, some}
-use lib.ListN.{length}
+use lib.ListN.{length, getD}
 use lib.Ieee.{Float}
 use Rattle.data.specs.Limits.{max-events}
 use Rattle.feed.specs.Decode.{items}
@@ -15,14 +15,14 @@ use Rattle.model.specs.Wheel.{wheel-pass}
 use Rattle.model.specs.Pass.{Panel, Interaction, or-else, own-refusal, time-of, rect-or, clock-pass, screen-pass, keys-pass, sums-of, decidedly-dragging, fresh, pass-events, pass}
 use Rattle.model.specs.Pass as Pass
 use Rattle.event_loop.specs.Shaped.{shaped-events}
-use Rattle.event_loop.specs.Lists.{Listed}
+use Rattle.event_loop.specs.Lists.{touch-list, Listed}
 use Rattle.pointer_place.specs.View.{place}
 use Rattle.pointer_state.specs.View.{press}
 use Rattle.touch_state.specs.View.{view}
 use Rattle.touch_state.specs.declared.devices.Devices.{Devices}
 use Rattle.key_state.specs.View.{presses-of, keys}
-use Rattle.survey.specs.declared.crowd.Surveyed.{Surveyed}
-use Rattle.survey.specs.Survey.{option, fits-events, fits-survey}
+use Rattle.survey.specs.declared.reading.Reading.{Reading}
+use Rattle.survey.specs.Survey.{option, fits-events, fits-survey, Read}
 use Rattle.survey.specs.Laws.{InOrder}
 use Rattle.input_state.specs.declared.input.MaybeRect.{MaybeRect}
 use Rattle.input_state.specs.declared.input.MaybeRect.the-variants.{None as no-rect, Some as some-rect}
@@ -144,10 +144,10 @@ pub record Acted (i : PassInput) (ws ps counts : List ℕ) (l : Lent) (s : Input
 unfoldable pub refusal-of : PassInput → List ℕ → Float → List TouchState → Option PassRefusal
 refusal-of i ws old vs = or-else (own-refusal (input ws i) old) (fits-survey max-events (items ws) vs)
 
-pub record Looked (i : PassInput) (ws ps : List ℕ) (old : Float) (vs : List TouchState) (r : Surveyed) : Type 0 where
-  pub refusal : option (r .refusal) ≡ refusal-of i ws old vs
-  pub devices : refusal-of i ws old vs ≡ none → view (r .devices) ≡ fits-events (shaped-events ws) vs
-  pub lists : refusal-of i ws old vs ≡ none → Listed ws ps (r .counts)
+-- what is looked at before the touch events: a refusal of its own numbers, and then no event is counted, or what reading tells
+pub record Looked (i : PassInput) (ws ps : List ℕ) (old : Float) (r : Reading) : Type 0 where
+  pub own : (q : PassRefusal) → own-refusal (input ws i) old ≡ some q → (option (r .refusal) ≡ some q) × (getD (r .counts) touch-list 0 ≡ 0)
+  pub read : own-refusal (input ws i) old ≡ none → Read ws ps r
 
 -- the outcome of a pass in the model's terms
 unfoldable pub outcome : Option PassRefusal → Panel → Pass.Passed

@@ -11,12 +11,12 @@ use event_loop::LISTED;
 use event_loop::TOUCHES;
 use pointer_events::CODES;
 use pointer_events::PLACES;
-use survey::crowd::Surveyed;
-use survey::crowd::survey;
+use survey::crowd::crowd;
 use survey::ends::end_devices;
 use survey::reading::MaybePassRefusal;
+use survey::reading::Reading;
+use survey::reading::read;
 use touch_state::devices::Devices;
-ghost use Rattle.touch_state.specs.View.{view};
 ghost use Rattle.input_state.specs.View.{Looked, lent};
 ghost use Rattle.input_state.specs.View.{Begun as BegunAs};
 
@@ -27,22 +27,21 @@ pub struct Begun {
     pub refusal: MaybePassRefusal,
 }
 
-// "2 for its own numbers, 3, then event by event 4, 1, 2, 5", with the devices after the events where nothing is refused.
-fn look(ds: Devices, old: f64, i: PassInput, feed: &[u32], lists: &mut [u16; LISTED]) -> Surveyed
-    ensures { λ r. ⌜ Looked i (now (feed .entry)) (now (lists .exit)) old (view ds) r ⌝ }
+// "2 for its own numbers, 3, then event by event 4, 1, 2". Where its own numbers are refused no event is counted.
+fn look(old: f64, i: PassInput, feed: &[u32], lists: &mut [u16; LISTED]) -> Reading
+    ensures { λ r. ⌜ Looked i (now (feed .entry)) (now (lists .exit)) old r ⌝ }
 {
     let own = own_refusal(i, old);
     match own {
-        MaybePassRefusal::None => survey(ds, feed, lists),
-        MaybePassRefusal::Some(q) => Surveyed {
+        MaybePassRefusal::None => read(feed, lists),
+        MaybePassRefusal::Some(q) => Reading {
             refusal: MaybePassRefusal::Some(q),
-            devices: ds,
             counts: [0; LIST_COUNT],
         },
     }
 }
 
-// egui's `begin_pass`. A gesture starts at the interact position of the pass before.
+// egui's `begin_pass`. A gesture starts at the interact position of the pass before. With no touch event the devices stand where they are.
 pub fn begin_pass(
     s: InputState,
     ds: Devices,
@@ -58,8 +57,16 @@ pub fn begin_pass(
 {
     let clock = s.clock;
     let mut lists = [0u16; LISTED];
-    let looked = look(ds, clock.time, i, feed, &mut lists);
-    let refusal = looked.refusal;
+    let looked = look(clock.time, i, feed, &mut lists);
+    let counts = looked.counts;
+    let touches = counts[TOUCHES as usize];
+    let mut refusal = looked.refusal;
+    let mut held = ds;
+    if touches > 0 {
+        let surveyed = crowd(ds, feed, &lists, touches, refusal);
+        refusal = surveyed.refusal;
+        held = surveyed.devices;
+    }
     match refusal {
         MaybePassRefusal::Some(q) => Begun {
             state: s,
@@ -67,14 +74,12 @@ pub fn begin_pass(
             refusal: MaybePassRefusal::Some(q),
         },
         MaybePassRefusal::None => {
-            let held = looked.devices;
-            let counts = looked.counts;
             let given = i.time;
             let time = time_of(given, i.predicted_dt, clock.time);
             let pointer = s.pointer;
             let place = pointer.place;
             let pos = place.interact_pos;
-            let devices = end_devices(held, feed, &lists, counts[TOUCHES as usize], time, pos);
+            let devices = end_devices(held, feed, &lists, touches, time, pos);
             let state = act(
                 s,
                 times,

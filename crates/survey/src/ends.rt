@@ -1,12 +1,11 @@
 // The devices at the end of a pass: their gestures go on, start or end.
-use data::event::Event;
+use crate::touch::MaybeTouchEvent;
+use crate::touch::touch_event_at;
 use data::touch::TouchPhase;
 use emath::pos2::MaybePos2;
 use event_loop::LISTED;
 use event_loop::TOUCHES;
-use event_loop::kind_at;
 use event_loop::listed;
-use event_loop::readers::touch_at;
 use touch_device::Device;
 use touch_state::devices::Devices;
 ghost use mathlib.Core.Path.{_≡_};
@@ -31,39 +30,20 @@ fn adds_or_removes(phase: TouchPhase) -> bool
     }
 }
 
-fn event_adds(device_id: u64, e: Event) -> bool
-    ensures { λ r. ⌜ r ≡ added-or-removed-touches «device_id» (e ∷ []) ⌝ }
+fn adds_at(device_id: u64, feed: &[u32], at: usize) -> bool
+    ensures { λ r. ⌜ r ≡ added-or-removed-touches «device_id» (shaped-at (now (feed .entry)) at ∷ []) ⌝ }
 {
-    match e {
-        Event::Touch(device, _, phase, _, _) => {
-            if device == device_id {
+    let found = touch_event_at(feed, at);
+    match found {
+        MaybeTouchEvent::None => false,
+        MaybeTouchEvent::Some(e) => {
+            let phase = e.phase;
+            if e.device_id == device_id {
                 return adds_or_removes(phase);
             }
             false
         }
-        Event::Key(_, _) => false,
-        Event::ModifiersChanged(_) => false,
-        Event::PointerMoved(_) => false,
-        Event::MouseMoved(_) => false,
-        Event::PointerButton(_, _, _, _) => false,
-        Event::PointerGone => false,
-        Event::Zoom(_) => false,
-        Event::Rotate(_) => false,
-        Event::MouseWheel(_, _, _, _, _) => false,
-        Event::WindowFocused(_) => false,
-        Event::Other => false,
     }
-}
-
-// Kind 9 is read.
-fn adds_at(device_id: u64, feed: &[u32], at: usize) -> bool
-    ensures { λ r. ⌜ r ≡ added-or-removed-touches «device_id» (shaped-at (now (feed .entry)) at ∷ []) ⌝ }
-{
-    if kind_at(feed, at) == 9 {
-        let e = touch_at(feed, at);
-        return event_adds(device_id, e);
-    }
-    false
 }
 
 fn added_or_removed_touches(device_id: u64, feed: &[u32], lists: &[u16; LISTED], count: u8) -> bool

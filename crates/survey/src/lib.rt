@@ -2,3 +2,4 @@
 pub mod crowd;
 pub mod ends;
 pub mod reading;
+pub mod touch;

@@ -1,14 +1,11 @@
--- `crowd/is_crowded` meets its contract: each way to a return is the case of the definition that its tests pick. Assumes nothing.
-use Rattle.model.specs.Pass.{crowded}
+-- `touch::touch_of` meets its contract: each arm is the case of the definition. Assumes nothing.
+use Rattle.survey.specs.Touch.{touch-of}
 use borrow.Author.Needs.{needs}
-use Rattle.survey.proofs.crowd.is_crowded.Statement.{statement}
-use Rattle.survey.proofs.crowd.is_crowded.Tie as tie
+use Rattle.survey.proofs.touch.touch_of.Statement.{statement}
+use Rattle.survey.proofs.touch.touch_of.Tie as tie
 
 enum-known-e : tie.Need-enum-known-e
 enum-known-e c = search needs
-
-no-place-requires : tie.Need-no-place-requires
-no-place-requires c κs = search needs
 
 enum-told : tie.Need-enum-told
 enum-told c = search needs
@@ -44,59 +41,58 @@ enum-told-11 : tie.Need-enum-told-11
 enum-told-11 c = search needs
 
 returns : tie.Need-returns
-unfolding crowded
-returns c = rw (c .before .before .e .given .1, c .no-place .ensures)
+unfolding touch-of
+returns c = rw (c .before .e .given .1)
 
 returns-2 : tie.Need-returns-2
-unfolding crowded
+unfolding touch-of
 returns-2 c = rw (c .enum-told .given .1)
 
 returns-3 : tie.Need-returns-3
-unfolding crowded
+unfolding touch-of
 returns-3 c = rw (c .enum-told2 .given .1)
 
 returns-4 : tie.Need-returns-4
-unfolding crowded
+unfolding touch-of
 returns-4 c = rw (c .enum-told3 .given .1)
 
 returns-5 : tie.Need-returns-5
-unfolding crowded
+unfolding touch-of
 returns-5 c = rw (c .enum-told4 .given .1)
 
 returns-6 : tie.Need-returns-6
-unfolding crowded
+unfolding touch-of
 returns-6 c = rw (c .enum-told5 .given .1)
 
 returns-7 : tie.Need-returns-7
-unfolding crowded
+unfolding touch-of
 returns-7 c = rw (c .enum-told6 .given .1)
 
 returns-8 : tie.Need-returns-8
-unfolding crowded
+unfolding touch-of
 returns-8 c = rw (c .enum-told7 .given .1)
 
 returns-9 : tie.Need-returns-9
-unfolding crowded
+unfolding touch-of
 returns-9 c = rw (c .enum-told8 .given .1)
 
 returns-10 : tie.Need-returns-10
-unfolding crowded
+unfolding touch-of
 returns-10 c = rw (c .enum-told9 .given .1)
 
 returns-11 : tie.Need-returns-11
-unfolding crowded
+unfolding touch-of
 returns-11 c = rw (c .enum-told10 .given .1)
 
 returns-12 : tie.Need-returns-12
-unfolding crowded
+unfolding touch-of
 returns-12 c = rw (c .enum-told11 .given .1)
 
-pub is-crowded-spec : {M : Type 1} → statement M
-is-crowded-spec =
+pub touch-of-spec : {M : Type 1} → statement M
+touch-of-spec =
     tie.close
     (tie.spec
     enum-known-e
-    no-place-requires
     enum-told
     enum-told-2
     enum-told-3
