@@ -19,9 +19,9 @@ use Rattle.survey.specs.Laws.{InOrder}
 use Rattle.survey.proofs.Formed.{none-in-order}
 use Rattle.touch_state.specs.declared.devices.Devices.{Devices}
 use Rattle.touch_state.specs.View.{view}
-use Rattle.interaction.specs.declared.state.Interacted.{Interacted}
-use Rattle.interaction.specs.declared.state.Interacted.the-variants.{Refused, Taken}
-use Rattle.interaction.specs.View.{interaction-of, snapshot-of}
+use Rattle.interaction_state.specs.declared.state.Interacted.{Interacted}
+use Rattle.interaction_state.specs.declared.state.Interacted.the-variants.{Refused, Taken}
+use Rattle.interaction_state.specs.View.{interaction-of, snapshot-of}
 use Rattle.input_state.specs.declared.begin.Begun.{Begun}
 use Rattle.input_state.specs.declared.input.PassInput as Declared
 use Rattle.input_state.specs.declared.state.InputState.{InputState}

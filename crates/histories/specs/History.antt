@@ -18,10 +18,10 @@ use Rattle.hit_lists.specs.Hits.{input}
 use Rattle.id_lists.specs.Ids.{option-of}
 use Rattle.widget_index.specs.declared.table.WidgetRects.{WidgetRects}
 use Rattle.widget_rect.specs.WellFormed.{WellFormed}
-use Rattle.interaction.specs.declared.state.Interacted.{Interacted}
-use Rattle.interaction.specs.declared.state.Interacted.the-variants.{Refused, Taken}
-use Rattle.interaction.specs.View.{snapshot-of}
-use Rattle.interaction.specs.Lookup.{lookup}
+use Rattle.interaction_state.specs.declared.state.Interacted.{Interacted}
+use Rattle.interaction_state.specs.declared.state.Interacted.the-variants.{Refused, Taken}
+use Rattle.interaction_state.specs.View.{snapshot-of}
+use Rattle.interaction_state.specs.Lookup.{lookup}
 use Rattle.input_state.specs.declared.begin.Begun.{Begun}
 use Rattle.input_state.specs.declared.input.PassInput.{PassInput}
 use Rattle.input_state.specs.View.{Lent, outcome}

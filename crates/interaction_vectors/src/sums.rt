@@ -1,7 +1,7 @@
 // The sum of an interact's answer.
 use data::refusal::InteractRefusal;
 use id_lists::MaybeId;
-use interaction::state::Answer;
+use interaction_state::state::Answer;
 
 // Rotated left by 5 bits.
 fn rotated(h: u64) -> u64 {

@@ -13,7 +13,7 @@ use emath::history::PARTS;
 use id_lists::MaybeId;
 use input_state::clock::Clock;
 use input_state::state::InputState;
-use interaction::state::Interaction;
+use interaction_state::state::Interaction;
 use pointer_clicks::ClickPast;
 use pointer_clicks::Held;
 use pointer_events::CODES;
