@@ -1,16 +1,12 @@
 // A feed read for one component of the panel: it decodes only its own events, whose places are in its list.
 // Floats are not tested again: a pass is surveyed before.
-pub mod readers;
 
-use data::event::Event;
 use data::limits::MAX_EVENTS;
-use feed::shape::MaybeEvent;
 ghost use mathlib.Core.Path.{_≡_};
 ghost use Prim.Native.Nat.{_+_, _*_};
 ghost use lib.ListN.{getD};
 ghost use Rattle.data.specs.Limits.{max-events};
 ghost use Rattle.feed.specs.Split.{kind};
-ghost use Rattle.event_loop.specs.Shaped.{event-or-other};
 ghost use Rattle.event_loop.specs.Lists.{list-of};
 
 // The components that read events: the numbers of their lists. List 0 is of the events that none reads.
@@ -78,13 +74,4 @@ pub fn listed(lists: &[u16], list: u8, i: u8) -> usize
         return lists[j] as usize;
     }
     0
-}
-
-fn event_or_other(e: MaybeEvent) -> Event
-    ensures { λ r. ⌜ r ≡ event-or-other e ⌝ }
-{
-    match e {
-        MaybeEvent::None => Event::Other,
-        MaybeEvent::Some(event) => event,
-    }
 }

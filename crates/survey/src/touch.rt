@@ -3,7 +3,7 @@ use data::event::Event;
 use data::touch::ActiveTouch;
 use data::touch::TouchPhase;
 use event_loop::kind_at;
-use event_loop::readers::touch_at;
+use event_readers::readers::touch_at;
 ghost use mathlib.Core.Path.{_≡_};
 ghost use Rattle.event_loop.specs.Shaped.{shaped-at};
 ghost use Rattle.survey.specs.Touch.{touch-of};

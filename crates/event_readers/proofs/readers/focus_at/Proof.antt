@@ -2,11 +2,11 @@
 use native.Mathlib.Omega.{arith}
 use mathlib.Core.Path.{sym, _∙_}
 use Rattle.feed.specs.Shape.{shape-by-kind}
 use Rattle.event_loop.proofs.Walk.{at-past}
-use Rattle.event_loop.proofs.KnownKind.{whole-as}
+use Rattle.event_readers.proofs.KnownKind.{whole-as}
 use borrow.Author.Needs.{needs}
-use Rattle.event_loop.proofs.readers.focus_at.Statement.{statement}
-use Rattle.event_loop.proofs.readers.focus_at.Tie as tie
+use Rattle.event_readers.proofs.readers.focus_at.Statement.{statement}
+use Rattle.event_readers.proofs.readers.focus_at.Tie as tie
 
 mul-focus-shape : tie.Need-mul-focus-shape
 mul-focus-shape c = search needs

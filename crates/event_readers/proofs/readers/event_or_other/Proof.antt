@@ -1,8 +1,8 @@
--- `event_or_other` meets its contract: each way to a return is the case of the definition that its tests pick. Assumes nothing.
+-- `readers::event_or_other` meets its contract: each way to a return is the case of the definition that its tests pick. Assumes nothing.
 use Rattle.event_loop.specs.Shaped.{event-or-other}
 use borrow.Author.Needs.{needs}
-use Rattle.event_loop.proofs.event_or_other.Statement.{statement}
-use Rattle.event_loop.proofs.event_or_other.Tie as tie
+use Rattle.event_readers.proofs.readers.event_or_other.Statement.{statement}
+use Rattle.event_readers.proofs.readers.event_or_other.Tie as tie
 
 enum-told : tie.Need-enum-told
 enum-told c = search needs

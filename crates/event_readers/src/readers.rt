@@ -1,6 +1,6 @@
 // The event of a known kind at a place, without a choice among all kinds; what it is of another kind is free.
-use crate::event_or_other;
 use data::event::Event;
+use feed::shape::MaybeEvent;
 use feed::shape::bare;
 use feed::shape::button_shape;
 use feed::shape::focus_shape;
@@ -15,7 +15,16 @@ use feed::shape::zoom_shape;
 ghost use mathlib.Core.Path.{_≡_};
 ghost use lib.ListN.{getD};
 ghost use Rattle.feed.specs.Split.{kind};
-ghost use Rattle.event_loop.specs.Shaped.{shaped-at};
+ghost use Rattle.event_loop.specs.Shaped.{event-or-other, shaped-at};
+
+fn event_or_other(e: MaybeEvent) -> Event
+    ensures { λ r. ⌜ r ≡ event-or-other e ⌝ }
+{
+    match e {
+        MaybeEvent::None => Event::Other,
+        MaybeEvent::Some(event) => event,
+    }
+}
 
 pub fn key_at(feed: &[u32], at: usize) -> Event
     ensures { λ r. ⌜ (kind (getD (now (feed .entry)) at 0) ≡ 1 → r ≡ shaped-at (now (feed .entry)) at) ⌝ }
