@@ -1,6 +1,6 @@
 // A pass. It reads and writes no interaction and no tally.
-use emath::history::MAX_LEN;
-use emath::history::PARTS;
+use emath_history::history::MAX_LEN;
+use emath_history::history::PARTS;
 use input_state::begin::Begun;
 use input_state::begin::begin_pass;
 use input_state::input::PassInput;

@@ -1,6 +1,6 @@
 // Where the pointer is.
-use emath::history::MAX_LEN;
-use emath::history::PARTS;
+use emath_history::history::MAX_LEN;
+use emath_history::history::PARTS;
 use event_loop::LISTED;
 use event_loop::POINTER;
 use event_loop::kind_at;

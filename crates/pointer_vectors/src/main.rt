@@ -5,8 +5,8 @@ mod record;
 mod sums;
 mod words;
 
-use emath::history::MAX_LEN;
-use emath::history::PARTS;
+use emath_history::history::MAX_LEN;
+use emath_history::history::PARTS;
 use libc::STDOUT_FILENO;
 use pass::State;
 use pointer_events::CODES;

@@ -1,7 +1,7 @@
 // The state of a replay, and one call.
 use crate::interact::interact;
-use emath::history::MAX_LEN;
-use emath::history::PARTS;
+use emath_history::history::MAX_LEN;
+use emath_history::history::PARTS;
 use panel::state::Panel;
 use panel::widgets::empty;
 use pointer_events::CODES;

@@ -1,9 +1,9 @@
 -- The two parts stand side by side. Assumes nothing.
-use Rattle.emath.specs.Ring.{position-at}
+use Rattle.emath_history.specs.Ring.{position-at}
 use mathlib.Core.Path.{refl}
 use borrow.Author.Needs.{needs}
-use Rattle.emath.proofs.history.position_at.Statement.{statement}
-use Rattle.emath.proofs.history.position_at.Tie as tie
+use Rattle.emath_history.proofs.history.position_at.Statement.{statement}
+use Rattle.emath_history.proofs.history.position_at.Tie as tie
 
 mul-t3 : tie.Need-mul-t3
 mul-t3 c = search needs

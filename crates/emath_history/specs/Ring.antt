@@ -8,8 +8,8 @@ use mathlib.Core.List.{List, [], _∷_}
 use lib.Dec.{ltb}
 use lib.ListN.{getD, set}
 use lib.Ieee.{Float, nan}
-use Rattle.emath.specs.Types.{Pos2, History}
+use Rattle.emath_history.specs.Types.{Pos2, History}
 use Rattle.emath.specs.History.{Sample, max-len, add}
 
 abbrev pub place : ℕ → ℕ
 place i = i % max-len

@@ -1,9 +1,9 @@
 -- The view has as many samples as are counted. Assumes nothing.
 use mathlib.Core.Path.{sym, _∙_}
-use Rattle.emath.proofs.Samples.{view-count}
+use Rattle.emath_history.proofs.Samples.{view-count}
 use borrow.Author.Needs.{needs}
-use Rattle.emath.proofs.history.History.len.Statement.{statement}
-use Rattle.emath.proofs.history.History.len.Tie as tie
+use Rattle.emath_history.proofs.history.History.len.Statement.{statement}
+use Rattle.emath_history.proofs.history.History.len.Tie as tie
 
 count-requires : tie.Need-count-requires
 count-requires c κs = search needs

@@ -5,11 +5,11 @@ use mathlib.Core.List.{List}
 use native.Mathlib.Omega.{arith}
 use lib.Ieee.{Float}
 use borrow.Author.Needs.{needs}
 use Rattle.emath.specs.History.{max-len, max-age, drop-old}
-use Rattle.emath.specs.Ring.{samples}
-use Rattle.emath.proofs.Samples.{few, recent, dropped, flushed}
-use Rattle.emath.proofs.history.History.flush.Statement.{statement}
-use Rattle.emath.proofs.history.History.flush.Tie as tie
+use Rattle.emath_history.specs.Ring.{samples}
+use Rattle.emath_history.proofs.Samples.{few, recent, dropped, flushed}
+use Rattle.emath_history.proofs.history.History.flush.Statement.{statement}
+use Rattle.emath_history.proofs.history.History.flush.Tie as tie
 
 abbrev Inv-loop : tie.InvT-loop
 Inv-loop times time limit start₀ len₀ start len =

@@ -1,10 +1,10 @@
 -- Each way is a case of the definition. Assumes nothing.
 use borrow.Author.Tests.{lt-ltb, le-ltb}
-use Rattle.emath.specs.Ring.{grown}
-use Rattle.emath.proofs.Samples.{place-next}
+use Rattle.emath_history.specs.Ring.{grown}
+use Rattle.emath_history.proofs.Samples.{place-next}
 use borrow.Author.Needs.{needs}
-use Rattle.emath.proofs.history.grown.Statement.{statement}
-use Rattle.emath.proofs.history.grown.Tie as tie
+use Rattle.emath_history.proofs.history.grown.Statement.{statement}
+use Rattle.emath_history.proofs.history.grown.Tie as tie
 
 add-t3 : tie.Need-add-t3
 add-t3 c = search needs

@@ -1,14 +1,14 @@
 // The pointer's last positions with their times. The caller lends the samples' places, and they are used as a ring:
 // no sample moves when the oldest is dropped.
-use crate::pos2::Pos2;
-use crate::vec2::MaybeVec2;
+use emath::pos2::Pos2;
+use emath::vec2::MaybeVec2;
 ghost use mathlib.Core.Path.{_≡_};
 ghost use mathlib.Core.List.{List, []};
 ghost use Prim.Native.Nat.{_+_, _*_, _<_};
 ghost use lib.Ieee.{Float};
 ghost use lib.ListN.{length, set};
 ghost use Rattle.emath.specs.History.{max-len, flush, duration, velocity};
-ghost use Rattle.emath.specs.Ring.{count, free, grown, view, Added, position-at, set-position};
+ghost use Rattle.emath_history.specs.Ring.{count, free, grown, view, Added, position-at, set-position};
 
 pub const MIN_LEN: usize = 2;
 

@@ -11,10 +11,10 @@ use lib.Seq.{getD-set-same, getD-set-other}
 use lib.Ieee.{Float, nan, binary32, binary64, sub, lt, ofBits}
 use Rattle.ieee.specs.Narrow.{narrow}
 use borrow.Author.Tests.{lt-ltb, le-ltb, ltb-true, ltb-false}
-use Rattle.emath.specs.Types.{Pos2, History, no-vec, some-vec}
+use Rattle.emath_history.specs.Types.{Pos2, History, no-vec, some-vec}
 use Rattle.emath.specs.Vec.{pos-sub, vec-div}
 use Rattle.emath.specs.History.{Sample, min-len, max-len, max-age, drop-old, flush, add, last, duration, velocity}
-use Rattle.emath.specs.Ring.{place, position-at, sample-at, samples, count, view, free, grown, set-position}
+use Rattle.emath_history.specs.Ring.{place, position-at, sample-at, samples, count, view, free, grown, set-position}
 
 add-zero : (i : ℕ) → i + 0 ≡ i
 add-zero i = omega arith

@@ -1,10 +1,10 @@
 -- From the first sample to the last. Assumes nothing.
 use mathlib.Core.Path.{sym, _∙_}
-use Rattle.emath.specs.Ring.{view}
-use Rattle.emath.proofs.Samples.{duration-none, duration-some}
+use Rattle.emath_history.specs.Ring.{view}
+use Rattle.emath_history.proofs.Samples.{duration-none, duration-some}
 use borrow.Author.Needs.{needs}
-use Rattle.emath.proofs.history.History.duration.Statement.{statement}
-use Rattle.emath.proofs.history.History.duration.Tie as tie
+use Rattle.emath_history.proofs.history.History.duration.Statement.{statement}
+use Rattle.emath_history.proofs.history.History.duration.Tie as tie
 
 count-requires : tie.Need-count-requires
 count-requires c κs = search needs

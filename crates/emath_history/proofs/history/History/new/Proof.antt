@@ -1,8 +1,8 @@
 -- There is no sample. Assumes nothing.
 use mathlib.Core.Path.{refl}
-use Rattle.emath.specs.Ring.{view, samples}
-use Rattle.emath.proofs.history.History.new.Statement.{statement}
-use Rattle.emath.proofs.history.History.new.Tie as tie
+use Rattle.emath_history.specs.Ring.{view, samples}
+use Rattle.emath_history.proofs.history.History.new.Statement.{statement}
+use Rattle.emath_history.proofs.history.History.new.Tie as tie
 
 returns : tie.Need-returns
 unfolding view samples

@@ -1,10 +1,10 @@
 -- The callees' results, in the case that the tests pick. Assumes nothing.
 use mathlib.Core.Path.{sym, _∙_}
-use Rattle.emath.specs.Ring.{view}
-use Rattle.emath.proofs.Samples.{velocity-none, velocity-some, velocity-slow}
+use Rattle.emath_history.specs.Ring.{view}
+use Rattle.emath_history.proofs.Samples.{velocity-none, velocity-some, velocity-slow}
 use borrow.Author.Needs.{needs}
-use Rattle.emath.proofs.history.History.velocity.Statement.{statement}
-use Rattle.emath.proofs.history.History.velocity.Tie as tie
+use Rattle.emath_history.proofs.history.History.velocity.Statement.{statement}
+use Rattle.emath_history.proofs.history.History.velocity.Tie as tie
 
 count-requires : tie.Need-count-requires
 count-requires c κs = search needs

@@ -1,9 +1,9 @@
 -- The sample is written in the free place, and then the old ones are dropped. Assumes nothing.
 use mathlib.Core.Path.{_∙_}
-use Rattle.emath.proofs.Samples.{add-grown}
+use Rattle.emath_history.proofs.Samples.{add-grown}
 use borrow.Author.Needs.{needs}
-use Rattle.emath.proofs.history.History.add.Statement.{statement}
-use Rattle.emath.proofs.history.History.add.Tie as tie
+use Rattle.emath_history.proofs.history.History.add.Statement.{statement}
+use Rattle.emath_history.proofs.history.History.add.Tie as tie
 
 free-requires : tie.Need-free-requires
 free-requires c κs = search needs
