@@ -31,7 +31,7 @@ use Rattle.survey.proofs.Places.{fits-loop, survey-is, none-refused, devices-ar
 use Rattle.survey.specs.Laws.{InOrder}
 use Rattle.survey.proofs.Formed.{survey-law, events-law, end-law}
 use Rattle.survey.proofs.Accepted.{accepted}
-use Rattle.survey.proofs.Marks.{ended-own}
+use Rattle.touch_ends.proofs.Marks.{ended-own}
 use Rattle.input_state.specs.declared.input.PassInput.{PassInput}
 use Rattle.input_state.specs.declared.state.InputState.{InputState}
 use Rattle.input_state.specs.View.{Lent, panel, time-given, input, begin-by, outcome, Acted, refusal-of, Looked, Begun}

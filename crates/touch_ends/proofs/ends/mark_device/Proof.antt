@@ -1,8 +1,8 @@
 -- `ends/mark_device` meets its contract: each way to a return is the case of the definition that its tests pick. Assumes nothing.
-use Rattle.survey.specs.Ends.{marked-by}
+use Rattle.touch_ends.specs.Ends.{marked-by}
 use borrow.Author.Needs.{needs}
-use Rattle.survey.proofs.ends.mark_device.Statement.{statement}
-use Rattle.survey.proofs.ends.mark_device.Tie as tie
+use Rattle.touch_ends.proofs.ends.mark_device.Statement.{statement}
+use Rattle.touch_ends.proofs.ends.mark_device.Tie as tie
 
 added-or-removed-touches-requires : tie.Need-added-or-removed-touches-requires
 added-or-removed-touches-requires c κs = search needs

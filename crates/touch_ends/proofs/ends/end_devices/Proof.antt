@@ -1,8 +1,8 @@
 -- `ends/end_devices` meets its contract: each way to a return is the case of the definition that its tests pick. Assumes nothing.
-use Rattle.survey.proofs.Marks.{all-ended}
+use Rattle.touch_ends.proofs.Marks.{all-ended}
 use borrow.Author.Needs.{needs}
-use Rattle.survey.proofs.ends.end_devices.Statement.{statement}
-use Rattle.survey.proofs.ends.end_devices.Tie as tie
+use Rattle.touch_ends.proofs.ends.end_devices.Statement.{statement}
+use Rattle.touch_ends.proofs.ends.end_devices.Tie as tie
 
 returns : tie.Need-returns
 returns c = search needs

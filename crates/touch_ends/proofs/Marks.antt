@@ -16,7 +16,7 @@ use Rattle.event_loop.specs.Lists.{touch-list, own}
 use Rattle.event_loop.specs.Loop.{Any}
 use Rattle.event_loop.proofs.Loops.{any-loop, own-any-law}
 use Rattle.event_loop.proofs.OfKind.{not-read}
-use Rattle.survey.specs.Ends.{marked-by}
+use Rattle.touch_ends.specs.Ends.{marked-by}
 
 pub or-none : (b : Bool) → b ≡ (b || false)
 or-none true = refl

@@ -1,11 +1,11 @@
 // The devices at the end of a pass: their gestures go on, start or end.
-use crate::touch::MaybeTouchEvent;
-use crate::touch::touch_event_at;
 use data::touch::TouchPhase;
 use emath::pos2::MaybePos2;
 use event_loop::LISTED;
 use event_loop::TOUCHES;
 use event_loop::listed;
+use survey::touch::MaybeTouchEvent;
+use survey::touch::touch_event_at;
 use touch_device::Device;
 use touch_state::devices::Devices;
 ghost use mathlib.Core.Path.{_≡_};
@@ -17,7 +17,7 @@ ghost use Rattle.touch_device.specs.View.{marked-view};
 ghost use Rattle.touch_state.specs.View.{view, marked};
 ghost use Rattle.event_loop.specs.Shaped.{shaped-at};
 ghost use Rattle.event_loop.specs.Lists.{listed-events, touch-list};
-ghost use Rattle.survey.specs.Ends.{marked-by};
+ghost use Rattle.touch_ends.specs.Ends.{marked-by};
 
 fn adds_or_removes(phase: TouchPhase) -> bool
     ensures { λ r. ⌜ r ≡ adds-or-removes phase ⌝ }

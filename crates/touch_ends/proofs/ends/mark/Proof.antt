@@ -1,5 +1,5 @@
 -- `ends/mark` meets its contract: each way to a return is the case of the definition that its tests pick. Assumes nothing.
-use Rattle.survey.specs.Ends.{marked-by}
+use Rattle.touch_ends.specs.Ends.{marked-by}
 use Rattle.event_loop.specs.Lists.{touch-list, listed-events}
 use Rattle.touch_state.proofs.Known.{ended, ended-start, ended-step, ended-end}
 use Rattle.touches.proofs.Places.{first-of, first-le}
@@ -8,8 +8,8 @@ use Prim.Native.Nat.{_-_, _≤_}
 use native.Mathlib.Omega.{arith}
 use mathlib.Core.Path.{_≡_, _∙_, refl, sym, ap}
 use borrow.Author.Needs.{needs}
-use Rattle.survey.proofs.ends.mark.Statement.{statement}
-use Rattle.survey.proofs.ends.mark.Tie as tie
+use Rattle.touch_ends.proofs.ends.mark.Statement.{statement}
+use Rattle.touch_ends.proofs.ends.mark.Tie as tie
 
 abbrev Inv-loop : tie.InvT-loop
 Inv-loop feed lists count n a₀ i₀ a i =

@@ -5,9 +5,9 @@ use native.Mathlib.Omega.{arith}
 use borrow.Author.Needs.{needs}
 use Rattle.model.specs.Touch.{added-or-removed-touches}
 use Rattle.event_loop.specs.Lists.{listed-events, touch-list}
-use Rattle.survey.proofs.Marks.{adds-loop}
-use Rattle.survey.proofs.ends.added_or_removed_touches.Statement.{statement}
-use Rattle.survey.proofs.ends.added_or_removed_touches.Tie as tie
+use Rattle.touch_ends.proofs.Marks.{adds-loop}
+use Rattle.touch_ends.proofs.ends.added_or_removed_touches.Statement.{statement}
+use Rattle.touch_ends.proofs.ends.added_or_removed_touches.Tie as tie
 
 abbrev Inv-loop : tie.InvT-loop
 Inv-loop device-id feed lists count found₀ i₀ found i = (i ≤ count) × (found ≡ added-or-removed-touches device-id (listed-events feed lists touch-list i))

@@ -1,11 +1,11 @@
 -- `ends::adds_at` meets its contract. Assumes nothing.
-use Rattle.survey.proofs.Marks.{adds-idle, or-none}
+use Rattle.touch_ends.proofs.Marks.{adds-idle, or-none}
 use Rattle.survey.proofs.TouchOf.{adds-is, not-9}
 use mathlib.Core.Path.{sym, _∙_}
 use borrow.Author.Tests.{eq-eqb, ne-eqb}
 use borrow.Author.Needs.{needs}
-use Rattle.survey.proofs.ends.adds_at.Statement.{statement}
-use Rattle.survey.proofs.ends.adds_at.Tie as tie
+use Rattle.touch_ends.proofs.ends.adds_at.Statement.{statement}
+use Rattle.touch_ends.proofs.ends.adds_at.Tie as tie
 
 touch-event-at-requires : tie.Need-touch-event-at-requires
 touch-event-at-requires c κs = search needs

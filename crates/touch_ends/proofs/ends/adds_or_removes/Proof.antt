@@ -1,8 +1,8 @@
 -- `ends/adds_or_removes` meets its contract: each way to a return is the case of the definition that its tests pick. Assumes nothing.
 use Rattle.model.specs.Touch.{adds-or-removes}
 use borrow.Author.Needs.{needs}
-use Rattle.survey.proofs.ends.adds_or_removes.Statement.{statement}
-use Rattle.survey.proofs.ends.adds_or_removes.Tie as tie
+use Rattle.touch_ends.proofs.ends.adds_or_removes.Statement.{statement}
+use Rattle.touch_ends.proofs.ends.adds_or_removes.Tie as tie
 
 enum-told : tie.Need-enum-told
 enum-told c = search needs
