@@ -4,10 +4,10 @@ use mathlib.Core.Logic.{⊎-elim}
 use native.Mathlib.Omega.{arith}
 use Rattle.touch_state.specs.View.{view}
 use Rattle.survey.specs.Survey.{option}
-use Rattle.input_state.proofs.Whole.{Surveys, surveys, surveys-none, refused-pass, taken-pass}
+use Rattle.input_pass.proofs.Passed.{Surveys, surveys, surveys-none, refused-pass, taken-pass}
 use borrow.Author.Needs.{needs}
-use Rattle.input_state.proofs.begin.begin_pass.Statement.{statement}
-use Rattle.input_state.proofs.begin.begin_pass.Tie as tie
+use Rattle.input_pass.proofs.begin.begin_pass.Statement.{statement}
+use Rattle.input_pass.proofs.begin.begin_pass.Tie as tie
 
 look-requires : tie.Need-look-requires
 look-requires c κs = search needs

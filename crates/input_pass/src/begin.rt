@@ -1,14 +1,14 @@
 // A pass: refused with all left as before, or taken.
-use crate::input::PassInput;
-use crate::input::own_refusal;
-use crate::input::time_of;
-use crate::state::InputState;
-use crate::state::act;
 use emath_history::history::MAX_LEN;
 use emath_history::history::PARTS;
 use event_loop::LIST_COUNT;
 use event_loop::LISTED;
 use event_loop::TOUCHES;
+use input_state::input::PassInput;
+use input_state::input::own_refusal;
+use input_state::input::time_of;
+use input_state::state::InputState;
+use input_state::state::act;
 use pointer_events::CODES;
 use pointer_events::PLACES;
 use survey::crowd::crowd;
@@ -17,8 +17,9 @@ use survey::reading::Reading;
 use survey::reading::read;
 use touch_ends::ends::end_devices;
 use touch_state::devices::Devices;
-ghost use Rattle.input_state.specs.View.{Looked, lent};
-ghost use Rattle.input_state.specs.View.{Begun as BegunAs};
+ghost use Rattle.input_state.specs.View.{lent};
+ghost use Rattle.input_pass.specs.Begun.{Looked};
+ghost use Rattle.input_pass.specs.Begun.{Begun as BegunAs};
 
 // The state and the devices after the pass, and the refusal if there is one.
 pub struct Begun {

@@ -1,10 +1,10 @@
 -- `begin::look` meets its contract. Assumes nothing.
 use mathlib.Core.Path.{_≡_, refl, sym, _∙_}
 use Rattle.survey.specs.Survey.{option}
-use Rattle.input_state.proofs.Whole.{some-none}
+use Rattle.input_pass.proofs.Passed.{some-none}
 use borrow.Author.Needs.{needs}
-use Rattle.input_state.proofs.begin.look.Statement.{statement}
-use Rattle.input_state.proofs.begin.look.Tie as tie
+use Rattle.input_pass.proofs.begin.look.Statement.{statement}
+use Rattle.input_pass.proofs.begin.look.Tie as tie
 
 own-refusal-requires : tie.Need-own-refusal-requires
 own-refusal-requires c κs = search needs
