@@ -6,7 +6,7 @@ use touch_questions::any_touches;
 use touch_state::devices::Devices;
 ghost use Rattle.model.specs.Questions.{bool};
 ghost use Rattle.model.specs.Questions as ask;
-ghost use Rattle.input_questions.specs.Answers.{of-touch-and-press};
+ghost use Rattle.scroll_questions.specs.Answers.{of-touch-and-press};
 
 // A long press by touch; `started` is started_decidedly_dragging, `time` the pointer's.
 pub fn is_long_touch(ds: Devices, s: Press, options: InputOptions, time: f64, started: bool) -> bool

@@ -2,8 +2,8 @@
 use lib.Ieee.{ofBits}
 use Rattle.model.specs.Questions.{reply, shown, zoom-reply}
 use borrow.Author.Needs.{needs}
-use Rattle.input_questions.proofs.zoom.zoom_delta.Statement.{statement}
-use Rattle.input_questions.proofs.zoom.zoom_delta.Tie as tie
+use Rattle.scroll_questions.proofs.zoom.zoom_delta.Statement.{statement}
+use Rattle.scroll_questions.proofs.zoom.zoom_delta.Tie as tie
 
 multi-touch-requires : tie.Need-multi-touch-requires
 multi-touch-requires c κs = search needs

@@ -3,7 +3,7 @@ use data::mouse_wheel::MaybeMouseWheelSource;
 use data::mouse_wheel::WheelState;
 ghost use Rattle.model.specs.Questions.{number, source};
 ghost use Rattle.model.specs.Questions as ask;
-ghost use Rattle.input_questions.specs.Answers.{of-wheel, of-wheel-at};
+ghost use Rattle.scroll_questions.specs.Answers.{of-wheel, of-wheel-at};
 
 // What drives the scrolling, if there is one.
 pub fn scroll_source(w: WheelState) -> MaybeMouseWheelSource

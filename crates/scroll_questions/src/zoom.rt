@@ -9,7 +9,7 @@ use touch_state::devices::Devices;
 ghost use mathlib.Core.Path.{_≡_};
 ghost use Rattle.model.specs.Questions.{vector, rotation, zoom-by-axis};
 ghost use Rattle.model.specs.Questions as ask;
-ghost use Rattle.input_questions.specs.Answers.{zoom-answer, zoom-2d-answer, of-zoom, of-zoom-2d, of-rotation, of-translation};
+ghost use Rattle.scroll_questions.specs.Answers.{zoom-answer, zoom-2d-answer, of-zoom, of-zoom-2d, of-rotation, of-translation};
 
 // The host multiplies the factor by the exponential of the exponent.
 pub struct Zoom {

@@ -1,8 +1,8 @@
 -- The callee's result. Assumes nothing.
 use Rattle.model.specs.Questions.{reply, shown}
 use borrow.Author.Needs.{needs}
-use Rattle.input_questions.proofs.scrolling.time_since_last_scroll.Statement.{statement}
-use Rattle.input_questions.proofs.scrolling.time_since_last_scroll.Tie as tie
+use Rattle.scroll_questions.proofs.scrolling.time_since_last_scroll.Statement.{statement}
+use Rattle.scroll_questions.proofs.scrolling.time_since_last_scroll.Tie as tie
 
 narrow-requires : tie.Need-narrow-requires
 narrow-requires c κs = search needs

@@ -1,8 +1,8 @@
 -- Each way to a return is the case of the definition that its tests pick. Assumes nothing.
 use Rattle.model.specs.Questions.{reply, shown, zoom-2d-reply}
 use borrow.Author.Needs.{needs}
-use Rattle.input_questions.proofs.zoom.zoom_delta_2d.Statement.{statement}
-use Rattle.input_questions.proofs.zoom.zoom_delta_2d.Tie as tie
+use Rattle.scroll_questions.proofs.zoom.zoom_delta_2d.Statement.{statement}
+use Rattle.scroll_questions.proofs.zoom.zoom_delta_2d.Tie as tie
 
 multi-touch-requires : tie.Need-multi-touch-requires
 multi-touch-requires c κs = search needs

@@ -1,8 +1,8 @@
 -- Each way to a return is the case of the definition that its test picks. Assumes nothing.
 use Rattle.model.specs.Questions.{reply, shown, source-if}
 use borrow.Author.Needs.{needs}
-use Rattle.input_questions.proofs.scrolling.scroll_source.Statement.{statement}
-use Rattle.input_questions.proofs.scrolling.scroll_source.Tie as tie
+use Rattle.scroll_questions.proofs.scrolling.scroll_source.Statement.{statement}
+use Rattle.scroll_questions.proofs.scrolling.scroll_source.Tie as tie
 
 is-scrolling-requires : tie.Need-is-scrolling-requires
 is-scrolling-requires c κs = search needs

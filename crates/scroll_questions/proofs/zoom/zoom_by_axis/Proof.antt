@@ -2,8 +2,8 @@
 use lib.Ieee.{ofBits}
 use Rattle.model.specs.Questions.{zoom-by-axis}
 use Rattle.model.specs.Numbers.{one}
-use Rattle.input_questions.proofs.zoom.zoom_by_axis.Statement.{statement}
-use Rattle.input_questions.proofs.zoom.zoom_by_axis.Tie as tie
+use Rattle.scroll_questions.proofs.zoom.zoom_by_axis.Statement.{statement}
+use Rattle.scroll_questions.proofs.zoom.zoom_by_axis.Tie as tie
 
 returns : tie.Need-returns
 unfolding zoom-by-axis one ofBits

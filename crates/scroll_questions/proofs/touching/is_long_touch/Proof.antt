@@ -3,8 +3,8 @@ use mathlib.Core.Bool.{and-true, and-false}
 use Rattle.model.specs.Questions.{reply, shown}
 use Rattle.model.specs.Interact.{long-press}
 use borrow.Author.Needs.{needs}
-use Rattle.input_questions.proofs.touching.is_long_touch.Statement.{statement}
-use Rattle.input_questions.proofs.touching.is_long_touch.Tie as tie
+use Rattle.scroll_questions.proofs.touching.is_long_touch.Statement.{statement}
+use Rattle.scroll_questions.proofs.touching.is_long_touch.Tie as tie
 
 is-long-press-requires : tie.Need-is-long-press-requires
 is-long-press-requires c κs = search needs

@@ -1,8 +1,8 @@
 -- The callees' results, put together. Assumes nothing.
 use Rattle.model.specs.Questions.{reply, shown}
 use borrow.Author.Needs.{needs}
-use Rattle.input_questions.proofs.zoom.rotation_delta.Statement.{statement}
-use Rattle.input_questions.proofs.zoom.rotation_delta.Tie as tie
+use Rattle.scroll_questions.proofs.zoom.rotation_delta.Statement.{statement}
+use Rattle.scroll_questions.proofs.zoom.rotation_delta.Tie as tie
 
 multi-touch-requires : tie.Need-multi-touch-requires
 multi-touch-requires c κs = search needs
