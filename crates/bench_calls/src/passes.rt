@@ -7,7 +7,7 @@ use crate::sums::single;
 use crate::sums::vec2;
 use data::pointer::MaybeF64;
 use emath::pos2::MaybePos2;
-use input_state::begin::begin_pass;
+use input_pass::begin::begin_pass;
 use input_state::input::MaybeRect;
 use input_state::input::PassInput;
 use input_state::screen::default_options;

@@ -2,7 +2,6 @@
 use Rattle.ieee.specs.Narrow as ieee-Narrow
 use Rattle.ieee.specs.Sqrt as ieee-Sqrt
 use Rattle.emath.specs.History as emath-History
-use Rattle.emath.specs.Ring as emath-Ring
 use Rattle.emath.specs.Vec as emath-Vec
 use Rattle.data.specs.Limits as data-Limits
 use Rattle.data.specs.Modifiers as data-Modifiers
@@ -40,10 +39,6 @@ ieee-sqrt = Type 0
 unfoldable pub emath-history : Type 1
 unfolding emath-History.max-age emath-History.drop-old emath-History.flush emath-History.add emath-History.last emath-History.duration emath-History.velocity
 emath-history = Type 0
-
-unfoldable pub emath-ring : Type 1
-unfolding emath-Ring.position-at emath-Ring.sample-at emath-Ring.samples emath-Ring.view emath-Ring.grown
-emath-ring = Type 0
 
 unfoldable pub emath-vec : Type 1
 unfolding emath-Vec.vec-zero emath-Vec.pos-zero emath-Vec.vec-add emath-Vec.vec-scale emath-Vec.vec-div emath-Vec.pos-sub emath-Vec.vec-ne emath-Vec.length-sq emath-Vec.length emath-Vec.distance emath-Vec.distance-sq emath-Vec.normalized emath-Vec.height emath-Vec.abs emath-Vec.vec-abs emath-Vec.larger emath-Vec.max-elem
@@ -142,5 +137,5 @@ unfolding edges-Words.same edges-Words.float-words edges-Words.present edges-Wor
 edges-words = Type 0
 
 unfoldable pub opened : Type 1
-unfolding ieee-narrow ieee-sqrt emath-history emath-ring emath-vec data-limits data-modifiers data-sense feed-decode feed-encode feed-feed feed-laws feed-shape feed-split model-calls model-interact model-numbers model-options model-pass model-pointer model-questions model-touch model-wheel model-widgets edges-cases edges-needed edges-steps edges-words Ieee.add Ieee.sub Ieee.mul Ieee.div Ieee.lt Ieee.le Ieee.eq Ieee.ne Ieee.fits Ieee.neg Ieee.round Ieee.sum Ieee.ofInt Ieee.ofBits Ieee.toBits Ieee.size
+unfolding ieee-narrow ieee-sqrt emath-history emath-vec data-limits data-modifiers data-sense feed-decode feed-encode feed-feed feed-laws feed-shape feed-split model-calls model-interact model-numbers model-options model-pass model-pointer model-questions model-touch model-wheel model-widgets edges-cases edges-needed edges-steps edges-words Ieee.add Ieee.sub Ieee.mul Ieee.div Ieee.lt Ieee.le Ieee.eq Ieee.ne Ieee.fits Ieee.neg Ieee.round Ieee.sum Ieee.ofInt Ieee.ofBits Ieee.toBits Ieee.size
 opened = Type 0

@@ -1,2 +1,1 @@
 pub mod Abs
-pub mod Samples

@@ -1,4 +1,3 @@
 pub mod Types
 pub mod Vec
 pub mod History
-pub mod Ring

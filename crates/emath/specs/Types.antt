@@ -6,4 +6,3 @@ pub use Rattle.emath.specs.declared.vec2.Vec2.{Vec2}
 pub use Rattle.emath.specs.declared.vec2.MaybeVec2.{MaybeVec2}
 pub use Rattle.emath.specs.declared.vec2.MaybeVec2.the-variants.{None as no-vec, Some as some-vec}
 pub use Rattle.emath.specs.declared.rect.Rect.{Rect}
-pub use Rattle.emath.specs.declared.history.History.{History}

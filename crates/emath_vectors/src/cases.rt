@@ -6,11 +6,11 @@ use crate::record::same;
 use crate::record::same_vec;
 use crate::record::vec_at;
 use crate::record::word;
-use emath::history::History;
-use emath::history::MAX_LEN;
-use emath::history::PARTS;
 use emath::rect::Rect;
 use emath::vec2::MaybeVec2;
+use emath_history::history::History;
+use emath_history::history::MAX_LEN;
+use emath_history::history::PARTS;
 
 pub struct Tally {
     pub cases: u64,

@@ -1,4 +1,3 @@
 pub mod Walk
 pub mod Loops
 pub mod OfKind
-pub mod KnownKind

@@ -1,16 +1,12 @@
 // A feed read for one component of the panel: it decodes only its own events, whose places are in its list.
 // Floats are not tested again: a pass is surveyed before.
-pub mod readers;
 
-use data::event::Event;
 use data::limits::MAX_EVENTS;
-use feed::shape::MaybeEvent;
 ghost use mathlib.Core.Path.{_≡_};
 ghost use Prim.Native.Nat.{_+_, _*_};
 ghost use lib.ListN.{getD};
 ghost use Rattle.data.specs.Limits.{max-events};
 ghost use Rattle.feed.specs.Split.{kind};
-ghost use Rattle.event_loop.specs.Shaped.{event-or-other};
 ghost use Rattle.event_loop.specs.Lists.{list-of};
 
 // The components that read events: the numbers of their lists. List 0 is of the events that none reads.
@@ -29,25 +25,25 @@ pub const LIST_COUNT: usize = 6;
 // The places of all lists: `MAX_EVENTS` for each.
 pub const LISTED: usize = 384;
 
-// The list of each kind.
-const LISTS: [u8; 16] = [
-    0,
-    KEYS,
-    KEYS,
-    POINTER,
-    POINTER,
-    POINTER,
-    POINTER,
-    SUMS,
-    SUMS,
-    TOUCHES,
-    WHEEL,
-    KEYS,
-    0,
-    0,
-    0,
-    0,
-];
+// The list of a kind.
+fn list_of(kind: u32) -> u8
+    ensures { λ r. ⌜ r ≡ list-of kind ⌝ }
+{
+    match kind {
+        1 => KEYS,
+        2 => KEYS,
+        3 => POINTER,
+        4 => POINTER,
+        5 => POINTER,
+        6 => POINTER,
+        7 => SUMS,
+        8 => SUMS,
+        9 => TOUCHES,
+        10 => WHEEL,
+        11 => KEYS,
+        _ => 0,
+    }
+}
 
 // The kind of the event at `at`; 0 past the end.
 pub fn kind_at(feed: &[u32], at: usize) -> u32
@@ -64,8 +60,7 @@ pub fn list_at(feed: &[u32], at: usize) -> u8
     ensures { λ r. ⌜ r ≡ list-of (kind (getD (now (feed .entry)) at 0)) ⌝ }
 {
     if at < feed.len() {
-        let kind = (feed[at] / 0x1000_0000) as usize;
-        return LISTS[kind];
+        return list_of(feed[at] / 0x1000_0000);
     }
     0
 }
@@ -79,13 +74,4 @@ pub fn listed(lists: &[u16], list: u8, i: u8) -> usize
         return lists[j] as usize;
     }
     0
-}
-
-fn event_or_other(e: MaybeEvent) -> Event
-    ensures { λ r. ⌜ r ≡ event-or-other e ⌝ }
-{
-    match e {
-        MaybeEvent::None => Event::Other,
-        MaybeEvent::Some(event) => event,
-    }
 }

@@ -19,14 +19,16 @@ use Rattle.survey.specs.Laws.{InOrder}
 use Rattle.survey.proofs.Formed.{none-in-order}
 use Rattle.touch_state.specs.declared.devices.Devices.{Devices}
 use Rattle.touch_state.specs.View.{view}
-use Rattle.interaction.specs.declared.state.Interacted.{Interacted}
-use Rattle.interaction.specs.declared.state.Interacted.the-variants.{Refused, Taken}
-use Rattle.interaction.specs.View.{interaction-of, snapshot-of}
-use Rattle.input_state.specs.declared.begin.Begun.{Begun}
+use Rattle.interaction_state.specs.declared.state.Interacted.{Interacted}
+use Rattle.interaction_state.specs.declared.state.Interacted.the-variants.{Refused, Taken}
+use Rattle.interaction_state.specs.View.{interaction-of, snapshot-of}
+use Rattle.input_pass.specs.declared.begin.Begun.{Begun}
 use Rattle.input_state.specs.declared.input.PassInput as Declared
 use Rattle.input_state.specs.declared.state.InputState.{InputState}
-use Rattle.input_state.specs.View.{Lent, outcome}
-use Rattle.input_state.specs.View as Contract
+use Rattle.input_state.specs.View.{Lent}
+use Rattle.input_pass.specs.Begun.{outcome}
+use Rattle.input_state.specs.View as Given
+use Rattle.input_pass.specs.Begun as Contract
 use Rattle.panel.specs.Steps.{ShowsInput}
 use Rattle.panel.proofs.Lookup.{looked-up}
 use Rattle.histories.specs.History.{Running, shows, Starts, Passes, after-pass, pass-answer, Given, interact-input, InteractsAs, after-interact, interact-answer, History, rests, then-pass, then-interact}
@@ -48,7 +50,7 @@ kept x s ds l e f g =
     ∙ ap (λ (m : Lent). shows (with-input x (x .panel .input) (x .panel .devices) m)) g
 
 pass-step : (x : Running) (given : Declared.PassInput) (feed : List ℕ) (r : Begun) (l : Lent) → InOrder (view (x .panel .devices)) → Passes x given feed r l
-    → Stepped x (passes (Contract.input feed given)) (pass-answer x r l) (after-pass x r l)
+    → Stepped x (passes (Given.input feed given)) (pass-answer x r l) (after-pass x r l)
 unfolding call of-pass outcome after
 pass-step x given feed r l o h =
     record {

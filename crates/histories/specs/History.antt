@@ -18,14 +18,16 @@ use Rattle.hit_lists.specs.Hits.{input}
 use Rattle.id_lists.specs.Ids.{option-of}
 use Rattle.widget_index.specs.declared.table.WidgetRects.{WidgetRects}
 use Rattle.widget_rect.specs.WellFormed.{WellFormed}
-use Rattle.interaction.specs.declared.state.Interacted.{Interacted}
-use Rattle.interaction.specs.declared.state.Interacted.the-variants.{Refused, Taken}
-use Rattle.interaction.specs.View.{snapshot-of}
-use Rattle.interaction.specs.Lookup.{lookup}
-use Rattle.input_state.specs.declared.begin.Begun.{Begun}
+use Rattle.interaction_state.specs.declared.state.Interacted.{Interacted}
+use Rattle.interaction_state.specs.declared.state.Interacted.the-variants.{Refused, Taken}
+use Rattle.interaction_state.specs.View.{snapshot-of}
+use Rattle.interaction_state.specs.Lookup.{lookup}
+use Rattle.input_pass.specs.declared.begin.Begun.{Begun}
 use Rattle.input_state.specs.declared.input.PassInput.{PassInput}
-use Rattle.input_state.specs.View.{Lent, outcome}
-use Rattle.input_state.specs.View as Contract
+use Rattle.input_state.specs.View.{Lent}
+use Rattle.input_pass.specs.Begun.{outcome}
+use Rattle.input_state.specs.View as Given
+use Rattle.input_pass.specs.Begun as Contract
 use Rattle.panel.specs.declared.state.Panel.{Panel}
 use Rattle.panel.specs.View.{shown-by, NoPresses, Fresh}
 use Rattle.panel.specs.Steps.{Interacts, widgets-of}
@@ -98,7 +100,7 @@ pub data History : Running → List Call → List Outcome → Running → Type 0
   rests : {x : Running} → History x [] [] x
   then-pass : {x y : Running} {calls : List Call} {answers : List Outcome} (given : PassInput) (feed : List ℕ) (r : Begun) (l : Lent)
       → Passes x given feed r l → History (after-pass x r l) calls answers y
-      → History x (passes (Contract.input feed given) ∷ calls) (pass-answer x r l ∷ answers) y
+      → History x (passes (Given.input feed given) ∷ calls) (pass-answer x r l ∷ answers) y
   then-interact : {x y : Running} {calls : List Call} {answers : List Outcome} (g : Given) (r : Interacted) (hovered contains : List ℕ)
       → InteractsAs x g r hovered contains → History (after-interact x r) calls answers y
       → History x (interacts (interact-input g) ∷ calls) (interact-answer x r hovered contains ∷ answers) y

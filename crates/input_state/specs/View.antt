@@ -1,29 +1,23 @@
 -- What the structs of src/ and the lent arrays mean: the model's records.
 use Prim.Native.Nat.{ℕ, _≤_}
 use mathlib.Core.Path.{_≡_}
-use mathlib.Core.Bool.{Bool, not, _&&_}
+use mathlib.Core.Bool.{not, _&&_}
 use mathlib.Core.List.{List, [], map}
 use mathlib.Core.Option.{Option, none, some}
 use lib.ListN.{length}
 use lib.Ieee.{Float}
 use Rattle.data.specs.Limits.{max-events}
-use Rattle.feed.specs.Decode.{items}
-use Rattle.model.specs.Types.{Rect, InputOptions, MaybeF64, no-time, some-time, PassRefusal, Event}
-use Rattle.model.specs.Pointer.{Place, place-pass, Press, press-pass, is-decidedly-dragging}
+use Rattle.model.specs.Types.{Rect, InputOptions, MaybeF64, no-time, some-time, Event}
+use Rattle.model.specs.Pointer.{place-pass, press-pass, is-decidedly-dragging}
 use Rattle.model.specs.Touch.{TouchState, end-touches}
 use Rattle.model.specs.Wheel.{wheel-pass}
-use Rattle.model.specs.Pass.{Panel, Interaction, or-else, own-refusal, time-of, rect-or, clock-pass, screen-pass, keys-pass, sums-of, decidedly-dragging, fresh, pass-events, pass}
+use Rattle.model.specs.Pass.{Panel, Interaction, time-of, rect-or, clock-pass, screen-pass, keys-pass, sums-of, decidedly-dragging, fresh, pass}
 use Rattle.model.specs.Pass as Pass
 use Rattle.event_loop.specs.Shaped.{shaped-events}
 use Rattle.event_loop.specs.Lists.{Listed}
 use Rattle.pointer_place.specs.View.{place}
 use Rattle.pointer_state.specs.View.{press}
-use Rattle.touch_state.specs.View.{view}
-use Rattle.touch_state.specs.declared.devices.Devices.{Devices}
 use Rattle.key_state.specs.View.{presses-of, keys}
-use Rattle.survey.specs.declared.crowd.Surveyed.{Surveyed}
-use Rattle.survey.specs.Survey.{option, fits-events, fits-survey}
-use Rattle.survey.specs.Laws.{InOrder}
 use Rattle.input_state.specs.declared.input.MaybeRect.{MaybeRect}
 use Rattle.input_state.specs.declared.input.MaybeRect.the-variants.{None as no-rect, Some as some-rect}
 use Rattle.input_state.specs.declared.input.PassInput.{PassInput}
@@ -32,7 +26,6 @@ use Rattle.input_state.specs.declared.screen.Screen.{Screen}
 use Rattle.input_state.specs.declared.sums.Sums.{Sums}
 use Rattle.input_state.specs.declared.pointer.Pointer.{Pointer}
 use Rattle.input_state.specs.declared.state.InputState.{InputState}
-use Rattle.input_state.specs.declared.begin.Begun as declared
 
 -- ---- what a pass is given
 abbrev pub time-given : MaybeF64 → Option Float
@@ -139,29 +132,3 @@ pub record Acted (i : PassInput) (ws ps counts : List ℕ) (l : Lent) (s : Input
   pub result : Listed ws ps counts → length (shaped-events ws) ≤ max-events → (vs us : List TouchState) (n : Interaction) (t : ℕ) →
       panel l' r (map (end-touches (time-of (input ws i) (s .clock .time)) (s .pointer .place .«interact_pos») (shaped-events ws)) us) n t
       ≡ begin-by (shaped-events ws) us (panel l s vs n t) (input ws i)
-
--- 01's refusals in their order, on the devices that the arrays hold
-unfoldable pub refusal-of : PassInput → List ℕ → Float → List TouchState → Option PassRefusal
-refusal-of i ws old vs = or-else (own-refusal (input ws i) old) (fits-survey max-events (items ws) vs)
-
-pub record Looked (i : PassInput) (ws ps : List ℕ) (old : Float) (vs : List TouchState) (r : Surveyed) : Type 0 where
-  pub refusal : option (r .refusal) ≡ refusal-of i ws old vs
-  pub devices : refusal-of i ws old vs ≡ none → view (r .devices) ≡ fits-events (shaped-events ws) vs
-  pub lists : refusal-of i ws old vs ≡ none → Listed ws ps (r .counts)
-
--- the outcome of a pass in the model's terms
-unfoldable pub outcome : Option PassRefusal → Panel → Pass.Passed
-outcome none p = Pass.taken p
-outcome (some q) p = Pass.refused q
-
--- A pass of any state: refused, then all is as before; taken, then the state is the model's `begin-pass` of the feed's events, on the devices that the arrays hold.
--- Of devices in order, as every pass leaves them, it is the model's `pass`, for any interaction and tally beside it.
-pub record Begun (i : PassInput) (ws : List ℕ) (l : Lent) (s : InputState) (ds : Devices) (l' : Lent) (r : declared.Begun) : Type 0 where
-  pub refusal : option (r .refusal) ≡ refusal-of i ws (s .clock .time) (view ds)
-  pub refused : (refusal-of i ws (s .clock .time) (view ds) ≡ none → ⊥) → (r .state ≡ s) × (r .devices ≡ ds) × (l' ≡ l)
-  pub taken : refusal-of i ws (s .clock .time) (view ds) ≡ none → (n : Interaction) (t : ℕ) →
-      panel l' (r .state) (view (r .devices)) n t
-      ≡ begin-by (pass-events (input ws i)) (fits-events (pass-events (input ws i)) (view ds)) (panel l s (view ds) n t) (input ws i)
-  pub whole : InOrder (view ds) → (n : Interaction) (t : ℕ) →
-      outcome (option (r .refusal)) (panel l' (r .state) (view (r .devices)) n t) ≡ pass (panel l s (view ds) n t) (input ws i)
-  pub in-order : InOrder (view ds) → InOrder (view (r .devices))

@@ -1,5 +1,4 @@
-// InputState of egui's input_state/mod.rs: the state between passes, and a pass.
-pub mod begin;
+// InputState of egui's input_state/mod.rs: the state between passes, and its parts in a pass.
 pub mod clock;
 pub mod input;
 pub mod pointer;

@@ -1,7 +1,7 @@
 // The pointer in a pass.
 use data::options::InputOptions;
-use emath::history::MAX_LEN;
-use emath::history::PARTS;
+use emath_history::history::MAX_LEN;
+use emath_history::history::PARTS;
 use event_loop::LISTED;
 use pass_loops::place::place_pass;
 use pass_loops::press::press_pass;

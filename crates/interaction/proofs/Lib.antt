@@ -1,4 +1,1 @@
-pub mod Looked
-pub mod Walk
-pub mod Dragged
 pub mod Taken

@@ -20,10 +20,10 @@ use Rattle.hit_lists.proofs.Walk.{not-too-many}
 use Rattle.id_lists.specs.Ids.{option-of, Written, hovered-ids, contains-ids}
 use Rattle.id_lists.proofs.Written.{list, beyond}
 use lib.Ieee.{Float}
-use Rattle.interaction.specs.Lookup.{lookup, Looks}
+use Rattle.interaction_state.specs.Lookup.{lookup, Looks}
 use Rattle.interaction.specs.Types.{WidgetRects, MaybeHit, MaybeId, Interaction, Seen, Going, Outcome, Answer}
-use Rattle.interaction.specs.View.{interaction-of, going-of, seen-of, snapshot-of}
-use Rattle.interaction.specs.Post.{kept-after, Answers, Answered}
+use Rattle.interaction_state.specs.View.{interaction-of, going-of, seen-of, snapshot-of, kept-after}
+use Rattle.interaction.specs.Post.{Answers, Answered}
 
 -- ---- the answer before anything is written
 

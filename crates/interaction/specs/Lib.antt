@@ -1,4 +1,2 @@
 pub mod Types
-pub mod View
-pub mod Lookup
 pub mod Post

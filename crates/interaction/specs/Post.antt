@@ -1,7 +1,6 @@
 -- What an interact promises.
 use Prim.Native.Nat.{ℕ}
 use mathlib.Core.Path.{_≡_}
-use mathlib.Core.Bool.{_&&_}
 use mathlib.Core.List.{List}
 use lib.ListN.{drop}
 use Rattle.model.specs.Types.{InteractRefusal}
@@ -9,16 +8,7 @@ use Rattle.model.specs.Pass as Pass
 use Rattle.model.specs.Interact as Model
 use Rattle.id_lists.specs.Ids.{option-of, Written, hovered-ids, contains-ids}
 use Rattle.interaction.specs.Types.{MaybeHit, Interaction, Seen, Outcome, Answer, Interacted, Refused, Taken}
-use Rattle.interaction.specs.View.{interaction-of, snapshot-of}
-
--- the model's `interaction-after`, of what the walk leaves
-unfoldable pub kept-after : Seen → Model.InteractInput → Pass.Interaction → Pass.Interaction
-kept-after v x s =
-    record {
-      potential-click-id = Model.kept-if (v .«could_any_button_be_click» && v .«any_down» && v .«has_pointer») (s .potential-click-id);
-      potential-drag-id = Model.kept-if (v .«any_down» && v .«has_pointer») (s .potential-drag-id);
-      dragged = Model.dragged-after x (v .«is_decidedly_dragging») s;
-    }
+use Rattle.interaction_state.specs.View.{interaction-of, snapshot-of}
 
 -- the snapshot but for the two id sets, and the interaction state after it
 pub record Answers (v : Model.Seen) (x : Model.InteractInput) (s : Pass.Interaction) (r : Outcome) : Type 0 where

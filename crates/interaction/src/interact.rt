@@ -1,13 +1,4 @@
 // `interact`: all checks first, then the answer, then the writes.
-use crate::drag::interaction_after;
-use crate::events::walked;
-use crate::state::Answer;
-use crate::state::Interacted;
-use crate::state::Interaction;
-use crate::state::InteractionSnapshot;
-use crate::state::Outcome;
-use crate::state::Seen;
-use crate::state::if_changed;
 use data::limits::MAX_TALLY;
 use data::refusal::InteractRefusal;
 use hit_lists::MaybeHit;
@@ -17,6 +8,15 @@ use id_lists::MaybeId;
 use id_lists::contains_pointer;
 use id_lists::hovered;
 use id_lists::is_some;
+use interaction_state::drag::interaction_after;
+use interaction_state::events::walked;
+use interaction_state::state::Answer;
+use interaction_state::state::Interacted;
+use interaction_state::state::Interaction;
+use interaction_state::state::InteractionSnapshot;
+use interaction_state::state::Outcome;
+use interaction_state::state::Seen;
+use interaction_state::state::if_changed;
 use pointer_events::CODES;
 use widget_index::table::Numbers;
 use widget_index::table::WidgetRects;
@@ -35,8 +35,8 @@ ghost use Rattle.id_lists.specs.Ids.{option-of};
 ghost use Rattle.pointer_events.specs.Events.{events};
 ghost use Rattle.model.specs.Pass.{Panel};
 ghost use Rattle.model.specs.Interact.{InteractInput, is-some, one-if, seen, interact, interact-by};
-ghost use Rattle.interaction.specs.View.{interaction-of, seen-of};
-ghost use Rattle.interaction.specs.Lookup.{lookup, Looks};
+ghost use Rattle.interaction_state.specs.View.{interaction-of, seen-of};
+ghost use Rattle.interaction_state.specs.Lookup.{lookup, Looks};
 ghost use Rattle.interaction.specs.Post.{Answers, Answered, Interacts};
 
 // The snapshot but for the two id sets.

@@ -7,8 +7,8 @@ use event_loop::KEYS;
 use event_loop::LISTED;
 use event_loop::kind_at;
 use event_loop::listed;
-use event_loop::readers::focus_at;
-use event_loop::readers::modifiers_at;
+use event_readers::readers::focus_at;
+use event_readers::readers::modifiers_at;
 ghost use mathlib.Core.Path.{_≡_};
 ghost use mathlib.Core.List.{List};
 ghost use Prim.Native.Nat.{ℕ, _<_};
@@ -110,7 +110,7 @@ fn key_at(k: Keys, presses: &mut [u8; 145], feed: &[u32], at: usize) -> Keys
 {
     let kind = kind_at(feed, at);
     if kind == 1 {
-        let e = event_loop::readers::key_at(feed, at);
+        let e = event_readers::readers::key_at(feed, at);
         return key_event(k, presses, e);
     }
     if kind == 2 {

@@ -34,7 +34,7 @@ fn zoom_at(factor: f32, feed: &[u32], at: usize) -> f32
     ensures { λ r. ⌜ r ≡ zoom-event (shaped-at (now (feed .entry)) at) factor ⌝ }
 {
     if kind_at(feed, at) == 7 {
-        let e = event_loop::readers::zoom_at(feed, at);
+        let e = event_readers::readers::zoom_at(feed, at);
         return zoom_event(e, factor);
     }
     factor
@@ -77,7 +77,7 @@ fn rotation_at(radians: f32, feed: &[u32], at: usize) -> f32
     ensures { λ r. ⌜ r ≡ rotation-event (shaped-at (now (feed .entry)) at) radians ⌝ }
 {
     if kind_at(feed, at) == 8 {
-        let e = event_loop::readers::rotate_at(feed, at);
+        let e = event_readers::readers::rotate_at(feed, at);
         return rotation_event(e, radians);
     }
     radians

@@ -9,7 +9,7 @@ use Rattle.widget_index.specs.Table.{known-at, view, find}
 use Rattle.widget_rect.specs.Questions as Questions
 use Rattle.widget_rect.specs.WellFormed.{WellFormed}
 use Rattle.widget_rect.proofs.Index.{finds-known}
-use Rattle.interaction.specs.Lookup.{at-entry, lookup}
+use Rattle.interaction_state.specs.Lookup.{at-entry, lookup}
 use Rattle.panel.specs.Steps.{widgets-of}
 
 module _ (set : WidgetRects) (words numbers : List ℕ) (edges : List Float) where

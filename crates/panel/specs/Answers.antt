@@ -17,8 +17,8 @@ use Rattle.touch_state.specs.declared.devices.Devices.{Devices}
 use Rattle.touch_state.specs.View.{view}
 use Rattle.key_state.specs.declared.keys.Keys.{Keys}
 use Rattle.key_state.specs.View.{keys}
-use Rattle.interaction.specs.declared.state.Interaction.{Interaction}
-use Rattle.interaction.specs.View.{interaction-of}
+use Rattle.interaction_state.specs.declared.state.Interaction.{Interaction}
+use Rattle.interaction_state.specs.View.{interaction-of}
 use Rattle.input_state.specs.declared.clock.Clock.{Clock}
 use Rattle.input_state.specs.declared.screen.Screen.{Screen}
 use Rattle.input_state.specs.declared.pointer.Pointer.{Pointer}

@@ -20,11 +20,11 @@ use Rattle.hit_lists.specs.Hits.{input}
 use Rattle.widget_index.specs.declared.table.WidgetRects.{WidgetRects}
 use Rattle.widget_index.specs.Table as Table
 use Rattle.widget_rect.specs.WellFormed.{WellFormed}
-use Rattle.interaction.specs.declared.state.Interaction.{Interaction}
-use Rattle.interaction.specs.declared.state.Interacted.{Interacted}
-use Rattle.interaction.specs.declared.state.Seen.{Seen}
-use Rattle.interaction.specs.View.{interaction-of, seen-of}
-use Rattle.interaction.specs.Lookup.{lookup}
+use Rattle.interaction_state.specs.declared.state.Interaction.{Interaction}
+use Rattle.interaction_state.specs.declared.state.Interacted.{Interacted}
+use Rattle.interaction_state.specs.declared.state.Seen.{Seen}
+use Rattle.interaction_state.specs.View.{interaction-of, seen-of}
+use Rattle.interaction_state.specs.Lookup.{lookup}
 use Rattle.interaction.specs.Post as Post
 use Rattle.input_state.specs.declared.clock.Clock.{Clock}
 use Rattle.input_state.specs.declared.screen.Screen.{Screen}

@@ -5,7 +5,7 @@ use Rattle.model.specs.Pass.{fresh}
 use Rattle.model.specs.Pass as Model
 use Rattle.touch_state.specs.View.{view}
 use Rattle.key_state.specs.View.{presses-of}
-use Rattle.interaction.specs.View.{interaction-of}
+use Rattle.interaction_state.specs.View.{interaction-of}
 use Rattle.input_state.specs.View.{Lent, panel}
 use Rattle.panel.specs.declared.state.Panel.{Panel}
 

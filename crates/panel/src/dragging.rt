@@ -1,7 +1,7 @@
 // What the interacts have left.
 use crate::state::Panel;
 use id_lists::MaybeId;
-use interaction::state::Interaction;
+use interaction_state::state::Interaction;
 ghost use Rattle.id_lists.specs.Ids.{option-of};
 ghost use Rattle.model.specs.Questions.{settled, count, widget};
 ghost use Rattle.model.specs.Questions as ask;

@@ -1,15 +1,15 @@
 // A pass. It reads and writes no interaction and no tally.
-use emath::history::MAX_LEN;
-use emath::history::PARTS;
-use input_state::begin::Begun;
-use input_state::begin::begin_pass;
+use emath_history::history::MAX_LEN;
+use emath_history::history::PARTS;
+use input_pass::begin::Begun;
+use input_pass::begin::begin_pass;
 use input_state::input::PassInput;
 use input_state::state::InputState;
 use pointer_events::CODES;
 use pointer_events::PLACES;
 use touch_state::devices::Devices;
 ghost use Rattle.input_state.specs.View.{lent};
-ghost use Rattle.input_state.specs.View.{Begun as BegunAs};
+ghost use Rattle.input_pass.specs.Begun.{Begun as BegunAs};
 
 // Refused, with the state, the devices and every lent place as before; or taken.
 pub fn pass(

@@ -24,11 +24,11 @@ pub fn is_scrolling(wheel: WheelState) -> bool
 pub fn scroll_source(wheel: WheelState) -> MaybeMouseWheelSource
     ensures { λ r. ⌜ of-wheel (settled ask.scroll-source) wheel (source r) ⌝ }
 {
-    input_questions::scrolling::scroll_source(wheel)
+    scroll_questions::scrolling::scroll_source(wheel)
 }
 
 pub fn time_since_last_scroll(wheel: WheelState, clock: Clock) -> f32
     ensures { λ r. ⌜ of-wheel-at (settled ask.time-since-last-scroll) wheel clock (number r) ⌝ }
 {
-    input_questions::scrolling::time_since_last_scroll(wheel, clock.time)
+    scroll_questions::scrolling::time_since_last_scroll(wheel, clock.time)
 }

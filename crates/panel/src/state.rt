@@ -1,7 +1,7 @@
 // The panel between two calls.
 use id_lists::MaybeId;
 use input_state::state::InputState;
-use interaction::state::Interaction;
+use interaction_state::state::Interaction;
 use touch_state::devices::Devices;
 ghost use Rattle.panel.specs.View.{Fresh};
 

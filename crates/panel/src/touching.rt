@@ -49,5 +49,5 @@ pub fn is_long_touch(clock: Clock, screen: Screen, pointer: Pointer, devices: De
     let options = screen.options;
     let press = pointer.press;
     let started = pointer.started_decidedly_dragging;
-    input_questions::touching::is_long_touch(devices, press, options, clock.pointer_time, started)
+    scroll_questions::touching::is_long_touch(devices, press, options, clock.pointer_time, started)
 }

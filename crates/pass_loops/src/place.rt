@@ -1,13 +1,13 @@
 // Where the pointer is.
-use emath::history::MAX_LEN;
-use emath::history::PARTS;
+use emath_history::history::MAX_LEN;
+use emath_history::history::PARTS;
 use event_loop::LISTED;
 use event_loop::POINTER;
 use event_loop::kind_at;
 use event_loop::listed;
-use event_loop::readers::button_at;
-use event_loop::readers::motion_at;
-use event_loop::readers::moved_at;
+use event_readers::readers::button_at;
+use event_readers::readers::motion_at;
+use event_readers::readers::moved_at;
 use pointer_place::Place;
 use pointer_place::end_place;
 use pointer_place::place_event;
@@ -39,7 +39,7 @@ fn place_at(p: Place, feed: &[u32], at: usize) -> Place
             place_event(p, e)
         }
         6 => {
-            let e = event_loop::readers::gone_at(feed, at);
+            let e = event_readers::readers::gone_at(feed, at);
             place_event(p, e)
         }
         _ => p,
@@ -64,7 +64,7 @@ fn gone_at(feed: &[u32], at: usize) -> bool
     ensures { λ r. ⌜ r ≡ clear-history-after (shaped-at (now (feed .entry)) at ∷ []) ⌝ }
 {
     if kind_at(feed, at) == 6 {
-        let e = event_loop::readers::gone_at(feed, at);
+        let e = event_readers::readers::gone_at(feed, at);
         return pointer_place::clears_history(false, e);
     }
     false

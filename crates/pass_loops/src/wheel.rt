@@ -61,7 +61,7 @@ fn wheel_at(
     ensures { λ r. ⌜ r ≡ wheel-event «viewport_rect» options time (shaped-at (now (feed .entry)) at) w ⌝ }
 {
     if kind_at(feed, at) == 10 {
-        let e = event_loop::readers::wheel_at(feed, at);
+        let e = event_readers::readers::wheel_at(feed, at);
         return wheel_event(w, viewport_rect, options, time, e);
     }
     w

@@ -9,7 +9,7 @@ use lib.Dec.{eqb, ltb}
 use lib.ListN.{length, take, drop, getD, set, length-append}
 use lib.Seq.{lt-length-set, getD-set-same, getD-set-other, take-all, take-append-le, drop-set-lt}
 use lib.Ieee.{Float, nan}
-use Rattle.emath.specs.Ring.{position-at, set-position}
+use Rattle.emath_history.specs.Ring.{position-at, set-position}
 use Rattle.data.specs.Limits.{max-events}
 use Rattle.data.specs.Modifiers.{modifiers-number}
 use Rattle.feed.specs.Shape.{button-of}

@@ -8,7 +8,7 @@ use lib.Dec.{eqb, ltb}
 use lib.ListN.{getD, set, take}
 use lib.Ieee.{Float}
 use Rattle.emath.specs.Vec.{pos-zero}
-use Rattle.emath.specs.Ring.{position-at, set-position}
+use Rattle.emath_history.specs.Ring.{position-at, set-position}
 use Rattle.data.specs.Limits.{max-events}
 use Rattle.data.specs.Numbers.{button-number}
 use Rattle.data.specs.Modifiers.{modifiers-number, modifiers-of}

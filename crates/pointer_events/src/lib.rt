@@ -11,7 +11,7 @@ ghost use mathlib.Core.List.{List};
 ghost use Prim.Native.Nat.{_+_, _*_, _<_};
 ghost use lib.ListN.{length};
 ghost use lib.Ieee.{Float};
-ghost use Rattle.emath.specs.Ring.{set-position};
+ghost use Rattle.emath_history.specs.Ring.{set-position};
 ghost use Rattle.data.specs.Limits.{max-events};
 ghost use Rattle.feed.specs.Shape.{button-of};
 ghost use Rattle.model.specs.Types.{Pos2, Click, Pressed, Released, no-click, some-click};

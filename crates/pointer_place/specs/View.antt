@@ -4,9 +4,9 @@ use mathlib.Core.Bool.{Bool}
 use mathlib.Core.List.{List}
 use lib.ListN.{set}
 use lib.Ieee.{Float}
-use Rattle.emath.specs.declared.history.History.{History}
+use Rattle.emath_history.specs.declared.history.History.{History}
 use Rattle.emath.specs.History.{flush}
-use Rattle.emath.specs.Ring.{view, free, set-position}
+use Rattle.emath_history.specs.Ring.{view, free, set-position}
 use Rattle.model.specs.Types.{MaybePos2, no-pos, some-pos}
 use Rattle.model.specs.Pointer.{add-latest, end-place}
 use Rattle.model.specs.Pointer as Pointer

@@ -1,19 +1,19 @@
 // Where the pointer is and how it moves. The caller lends the places of the history.
 use data::event::Event;
-use emath::history::History;
-use emath::history::MAX_LEN;
-use emath::history::PARTS;
 use emath::pos2::MaybePos2;
 use emath::pos2::Pos2;
 use emath::vec2::MaybeVec2;
 use emath::vec2::Vec2;
+use emath_history::history::History;
+use emath_history::history::MAX_LEN;
+use emath_history::history::PARTS;
 ghost use mathlib.Core.Path.{_≡_};
 ghost use mathlib.Core.Bool.{_||_, cond};
 ghost use mathlib.Core.List.{List, [], _∷_};
 ghost use lib.Ieee.{Float};
 ghost use Rattle.emath.specs.Vec.{normalized};
 ghost use Rattle.emath.specs.History.{velocity};
-ghost use Rattle.emath.specs.Ring.{view};
+ghost use Rattle.emath_history.specs.Ring.{view};
 ghost use Rattle.model.specs.Types.{PointerButton, Modifiers, Event, Button, PointerGone};
 ghost use Rattle.model.specs.Pointer.{unwrap-or-default, zero-motion, add-motion, place-event, clear-history-after, start-place, delta-of, velocity-of};
 ghost use Rattle.model.specs.Pass.{fresh-place};

@@ -2,16 +2,18 @@
 use mathlib.Core.Path.{_≡_, refl, sym, ap, _∙_}
 use mathlib.Core.Bool.{Bool, true, false, cond}
 use mathlib.Core.List.{List, [], _∷_, map}
-use Prim.Native.Nat.{ℕ}
+use Prim.Native.Nat.{ℕ, _≤_, _<_}
 use lib.Dec.{leb, ltb, eqb}
-use lib.ListN.{length, length-map}
+use native.Mathlib.Omega.{arith}
+use lib.ListN.{length, getD, set, length-map, length-take}
 use Rattle.data.specs.Limits.{max-devices}
 use Rattle.model.specs.Types.{TouchPhase, ActiveTouch}
 use Rattle.model.specs.Touch.{TouchState, new-device, at-device}
 use Rattle.touch_device.specs.declared.Device.{Device}
 use Rattle.touch_state.specs.declared.devices.Devices.{Devices}
 use Rattle.touch_device.specs.View.{Marked, device-view, marked-view, new-marked, touch-marked}
-use Rattle.touch_state.specs.View.{known, view, marked, at-marked, touch-step}
+use Rattle.touch_state.specs.View.{known, known-at, view, marked, at-marked, touch-step}
+use Rattle.touch_state.proofs.Known.{touched-known, known-at-le}
 use Rattle.survey.specs.Survey.{fits-device, fits-touch}
 
 abbrev pub bare : Marked → TouchState
@@ -46,3 +48,19 @@ bare-view (d ∷ ds) = ap (λ (vs : List TouchState). device-view d ∷ vs) (bar
 
 pub fitted : (d : ℕ) (ph : TouchPhase) (t : ActiveTouch) (old new : Devices) → marked new ≡ touch-step d ph t (marked old) → view new ≡ fits-touch d ph t (view old)
 fitted d ph t old new h = sym (bare-view (known new)) ∙ ap (map bare) h ∙ step-bare d ph t (marked old) ∙ rw (bare-view (known old))
+
+-- ---- the devices after a touch event, by the place of its device
+module _ (d k : ℕ) (ph : TouchPhase) (t : ActiveTouch) (old : Devices) (room : length (old .places) ≡ 4) (found : k ≡ known-at d (known old)) where
+  at-most : length (known old) ≤ max-devices
+  at-most = omega (arith, length-take (old .count) (old .places))
+
+  pub fits-known : (z x : Device) → k < max-devices → marked-view x ≡ touch-marked ph t (marked-view (getD (old .places) k z))
+      → view (record { count = old .count; places = set (old .places) k x }) ≡ fits-touch d ph t (view old)
+  fits-known z x h p =
+      fitted d ph t old (record { count = old .count; places = set (old .places) k x })
+      (touched-known d _ (old .count) (old .places) ph t refl z x k found h at-most p)
+
+  pub fits-added : (new : Devices) → max-devices ≤ k → (known-at d (known old) ≡ max-devices → marked new ≡ touch-step d ph t (marked old)) → view new ≡ fits-touch d ph t (view old)
+  fits-added new h added =
+      let l : known-at d (known old) ≤ max-devices = known-at-le d _ (old .count) (old .places) ph t refl at-most in
+      fitted d ph t old new (added (omega arith))

@@ -1,5 +1,5 @@
 pub mod Places
+pub mod TouchOf
 pub mod Fits
-pub mod Marks
 pub mod Accepted
 pub mod Formed

@@ -343,33 +343,42 @@ unfolding fits-events
 fits-own es vs = own-law fits-events fits-event (λ s. refl) (λ e es s. refl) touch-list (λ e s h. fits-idle e s (not-read touch-list e 9 h refl)) es vs
 
 -- with i of the n touch events done
-abbrev pub Holds : List ℕ → List ℕ → ℕ → ℕ → List TouchState → List TouchState → Type 0
-Holds ws ps n i vs held =
-    (fits-survey max-events (items ws) vs ≡ crowd-then ws (drop i (listed ps touch-list n)) (λ us. feed-refusal ws) held)
+abbrev pub Holds : List ℕ → List ℕ → ℕ → Option PassRefusal → ℕ → List TouchState → List TouchState → Type 0
+Holds ws ps n later i vs held =
+    (crowd-then ws (listed ps touch-list n) (λ us. later) vs ≡ crowd-then ws (drop i (listed ps touch-list n)) (λ us. later) held)
     × (held ≡ fits-events (listed-events ws ps touch-list i) vs)
 
-pub holds-first : (ws ps : List ℕ) (n : ℕ) (vs : List TouchState) →
-    fits-survey max-events (items ws) vs ≡ crowd-then ws (listed ps touch-list n) (λ us. feed-refusal ws) vs → Holds ws ps n 0 vs vs
-holds-first ws ps n vs h = (h, sym (fits-loop .begins ws ps touch-list vs))
+pub holds-first : (ws ps : List ℕ) (n : ℕ) (later : Option PassRefusal) (vs : List TouchState) → Holds ws ps n later 0 vs vs
+holds-first ws ps n later vs = (refl, sym (fits-loop .begins ws ps touch-list vs))
 
-module _ (ws ps : List ℕ) (n i : ℕ) (here : i < n) (vs held : List TouchState) (holds : Holds ws ps n i vs held) where
+module _ (ws ps : List ℕ) (n : ℕ) (later : Option PassRefusal) (i : ℕ) (here : i < n) (vs held : List TouchState) (holds : Holds ws ps n later i vs held) where
   abbrev place : ℕ
   place = getD ps (touch-list * max-events + i) 0
 
-  pub holds-more : crowded (shaped-at ws place) held ≡ false → (new : List TouchState) → new ≡ fits-event (shaped-at ws place) held → Holds ws ps n (i + 1) vs new
+  pub holds-more : crowded (shaped-at ws place) held ≡ false → (new : List TouchState) → new ≡ fits-event (shaped-at ws place) held → Holds ws ps n later (i + 1) vs new
   unfolding crowd-then
   holds-more free new e =
       rw e (holds .0 ∙ rw (listed-rest ps touch-list n i here, free), ap (fits-event (shaped-at ws place)) (holds .1) ∙ sym (fits-loop .goes-on ws ps touch-list i vs))
 
-  pub no-place-at : crowded (shaped-at ws place) held ≡ true → some (NoPlace place) ≡ fits-survey max-events (items ws) vs
+  pub no-place-at : crowded (shaped-at ws place) held ≡ true → some (NoPlace place) ≡ crowd-then ws (listed ps touch-list n) (λ us. later) vs
   unfolding crowd-then
   no-place-at full = sym (holds .0 ∙ rw (listed-rest ps touch-list n i here, full))
 
-pub crowd-done : (ws ps : List ℕ) (r : Reading) (vs held : List TouchState) → Read ws ps r → Holds ws ps (getD (r .counts) touch-list 0) (getD (r .counts) touch-list 0) vs held →
-    (feed-refusal ws ≡ fits-survey max-events (items ws) vs)
-    × (fits-survey max-events (items ws) vs ≡ none → held ≡ fits-events (shaped-events ws) vs)
+pub holds-last : (ws ps : List ℕ) (n : ℕ) (later : Option PassRefusal) (vs held : List TouchState) → Holds ws ps n later n vs held →
+    later ≡ crowd-then ws (listed ps touch-list n) (λ us. later) vs
 unfolding crowd-then
-crowd-done ws ps r vs held read holds =
-    let n = getD (r .counts) touch-list 0 in
-    let same : feed-refusal ws ≡ fits-survey max-events (items ws) vs = sym (holds .0 ∙ rw (listed-done ps touch-list n)) in
-    (same, λ z. holds .1 ∙ rw (read .lists (same ∙ z) touch-list (omega arith)) (fits-own (shaped-events ws) vs))
+holds-last ws ps n later vs held holds = sym (holds .0 ∙ rw (listed-done ps touch-list n))
+
+-- after what reading refuses: the survey
+module _ (ws ps : List ℕ) (r : Reading) (vs : List TouchState) (read : Read ws ps r) where
+  abbrev n : ℕ
+  n = getD (r .counts) touch-list 0
+
+  pub survey-is : crowd-then ws (listed ps touch-list n) (λ us. option (r .refusal)) vs ≡ fits-survey max-events (items ws) vs
+  survey-is = rw (read .refusal) (sym (read .crowd vs))
+
+  pub none-refused : fits-survey max-events (items ws) vs ≡ none → feed-refusal ws ≡ none
+  none-refused z = crowd-none ws (listed ps touch-list n) (feed-refusal ws) vs (sym (read .crowd vs) ∙ z)
+
+  pub devices-are : fits-survey max-events (items ws) vs ≡ none → fits-events (listed-events ws ps touch-list n) vs ≡ fits-events (shaped-events ws) vs
+  devices-are z = rw (read .lists (none-refused z) touch-list (omega arith)) (fits-own (shaped-events ws) vs)

@@ -1,3 +1,3 @@
+pub mod Touch
 pub mod Survey
-pub mod Ends
 pub mod Laws

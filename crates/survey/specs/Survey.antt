@@ -16,8 +16,8 @@ use Rattle.model.specs.Touch.{TouchState, at-device}
 use Rattle.model.specs.Pass.{or-else, crowded, item-refusal}
 use Rattle.touches.specs.Touches.{on-touch-if-room}
 use Rattle.touch_state.specs.View.{view}
-use Rattle.event_loop.specs.Shaped.{shaped-events, shaped-at}
-use Rattle.event_loop.specs.Lists.{touch-list, listed, Listed}
+use Rattle.event_loop.specs.Shaped.{shaped-at}
+use Rattle.event_loop.specs.Lists.{touch-list, listed, listed-events, Listed}
 use Rattle.survey.specs.declared.reading.MaybePassRefusal.{MaybePassRefusal}
 use Rattle.survey.specs.declared.reading.MaybePassRefusal.the-variants.{None as no-refusal, Some as some-refusal}
 use Rattle.survey.specs.declared.reading.Reading.{Reading}
@@ -79,8 +79,7 @@ pub record Read (ws ps : List ℕ) (r : Reading) : Type 0 where
   pub crowd : (vs : List TouchState) →
       fits-survey max-events (items ws) vs ≡ crowd-then ws (listed ps touch-list (getD (r .counts) touch-list 0)) (λ us. feed-refusal ws) vs
 
--- What the survey tells: the first refusal, and if there is none the devices after the events, and the lists.
-pub record Answers (ws ps : List ℕ) (vs : List TouchState) (r : Surveyed) : Type 0 where
-  pub refusal : option (r .refusal) ≡ fits-survey max-events (items ws) vs
-  pub devices : fits-survey max-events (items ws) vs ≡ none → view (r .devices) ≡ fits-events (shaped-events ws) vs
-  pub lists : fits-survey max-events (items ws) vs ≡ none → Listed ws ps (r .counts)
+-- What the touch events in their list tell, with `later` refused after them: the first refusal, and if there is none the devices after them.
+pub record Crowded (ws ps : List ℕ) (n : ℕ) (later : Option PassRefusal) (vs : List TouchState) (r : Surveyed) : Type 0 where
+  pub refusal : option (r .refusal) ≡ crowd-then ws (listed ps touch-list n) (λ us. later) vs
+  pub devices : option (r .refusal) ≡ none → view (r .devices) ≡ fits-events (listed-events ws ps touch-list n) vs

@@ -74,6 +74,19 @@ pub fn on_touch(d: Device, phase: TouchPhase, t: ActiveTouch) -> Device
     }
 }
 
+// A device that its first touch event makes known.
+pub fn first(id: u64, phase: TouchPhase, t: ActiveTouch) -> Device
+    ensures { λ r. ⌜ marked-view r ≡ touch-marked phase t (new-marked id) ⌝ }
+{
+    let touches = touches::first(phase, t);
+    Device {
+        id: id,
+        touches: touches,
+        added_or_removed_touches: adds_or_removes(phase),
+        gesture_state: MaybeGestureState::None,
+    }
+}
+
 // Is it the Start of a touch too many?
 pub fn is_full(d: Device, phase: TouchPhase, id: u64) -> bool
     ensures { λ r. ⌜ r ≡ no-place phase id 0 (some (device-view d)) ⌝ }

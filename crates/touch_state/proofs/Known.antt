@@ -16,7 +16,7 @@ use Rattle.model.specs.Touch.{TouchState, find-device, info, multi-touch, first
 use Rattle.touch_device.specs.declared.Device.{Device}
 use Rattle.touches.specs.Touches.{place, index, starts, is-at, inserted-at}
 use Rattle.touch_device.specs.View.{Marked, device-view, marked-view, new-marked, touch-marked}
-use Rattle.touch_state.specs.View.{device-id, at-marked, touch-step}
+use Rattle.touch_state.specs.View.{device-id, known-at, at-marked, touch-step}
 use Rattle.touch_state.specs.Marks.{marked-id}
 use Rattle.touches.proofs.Places.{rest, done}
 use Rattle.touches.proofs.Upsert.{some-ltb, upsert, upsert-hit, upsert-miss, at-lt, place-le, length-inserted}
@@ -104,12 +104,17 @@ module _ {A B : Type 0} (f : A → B) where
   map-inserted (u ∷ us) (suc i) x = ap {B = List B} (λ r. f u ∷ r) (map-inserted us i x)
 
   module _ (key : A → ℕ) (key′ : B → ℕ) (same : (u : A) → key′ (f u) ≡ key u) (d : ℕ) where
-    place-map : (us : List A) → place key′ d (map f us) ≡ place key d us
+    pub place-map : (us : List A) → place key′ d (map f us) ≡ place key d us
     unfolding place
     place-map [] = refl
     place-map (u ∷ us) = rw (same u, place-map us)
 
-    at-map : (us : List A) (i : ℕ) → is-at key′ i d (map f us) ≡ is-at key i d us
+    pub index-map : (us : List A) → index key′ d (map f us) ≡ index key d us
+    unfolding index
+    index-map [] = refl
+    index-map (u ∷ us) = rw (same u, index-map us)
+
+    pub at-map : (us : List A) (i : ℕ) → is-at key′ i d (map f us) ≡ is-at key i d us
     unfolding is-at starts
     at-map [] zero = refl
     at-map (u ∷ us) zero = rw (same u)
@@ -156,6 +161,30 @@ module _ (d i c : ℕ) (a : List Device) (ph : TouchPhase) (t : ActiveTouch) (e 
       ∙ rw (place-ms, getD-map marked-view (take c a) i z, getD-take c a i z k, ← p, map-set)) in
       fits-devices d ph t ms _ s (simp (length-map, length-set) l)
 
+  pub known-at-le : length (take c a) ≤ max-devices → known-at d (take c a) ≤ max-devices
+  unfolding known-at
+  known-at-le l = go (is-at device-id i d (take c a)) refl
+    where
+      go : (b : Bool) → is-at device-id i d (take c a) ≡ b → cond (is-at device-id (place device-id d (take c a)) d (take c a)) (place device-id d (take c a)) max-devices ≤ max-devices
+      go true q = let n : i < length (take c a) = at-lt device-id d i (take c a) q in rw (← e, q) (omega arith)
+      go false q = rw (← e, q) (omega arith)
+
+  -- the device that `known-at` finds, changed where it stands
+  pub touched-known : (z x : Device) (k : ℕ) → k ≡ known-at d (take c a) → k < max-devices → length (take c a) ≤ max-devices → marked-view x ≡ touch-marked ph t (marked-view (getD a k z))
+      → map marked-view (take c (set a k x)) ≡ touch-step d ph t (map marked-view (take c a))
+  unfolding known-at
+  touched-known z x k h b l p = go (is-at device-id i d (take c a)) refl
+    where
+      go : (v : Bool) → is-at device-id i d (take c a) ≡ v → map marked-view (take c (set a k x)) ≡ touch-step d ph t (map marked-view (take c a))
+      go true q =
+          let same : k ≡ i = rw (← e, q) at h in
+          let n : i < length (take c a) = at-lt device-id d i (take c a) q in
+          let m : k < c = omega (arith, length-take c a) in
+          rw (take-set-lt c a k x m, same) (touched-hit z x q l (rw same at p))
+      go false q =
+          let none-known : k ≡ max-devices = rw (← e, q) at h in
+          absurd (omega arith)
+
   pub touched-miss : (x : Device) → is-at device-id i d (take c a) ≡ false → length (take c a) < max-devices → marked-view x ≡ touch-marked ph t (new-marked d)
       → map marked-view (inserted-at i x (take c a)) ≡ touch-step d ph t (map marked-view (take c a))
   unfolding ms f
@@ -164,6 +193,18 @@ module _ (d i c : ℕ) (a : List Device) (ph : TouchPhase) (t : ActiveTouch) (e 
       let s : at-marked d f ms ≡ map marked-view (inserted-at i x (take c a)) =
       at-upsert d f ms ∙ (upsert-miss marked-id d (f (new-marked d)) f ms (at-ms q) ∙ rw (place-ms, ← p, map-inserted)) in
       fits-devices d ph t ms _ s (simp (length-map, length-inserted i x (take c a) h) l)
+
+  -- a device that is known at no place
+  pub unknown : length (take c a) ≤ max-devices → known-at d (take c a) ≡ max-devices → is-at device-id i d (take c a) ≡ false
+  unfolding known-at
+  unknown l h = go (is-at device-id i d (take c a)) refl
+    where
+      go : (b : Bool) → is-at device-id i d (take c a) ≡ b → b ≡ false
+      go true q =
+          let n : i < length (take c a) = at-lt device-id d i (take c a) q in
+          let k : i ≡ max-devices = rw (← e, q) at h in
+          absurd (omega arith)
+      go false q = refl
 
   pub touched-full : is-at device-id i d (take c a) ≡ false → max-devices ≤ length (take c a) → map marked-view (take c a) ≡ touch-step d ph t (map marked-view (take c a))
   unfolding ms f touch-step

@@ -1,3 +1,4 @@
 pub mod Known
+pub mod Ids
 pub mod Order
 pub mod Marks

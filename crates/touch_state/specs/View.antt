@@ -7,6 +7,7 @@ use lib.ListN.{length, take}
 use Rattle.data.specs.Limits.{max-devices}
 use Rattle.model.specs.Types.{TouchPhase, ActiveTouch}
 use Rattle.model.specs.Touch.{TouchState}
+use Rattle.touches.specs.Touches.{place, is-at}
 use Rattle.touch_device.specs.declared.Device.{Device}
 use Rattle.touch_device.specs.View.{device-view, Marked, marked-view, new-marked, touch-marked}
 use Rattle.touch_state.specs.declared.devices.Devices.{Devices}
@@ -23,6 +24,12 @@ marked ds = map marked-view (known ds)
 
 abbrev pub device-id : Device → ℕ
 device-id d = d .id
+
+-- the place of a device that is known, or the number of places
+unfoldable pub known-at : ℕ → List Device → ℕ
+known-at d us =
+    let i = place device-id d us in
+    cond (is-at device-id i d us) i max-devices
 
 -- ---- the model's steps, where what does not fit is left out: the pass has refused it before
 

@@ -13,7 +13,7 @@ ghost use Rattle.data.specs.Limits.{max-devices};
 ghost use Rattle.model.specs.Touch.{no-place, find-device};
 ghost use Rattle.touches.specs.Touches.{place, index, is-at, inserted-at};
 ghost use Rattle.touch_device.specs.View.{end-marked};
-ghost use Rattle.touch_state.specs.View.{known, device-id, view, marked, touch-step};
+ghost use Rattle.touch_state.specs.View.{known, device-id, known-at, view, marked, touch-step};
 
 pub struct Devices {
     pub count: usize,
@@ -42,16 +42,27 @@ pub fn len(ds: Devices) -> usize
     MAX_DEVICES
 }
 
+// Read at constant places: nothing else of a device is looked at.
+fn ids(ds: Devices) -> [u64; MAX_DEVICES]
+    ensures { λ r. ⌜ r ≡ map device-id (ds .places) ⌝ }
+{
+    let a = ds.places;
+    let first = a[0];
+    let second = a[1];
+    let third = a[2];
+    let fourth = a[3];
+    [first.id, second.id, third.id, fourth.id]
+}
+
 // The first place with this id or a greater one.
 fn place_of(ds: Devices, id: u64) -> usize
     ensures { λ r. ⌜ r ≡ place device-id id (known ds) ⌝ }
 {
     let n = len(ds);
-    let a = ds.places;
+    let a = ids(ds);
     let mut i: usize = 0;
     while i < n {
-        let x = a[i];
-        if x.id >= id {
+        if a[i] >= id {
             return i;
         }
         i += 1;
@@ -64,11 +75,10 @@ pub fn index_of(ds: Devices, id: u64) -> usize
     ensures { λ r. ⌜ r ≡ index device-id id (known ds) ⌝ }
 {
     let n = len(ds);
-    let a = ds.places;
+    let a = ids(ds);
     let mut i: usize = 0;
     while i < n {
-        let x = a[i];
-        if x.id == id {
+        if a[i] == id {
             return i;
         }
         i += 1;
@@ -81,11 +91,21 @@ fn is_at(ds: Devices, i: usize, id: u64) -> bool
     ensures { λ r. ⌜ r ≡ is-at device-id i id (known ds) ⌝ }
 {
     if i < len(ds) {
-        let a = ds.places;
-        let x = a[i];
-        return id == x.id;
+        let a = ids(ds);
+        return id == a[i];
     }
     false
+}
+
+// The place of a device that is known, or MAX_DEVICES.
+pub fn known_at(ds: Devices, id: u64) -> usize
+    ensures { λ r. ⌜ r ≡ known-at id (known ds) ⌝ }
+{
+    let i = place_of(ds, id);
+    if is_at(ds, i, id) {
+        return i;
+    }
+    MAX_DEVICES
 }
 
 // The devices from place i on move up by one.
@@ -110,23 +130,13 @@ fn insert_at(ds: Devices, i: usize, d: Device) -> Devices
     }
 }
 
-// A touch event makes its device known and changes the touches that it holds.
-pub fn on_touch(ds: Devices, device_id: u64, phase: TouchPhase, t: ActiveTouch) -> Devices
-    ensures { λ r. ⌜ marked r ≡ touch-step «device_id» phase t (marked ds) ⌝ }
+// A device that is not known becomes known by a touch event, if there is a place.
+pub fn add(ds: Devices, id: u64, phase: TouchPhase, t: ActiveTouch) -> Devices
+    ensures { λ r. ⌜ (known-at id (known ds) ≡ max-devices → marked r ≡ touch-step id phase t (marked ds)) ⌝ }
 {
-    let i = place_of(ds, device_id);
-    if is_at(ds, i, device_id) {
-        let mut a = ds.places;
-        let d = a[i];
-        a[i] = touch_device::on_touch(d, phase, t);
-        return Devices {
-            count: ds.count,
-            places: a,
-        };
-    }
+    let i = place_of(ds, id);
     if len(ds) < MAX_DEVICES {
-        let d = touch_device::new(device_id);
-        return insert_at(ds, i, touch_device::on_touch(d, phase, t));
+        return insert_at(ds, i, touch_device::first(id, phase, t));
     }
     ds
 }

@@ -186,3 +186,18 @@ pub fn on_touch(ts: Touches, phase: TouchPhase, t: ActiveTouch) -> Touches
         TouchPhase::Cancel => remove(ts, t.id),
     }
 }
+
+// What the first touch event of a device leaves.
+pub fn first(phase: TouchPhase, t: ActiveTouch) -> Touches
+    ensures { λ r. ⌜ list r ≡ on-touch-if-room phase t [] ⌝ }
+{
+    match phase {
+        TouchPhase::Start => Touches {
+            count: 1,
+            places: [t; MAX_TOUCHES],
+        },
+        TouchPhase::Move => none(),
+        TouchPhase::End => none(),
+        TouchPhase::Cancel => none(),
+    }
+}

@@ -1,6 +1,6 @@
 // One call.
-use emath::history::MAX_LEN;
-use emath::history::PARTS;
+use emath_history::history::MAX_LEN;
+use emath_history::history::PARTS;
 use panel::widgets::empty;
 use pointer_events::CODES;
 use pointer_events::PLACES;

@@ -2,11 +2,11 @@
 use crate::events::events;
 use crate::keys::keys_down;
 use crate::keys::presses;
-use emath::history::MAX_LEN;
-use emath::history::PARTS;
+use emath_history::history::MAX_LEN;
+use emath_history::history::PARTS;
 use input_state::clock::Clock;
 use input_state::state::InputState;
-use interaction::state::Interaction;
+use interaction_state::state::Interaction;
 use pointer_events::CODES;
 use pointer_events::PLACES;
 use touch_state::devices::Devices;

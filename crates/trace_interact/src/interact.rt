@@ -1,9 +1,9 @@
 // INTERACT: the hit lists of a request, and the words of the answer.
 use hit_lists::Hit;
 use hit_lists::MaybeHit;
-use interaction::state::Interacted;
-use interaction::state::Interaction;
-use interaction::state::InteractionSnapshot;
+use interaction_state::state::Interacted;
+use interaction_state::state::Interaction;
+use interaction_state::state::InteractionSnapshot;
 use panel::state::Panel;
 use pointer_events::CODES;
 use trace_state::parts::maybe_id;

@@ -1,6 +1,6 @@
 // The panel and the widget set between two calls; the lent arrays stand beside them.
-use input_state::begin::Begun;
-use interaction::state::Interaction;
+use input_pass::begin::Begun;
+use interaction_state::state::Interaction;
 use panel::state::Panel;
 use panel::widgets::empty;
 use survey::reading::MaybePassRefusal;

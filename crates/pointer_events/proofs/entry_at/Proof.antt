@@ -1,7 +1,7 @@
 -- Each way to a return is the case of the definition that its tests pick. Assumes nothing.
 use mathlib.Core.Path.{refl}
 use Rattle.pointer_events.specs.Events.{entry-at}
-use Rattle.emath.specs.Ring.{position-at}
+use Rattle.emath_history.specs.Ring.{position-at}
 use borrow.Author.Needs.{needs}
 use Rattle.pointer_events.proofs.entry_at.Statement.{statement}
 use Rattle.pointer_events.proofs.entry_at.Tie as tie

@@ -9,7 +9,7 @@ use Rattle.bench_calls.proofs.asks.asked.Reads as asked-reads
 use Rattle.bench_calls.proofs.passes.input.Reads as input-reads
 use Rattle.bench_calls.proofs.passes.of_state.Reads as of-state-reads
 use Rattle.bench_calls.proofs.sums.mix.Reads as mix-reads
-use Rattle.input_state.proofs.begin.begin_pass.Reads as begin-pass-reads
+use Rattle.input_pass.proofs.begin.begin_pass.Reads as begin-pass-reads
 use Rattle.input_state.proofs.state.fresh.Reads as fresh-reads
 use Rattle.touch_state.proofs.devices.none.Reads as none-reads
 

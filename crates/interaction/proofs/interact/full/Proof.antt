@@ -1,4 +1,4 @@
--- `interaction::interact::full` meets its contract. Assumes nothing.
+-- `crate::interact::full` meets its contract. Assumes nothing.
 use borrow.Author.Needs.{needs}
 use Rattle.interaction.proofs.interact.full.Statement.{statement}
 use Rattle.interaction.proofs.interact.full.Tie as tie

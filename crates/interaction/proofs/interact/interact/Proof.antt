@@ -1,4 +1,4 @@
--- `interaction::interact::interact` meets its contract. Assumes nothing.
+-- `crate::interact::interact` meets its contract. Assumes nothing.
 use mathlib.Core.Path.{refl, sym, _∙_, ap}
 use Rattle.hit_lists.specs.Hits.{refusal-of}
 use Rattle.interaction.proofs.Taken.{refused-by, accepted, sized}

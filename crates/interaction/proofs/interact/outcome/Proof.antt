@@ -1,12 +1,12 @@
--- `interaction::interact::outcome` meets its contract. Assumes nothing.
+-- `crate::interact::outcome` meets its contract. Assumes nothing.
 use mathlib.Core.Path.{refl}
 use Rattle.interaction.proofs.Taken.{answers}
 use borrow.Author.Needs.{needs}
 use Rattle.interaction.proofs.interact.outcome.Statement.{statement}
 use Rattle.interaction.proofs.interact.outcome.Tie as tie
-use Rattle.interaction.proofs.drag.interaction_after.Reads as interaction-after-reads
-use Rattle.interaction.proofs.events.walked.Reads as walked-reads
-use Rattle.interaction.proofs.state.if_changed.Reads as if-changed-reads
+use Rattle.interaction_state.proofs.drag.interaction_after.Reads as interaction-after-reads
+use Rattle.interaction_state.proofs.events.walked.Reads as walked-reads
+use Rattle.interaction_state.proofs.state.if_changed.Reads as if-changed-reads
 
 walked-requires : tie.Need-walked-requires
 walked-requires c κs = search needs

@@ -1,4 +1,4 @@
--- `interaction::interact::tally_after` meets its contract. Assumes nothing.
+-- `crate::interact::tally_after` meets its contract. Assumes nothing.
 use mathlib.Core.Path.{_≡_}
 use mathlib.Core.Bool.{false}
 use lib.Dec.{leb}

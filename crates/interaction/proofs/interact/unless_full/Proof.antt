@@ -1,4 +1,4 @@
--- `interaction::interact::unless_full` meets its contract. Assumes nothing.
+-- `crate::interact::unless_full` meets its contract. Assumes nothing.
 use mathlib.Core.Path.{refl, sym, _∙_}
 use Rattle.id_lists.proofs.Written.{beyond}
 use Rattle.interaction.proofs.Taken.{refuses, taken, looks, within-is}

@@ -1,6 +1,6 @@
 -- The field is what the reply reads. Assumes nothing.
 use Rattle.model.specs.Questions.{ask, reply, shown}
-use Rattle.interaction.specs.View.{interaction-of}
+use Rattle.interaction_state.specs.View.{interaction-of}
 use Rattle.panel.proofs.dragging.dragged.Statement.{statement}
 use Rattle.panel.proofs.dragging.dragged.Tie as tie
 

@@ -1,7 +1,7 @@
 -- The input's fresh state, no device, and nothing dragged. Assumes nothing.
 use Rattle.model.specs.Pass.{fresh, no-interaction}
 use Rattle.id_lists.specs.Ids.{option-of}
-use Rattle.interaction.specs.View.{interaction-of}
+use Rattle.interaction_state.specs.View.{interaction-of}
 use Rattle.panel.proofs.Start.{none-viewed}
 use borrow.Author.Needs.{needs}
 use Rattle.panel.proofs.state.fresh.Statement.{statement}

@@ -1,106 +1,128 @@
 -- `crowd::crowd` meets its contract. Assumes nothing.
 use Prim.Native.Nat.{_+_, _*_, _-_, _≤_, _<_}
 use mathlib.Core.Path.{_≡_, refl, sym, _∙_}
+use mathlib.Core.Logic.{⊎-elim}
 use native.Mathlib.Omega.{arith}
 use borrow.Author.Needs.{needs}
-use mathlib.Core.Logic.{⊎-elim}
-use mathlib.Core.Option.{some}
-use lib.ListN.{getD}
-use mir.Val.{Fits}
-use mir.Syntax.{w8}
-use Rattle.data.specs.Limits.{max-events}
-use Rattle.feed.specs.Decode.{items}
-use Rattle.model.specs.Types.{NoPlace}
-use Rattle.event_loop.specs.Lists.{touch-list}
+use lib.ListN.{length, length-map, length-set}
 use Rattle.touch_state.specs.View.{view}
-use Rattle.survey.specs.Survey.{option, fits-survey}
-use Rattle.survey.proofs.Places.{Holds, holds-first, holds-more, no-place-at, crowd-done, none-some, no-event-9, not-crowded, fits-idle}
+use mathlib.Core.Option.{some}
+use Rattle.model.specs.Types.{NoPlace}
+use Rattle.event_loop.specs.Lists.{touch-list, listed}
+use Rattle.survey.specs.Survey.{option, crowd-then}
+use Rattle.survey.proofs.Places.{Holds, holds-first, holds-more, no-place-at, holds-last, none-some, not-crowded, fits-idle}
+use Rattle.survey.proofs.TouchOf.{crowded-is, fits-is, not-9}
+use Rattle.survey.proofs.Fits.{fits-known, fits-added}
 use Rattle.survey.proofs.crowd.crowd.Statement.{statement}
 use Rattle.survey.proofs.crowd.crowd.Tie as tie
 
 abbrev Inv-loop : tie.InvT-loop
-Inv-loop feed lists counts refusal n held₀ i₀ held i = (i ≤ n) × (n < 256) × (n ≡ getD counts touch-list 0) × Holds feed lists n i (view held₀) (view held)
+Inv-loop feed lists count later held₀ i₀ held i = (i ≤ count) × (length (held .places) ≡ 4) × Holds feed lists count (option later) i (view held₀) (view held)
 
 abbrev μ-loop : tie.MeasureT-loop
-μ-loop feed lists counts refusal n held₀ i₀ held i = n - i
-
-cast-n : tie.Need-cast-n Inv-loop μ-loop
-cast-n c = search needs
-
-array-read-n : tie.Need-array-read-n Inv-loop μ-loop
-array-read-n c = search needs
+μ-loop feed lists count later held₀ i₀ held i = count - i
 
 loop-holds : tie.Need-loop-holds Inv-loop μ-loop
 loop-holds c =
-    let small : Fits w8 (getD (c .before .before .args .reading .counts) touch-list 0) = search needs in
-    (omega arith, small .fits, refl, holds-first _ _ _ _ (c .before .before .pre .crowd _))
+    let l : length (c .before .args .ds .places) ≡ 4 = simp length-map at (c .before .good .0 .1 .1 .1 .0 .1 .0 .1) in
+    (omega arith, l, holds-first _ _ _ _ _)
 
 listed-requires : tie.Need-listed-requires Inv-loop μ-loop
 listed-requires c κs = search needs
 
-kind-at-requires : tie.Need-kind-at-requires Inv-loop μ-loop
-kind-at-requires c κs = search needs
+touch-event-at-requires : tie.Need-touch-event-at-requires Inv-loop μ-loop
+touch-event-at-requires c κs = search needs
 
-touch-at-requires : tie.Need-touch-at-requires Inv-loop μ-loop
-touch-at-requires c κs = search needs
+enum-told : tie.Need-enum-told Inv-loop μ-loop
+enum-told c = search needs
 
-is-crowded-requires : tie.Need-is-crowded-requires Inv-loop μ-loop
-is-crowded-requires c κs = search needs
+enum-known-found : tie.Need-enum-known-found Inv-loop μ-loop
+enum-known-found c = search needs
+
+no-place-requires : tie.Need-no-place-requires Inv-loop μ-loop
+no-place-requires c κs = search needs
 
 returns : tie.Need-returns Inv-loop μ-loop
 unfolding option
 returns c =
-    let place = c .before .before .before .before .before .listed .ensures in
-    let e = c .before .before .touch-at .ensures (sym (c .before .before .before .before .kind-at .ensures) ∙ c .before .before .before .if1 .taken) in
-    let o = c .before .before .before .before .before .before .before in
+    let a = c .before .before .before .before .before .before in
+    let o = a .before .before .before in
     let l = o .before in
-    let full = rw (e, place) at (sym (c .before .is-crowded .ensures) ∙ c .if2 .taken) in
-    let ws = l .before .before .before .args .feed .now in
-    let held = view (l .before .before .before .args .ds) in
-    let r : some (NoPlace (c .before .before .before .before .before .listed .result)) ≡ fits-survey max-events (items ws) held = rw place (no-place-at _ _ _ _ (o .loop-test .taken) _ _ (l .loop .inv .3) full) in
-    record { refusal = r; devices = λ z. none-some (sym (r ∙ z)); lists = λ z. none-some (sym (r ∙ z)) }
+    let place = a .before .listed .ensures in
+    let found = sym (a .touch-event-at .ensures) ∙ c .before .before .before .before .found .given .1 in
+    let full = rw place at (sym (crowded-is _ _ found (view (l .loop .held))) ∙ sym (c .before .no-place .ensures) ∙ c .if1 .taken) in
+    let s = l .before .before .args in
+    let r : some (NoPlace (a .before .listed .result)) ≡ crowd-then (s .feed .now) (listed (s .lists .now) touch-list (s .count)) (λ us. option (s .later)) (view (s .ds)) =
+    rw place (no-place-at _ _ _ _ _ (o .loop-test .taken) _ _ (l .loop .inv .2) full) in
+    record { refusal = r; devices = λ z. none-some (sym z) }
 
-held-after-requires : tie.Need-held-after-requires Inv-loop μ-loop
-held-after-requires c κs = search needs
+known-at-requires : tie.Need-known-at-requires Inv-loop μ-loop
+known-at-requires c κs = search needs
+
+mul-d : tie.Need-mul-d Inv-loop μ-loop
+mul-d c = let k = c .if2 .taken in omega arith
+
+element-copy-out-d : tie.Need-element-copy-out-d Inv-loop μ-loop
+element-copy-out-d c = let k = c .if2 .taken in omega arith
+
+on-touch-requires : tie.Need-on-touch-requires Inv-loop μ-loop
+on-touch-requires c κs = search needs
+
+mul-t24 : tie.Need-mul-t24 Inv-loop μ-loop
+mul-t24 c = let k = c .before .before .if2 .taken in omega arith
+
+element-set-from-held : tie.Need-element-set-from-held Inv-loop μ-loop
+element-set-from-held c = let k = c .before .before .if2 .taken in omega arith
+
+add-requires : tie.Need-add-requires Inv-loop μ-loop
+add-requires c κs = search needs
 
 add-i : tie.Need-add-i Inv-loop μ-loop
-add-i c =
-    let b = c .before .before .before .before .before .loop .inv .1 in
-    omega arith
+add-i c = search needs
 
 loop-less : tie.Need-loop-less Inv-loop μ-loop
 loop-less c = search needs
 
 loop-again : tie.Need-loop-again Inv-loop μ-loop
 loop-again c =
-    let place = c .before .before .listed .ensures in
-    let k = c .before .kind-at .ensures in
-    let o = c .before .before .before .before in
+    let a = c .before in
+    let o = a .before .before .before in
     let l = o .before in
-    let ws = l .before .before .before .args .feed .now in
-    let held = view (l .loop .held) in
-    let new = view (c .if1 .held) in
-    let more = holds-more _ _ _ _ (o .loop-test .taken) _ held (l .loop .inv .3) in
-    let r =
+    let held = l .loop .held in
+    let new = c .match .held in
+    let place = a .before .listed .ensures in
+    let found = sym (a .touch-event-at .ensures) in
+    let more = holds-more _ _ _ _ _ (o .loop-test .taken) _ (view held) (l .loop .inv .2) in
+    let s = l .before .before .args in
+    let r : (length (new .places) ≡ 4) × Holds (s .feed .now) (s .lists .now) (s .count) (option (s .later)) (l .loop .i + 1) (view (s .ds)) (view new) =
     ⊎-elim
     (λ w.
-    let e = w .1 .ensures (sym k ∙ w .0 .taken) in
-    more (rw (e, place) at (sym (w .2 .ensures) ∙ w .3 .left)) new (rw (w .5) (rw (e, place) at (w .4 .ensures))))
+    let other = rw place at (not-9 _ (found ∙ w .1 .given .1)) in
+    (rw (w .2) (l .loop .inv .1), more (not-crowded _ (view held) other) (view new) (rw (w .2) (sym (fits-idle _ (view held) other)))))
+    (λ v.
+    ⊎-elim
     (λ w.
-    let other = rw place at (no-event-9 ws (c .before .before .listed .result) (λ e. w .0 .left (k ∙ e))) in
-    more (not-crowded _ held other) new (rw (w .1) (sym (fits-idle _ held other))))
-    (c .if1 .came) in
-    (omega arith, l .loop .inv .1, l .loop .inv .2, r)
+    let is = found ∙ w .1 .given .1 in
+    let free = rw place at (sym (crowded-is _ _ is (view held)) ∙ sym (w .4 .ensures) ∙ w .5 .left) in
+    let stepped = fits-known _ _ _ _ held (l .loop .inv .1) (w .6 .ensures) _ (w .9 .result) (w .7 .taken) (w .9 .ensures) in
+    (rw (w .10) (length-set (held .places) _ _ ∙ l .loop .inv .1), more free (view new) (rw (w .10) (rw place at (stepped ∙ fits-is _ _ is (view held))))))
+    (λ w.
+    let is = found ∙ w .1 .given .1 in
+    let free = rw place at (sym (crowded-is _ _ is (view held)) ∙ sym (w .4 .ensures) ∙ w .5 .left) in
+    let stepped = fits-added _ _ _ _ held (l .loop .inv .1) (w .6 .ensures) (w .8 .result) (w .7 .left) (w .8 .ensures) in
+    let o : length (w .8 .result .places) ≡ 4 = simp length-map at (w .8 .ok .1 .1 .1 .0 .1 .0 .1) in
+    (rw (w .9) o, more free (view new) (rw (w .9) (rw place at (stepped ∙ fits-is _ _ is (view held))))))
+    v)
+    (c .match .came) in
+    (omega arith, r .0, r .1)
 
 returns-2 : tie.Need-returns-2 Inv-loop μ-loop
 returns-2 c =
     let l = c .before in
-    let a = l .before .before .before .args in
     let i = l .loop .inv in
-    let n : l .loop .i ≡ getD (a .reading .counts) touch-list 0 = omega arith in
-    let read = l .before .before .before .pre in
-    let d = crowd-done (a .feed .now) _ (a .reading) _ _ read (rw (n, i .2) at (i .3)) in
-    record { refusal = read .refusal ∙ d .0; devices = d .1; lists = λ z. read .lists (d .0 ∙ z) }
+    let n : l .loop .i ≡ l .before .before .args .count = omega arith in
+    let h = rw n at (i .2) in
+    record { refusal = holds-last _ _ _ _ _ _ h; devices = λ z. h .1 }
 
 pub crowd-spec : {M : Type 1} → statement M
 crowd-spec =
@@ -108,15 +130,20 @@ crowd-spec =
     (tie.spec
     Inv-loop
     μ-loop
-    cast-n
-    array-read-n
     loop-holds
     listed-requires
-    kind-at-requires
-    touch-at-requires
-    is-crowded-requires
+    touch-event-at-requires
+    enum-told
+    enum-known-found
+    no-place-requires
     returns
-    held-after-requires
+    known-at-requires
+    mul-d
+    element-copy-out-d
+    on-touch-requires
+    mul-t24
+    element-set-from-held
+    add-requires
     add-i
     loop-less
     loop-again

@@ -1,0 +1,2 @@
+// The events of a feed, each read by its own kind.
+pub mod readers;

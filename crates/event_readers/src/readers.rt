@@ -1,0 +1,159 @@
+// The event of a known kind at a place, without a choice among all kinds; what it is of another kind is free.
+use data::event::Event;
+use feed::shape::MaybeEvent;
+use feed::shape::bare;
+use feed::shape::button_shape;
+use feed::shape::focus_shape;
+use feed::shape::key_shape;
+use feed::shape::modifiers_shape;
+use feed::shape::motion_shape;
+use feed::shape::moved_shape;
+use feed::shape::rotate_shape;
+use feed::shape::touch_shape;
+use feed::shape::wheel_shape;
+use feed::shape::zoom_shape;
+ghost use mathlib.Core.Path.{_≡_};
+ghost use lib.ListN.{getD};
+ghost use Rattle.feed.specs.Split.{kind};
+ghost use Rattle.event_loop.specs.Shaped.{event-or-other, shaped-at};
+
+fn event_or_other(e: MaybeEvent) -> Event
+    ensures { λ r. ⌜ r ≡ event-or-other e ⌝ }
+{
+    match e {
+        MaybeEvent::None => Event::Other,
+        MaybeEvent::Some(event) => event,
+    }
+}
+
+pub fn key_at(feed: &[u32], at: usize) -> Event
+    ensures { λ r. ⌜ (kind (getD (now (feed .entry)) at 0) ≡ 1 → r ≡ shaped-at (now (feed .entry)) at) ⌝ }
+{
+    if at < feed.len() {
+        let e = key_shape(feed[at] % 0x1000_0000);
+        return event_or_other(e);
+    }
+    Event::Other
+}
+
+pub fn modifiers_at(feed: &[u32], at: usize) -> Event
+    ensures { λ r. ⌜ (kind (getD (now (feed .entry)) at 0) ≡ 2 → r ≡ shaped-at (now (feed .entry)) at) ⌝ }
+{
+    if at < feed.len() {
+        let e = modifiers_shape(feed[at] % 0x1000_0000);
+        return event_or_other(e);
+    }
+    Event::Other
+}
+
+pub fn moved_at(feed: &[u32], at: usize) -> Event
+    ensures { λ r. ⌜ (kind (getD (now (feed .entry)) at 0) ≡ 3 → r ≡ shaped-at (now (feed .entry)) at) ⌝ }
+{
+    if at < feed.len() {
+        if 2 < feed.len() - at {
+            let e = moved_shape(feed[at] % 0x1000_0000, feed[at + 1], feed[at + 2]);
+            return event_or_other(e);
+        }
+        return Event::Other;
+    }
+    Event::Other
+}
+
+pub fn motion_at(feed: &[u32], at: usize) -> Event
+    ensures { λ r. ⌜ (kind (getD (now (feed .entry)) at 0) ≡ 4 → r ≡ shaped-at (now (feed .entry)) at) ⌝ }
+{
+    if at < feed.len() {
+        if 2 < feed.len() - at {
+            let e = motion_shape(feed[at] % 0x1000_0000, feed[at + 1], feed[at + 2]);
+            return event_or_other(e);
+        }
+        return Event::Other;
+    }
+    Event::Other
+}
+
+pub fn button_at(feed: &[u32], at: usize) -> Event
+    ensures { λ r. ⌜ (kind (getD (now (feed .entry)) at 0) ≡ 5 → r ≡ shaped-at (now (feed .entry)) at) ⌝ }
+{
+    if at < feed.len() {
+        if 2 < feed.len() - at {
+            let e = button_shape(feed[at] % 0x1000_0000, feed[at + 1], feed[at + 2]);
+            return event_or_other(e);
+        }
+        return Event::Other;
+    }
+    Event::Other
+}
+
+pub fn gone_at(feed: &[u32], at: usize) -> Event
+    ensures { λ r. ⌜ (kind (getD (now (feed .entry)) at 0) ≡ 6 → r ≡ shaped-at (now (feed .entry)) at) ⌝ }
+{
+    if at < feed.len() {
+        let e = bare(feed[at] % 0x1000_0000, Event::PointerGone);
+        return event_or_other(e);
+    }
+    Event::Other
+}
+
+pub fn zoom_at(feed: &[u32], at: usize) -> Event
+    ensures { λ r. ⌜ (kind (getD (now (feed .entry)) at 0) ≡ 7 → r ≡ shaped-at (now (feed .entry)) at) ⌝ }
+{
+    if at < feed.len() {
+        if 1 < feed.len() - at {
+            let e = zoom_shape(feed[at] % 0x1000_0000, feed[at + 1]);
+            return event_or_other(e);
+        }
+        return Event::Other;
+    }
+    Event::Other
+}
+
+pub fn rotate_at(feed: &[u32], at: usize) -> Event
+    ensures { λ r. ⌜ (kind (getD (now (feed .entry)) at 0) ≡ 8 → r ≡ shaped-at (now (feed .entry)) at) ⌝ }
+{
+    if at < feed.len() {
+        if 1 < feed.len() - at {
+            let e = rotate_shape(feed[at] % 0x1000_0000, feed[at + 1]);
+            return event_or_other(e);
+        }
+        return Event::Other;
+    }
+    Event::Other
+}
+
+pub fn touch_at(feed: &[u32], at: usize) -> Event
+    ensures { λ r. ⌜ (kind (getD (now (feed .entry)) at 0) ≡ 9 → r ≡ shaped-at (now (feed .entry)) at) ⌝ }
+{
+    if at < feed.len() {
+        let n = 6 + (feed[at] / 4 % 2) as usize;
+        if n < feed.len() - at {
+            let e = touch_shape(feed, at, feed[at] % 0x1000_0000);
+            return event_or_other(e);
+        }
+        return Event::Other;
+    }
+    Event::Other
+}
+
+pub fn wheel_at(feed: &[u32], at: usize) -> Event
+    ensures { λ r. ⌜ (kind (getD (now (feed .entry)) at 0) ≡ 10 → r ≡ shaped-at (now (feed .entry)) at) ⌝ }
+{
+    if at < feed.len() {
+        if 2 < feed.len() - at {
+            let e = wheel_shape(feed[at] % 0x1000_0000, feed[at + 1], feed[at + 2]);
+            return event_or_other(e);
+        }
+        return Event::Other;
+    }
+    Event::Other
+}
+
+pub fn focus_at(feed: &[u32], at: usize) -> Event
+    ensures { λ r. ⌜ (kind (getD (now (feed .entry)) at 0) ≡ 11 → r ≡ shaped-at (now (feed .entry)) at) ⌝ }
+{
+    if at < feed.len() {
+        let e = focus_shape(feed[at] % 0x1000_0000);
+        return event_or_other(e);
+    }
+    Event::Other
+}

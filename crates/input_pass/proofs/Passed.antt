@@ -1,0 +1,162 @@
+-- A pass refused or taken, as its parts tell. Assumes nothing.
+use mathlib.Core.Path.{_≡_, refl, sym, ap, _∙_}
+use mathlib.Core.List.{List, map}
+use mathlib.Core.Option.{Option, none, some}
+use Prim.Native.Nat.{ℕ}
+use native.Mathlib.Omega.{arith}
+use lib.ListN.{getD}
+use lib.Ieee.{Float}
+use Rattle.data.specs.Limits.{max-events}
+use Rattle.feed.specs.Decode.{items}
+use Rattle.feed.specs.Feed.{events-of}
+use Rattle.model.specs.Types.{PassRefusal}
+use Rattle.model.specs.Touch.{TouchState, touch-events, touch-pass, end-touches}
+use Rattle.model.specs.Pass.{Panel, Interaction, or-else, own-refusal, time-of, time-or, fresh, pass-events, begin-pass, pass-refusal, pass-by, pass}
+use Rattle.model.specs.Pass as Pass
+use Rattle.event_loop.specs.Shaped.{shaped-events}
+use Rattle.event_loop.specs.Lists.{touch-list, listed, listed-events, Listed}
+use Rattle.touch_state.specs.View.{view}
+use Rattle.touch_state.specs.declared.devices.Devices.{Devices}
+use Rattle.survey.specs.Survey.{option, fits-events, fits-survey, crowd-then}
+use Rattle.survey.specs.declared.reading.Reading.{Reading}
+use Rattle.survey.proofs.Places.{fits-loop, survey-is, none-refused, devices-are}
+use Rattle.survey.specs.Laws.{InOrder}
+use Rattle.survey.proofs.Formed.{survey-law, events-law, end-law}
+use Rattle.survey.proofs.Accepted.{accepted}
+use Rattle.input_state.specs.declared.input.PassInput.{PassInput}
+use Rattle.input_state.specs.declared.state.InputState.{InputState}
+use Rattle.input_state.specs.View.{Lent, panel, time-given, input, begin-by, Acted}
+use Rattle.input_pass.specs.Begun.{outcome, refusal-of, Looked, Begun}
+use Rattle.input_pass.specs.declared.begin.Begun.{Begun as Answer}
+use Rattle.input_state.proofs.Whole.{ended-all}
+
+pub some-none : {X : Type 0} {r : PassRefusal} → some r ≡ none → X
+some-none e = let z : _≡_ {A = ℕ} 0 1 = cc in absurd (omega arith)
+
+-- ---- before the events: its own numbers, what reading tells, and the touch events
+module _ (i : PassInput) (ws ps : List ℕ) (old : Float) (r : Reading) (vs : List TouchState) (looked : Looked i ws ps old r) where
+  abbrev touches : ℕ
+  touches = getD (r .counts) touch-list 0
+
+  pub record Surveys (refusal : Option PassRefusal) (held : List TouchState) : Type 0 where
+    pub first : refusal ≡ refusal-of i ws old vs
+    pub devices : refusal-of i ws old vs ≡ none → held ≡ fits-events (shaped-events ws) vs
+    pub lists : refusal-of i ws old vs ≡ none → Listed ws ps (r .counts)
+
+  pub surveys : (refusal : Option PassRefusal) (held : List TouchState) →
+      refusal ≡ crowd-then ws (listed ps touch-list touches) (λ us. option (r .refusal)) vs →
+      (refusal ≡ none → held ≡ fits-events (listed-events ws ps touch-list touches) vs) → Surveys refusal held
+  unfolding refusal-of or-else crowd-then listed
+  surveys refusal held is are = go (own-refusal (input ws i) old) refl
+    where
+      go : (o : Option PassRefusal) → own-refusal (input ws i) old ≡ o → Surveys refusal held
+      go (some q) e =
+          let own = looked .own q e in
+          let none-counted : refusal ≡ some q = is ∙ rw (own .1) (own .0) in
+          record { first = none-counted ∙ rw e; devices = λ z. some-none (rw e at z); lists = λ z. some-none (rw e at z) }
+      go none e =
+          let read = looked .read e in
+          let same : refusal ≡ fits-survey max-events (items ws) vs = is ∙ survey-is ws ps r vs read in
+          record {
+            first = same ∙ rw e;
+            devices = λ z. are (same ∙ rw e at z) ∙ devices-are ws ps r vs read (rw e at z);
+            lists = λ z. read .lists (none-refused ws ps r vs read (rw e at z));
+          }
+
+  -- with no touch event
+  pub surveys-none : touches ≡ 0 → Surveys (option (r .refusal)) vs
+  unfolding crowd-then listed
+  surveys-none n = surveys (option (r .refusal)) vs (rw n) (λ z. rw n (sym (fits-loop .begins ws ps touch-list vs)))
+
+none-later : (a b : Option PassRefusal) → or-else a b ≡ none → b ≡ none
+unfolding or-else
+none-later none b h = h
+none-later (some r) b h = some-none h
+
+pub taken-is : (i : PassInput) (ws ps counts : List ℕ) (l l' : Lent) (s s' : InputState) (ds held ds' : Devices) (time : Float) →
+    refusal-of i ws (s .clock .time) (view ds) ≡ none →
+    view held ≡ fits-events (shaped-events ws) (view ds) →
+    Listed ws ps counts →
+    time ≡ time-or (time-given (i .time)) (i .«predicted_dt») (s .clock .time) →
+    view ds' ≡ map (end-touches time (s .pointer .place .«interact_pos») (shaped-events ws)) (view held) →
+    Acted i ws ps counts l s l' s' → (n : Interaction) (t : ℕ) →
+    panel l' s' (view ds') n t ≡ begin-by (pass-events (input ws i)) (fits-events (pass-events (input ws i)) (view ds)) (panel l s (view ds) n t) (input ws i)
+unfolding refusal-of time-of pass-events
+taken-is i ws ps counts l l' s s' ds held ds' time z h ls e k act n t =
+    let a = accepted ws max-events (view ds) (none-later (own-refusal (input ws i) (s .clock .time)) _ z) in
+    rw (k, h, e) (act .result ls (a .1) (view ds) (fits-events (shaped-events ws) (view ds)) n t ∙ rw (a .0))
+
+-- ---- the model's pass
+begin-is : (p : Panel) (i : Pass.PassInput) → begin-by (pass-events i) (touch-events (pass-events i) (p .touch-states)) p i ≡ begin-pass p i
+unfolding begin-by begin-pass touch-pass
+begin-is p i = refl
+
+module _ (i : PassInput) (ws : List ℕ) (l l' : Lent) (s : InputState) (ds : Devices) (r : Answer) where
+  abbrev first : Option PassRefusal
+  first = refusal-of i ws (s .clock .time) (view ds)
+
+  abbrev now : Interaction → ℕ → Panel
+  now n t = panel l' (r .state) (view (r .devices)) n t
+
+  module _ (q : option (r .refusal) ≡ first) (o : InOrder (view ds)) (n : Interaction) (t : ℕ) where
+    abbrev old : Panel
+    old = panel l s (view ds) n t
+
+    same-refusal : first ≡ pass-refusal old (input ws i)
+    unfolding refusal-of pass-refusal
+    same-refusal = rw (survey-law max-events (items ws) (view ds) o)
+
+    refused-whole : (x : PassRefusal) → first ≡ some x → outcome (option (r .refusal)) (now n t) ≡ pass old (input ws i)
+    unfolding pass pass-by outcome
+    refused-whole x h = rw (q, ← same-refusal, h)
+
+    survey-none : first ≡ none → fits-survey max-events (items ws) (view ds) ≡ none
+    unfolding refusal-of
+    survey-none h = none-later (own-refusal (input ws i) (s .clock .time)) _ h
+
+    taken-whole : first ≡ none → now n t ≡ begin-by (pass-events (input ws i)) (fits-events (pass-events (input ws i)) (view ds)) old (input ws i) →
+        outcome (option (r .refusal)) (now n t) ≡ pass old (input ws i)
+    unfolding pass pass-by outcome pass-events
+    taken-whole h e =
+        let v = events-law max-events (items ws) (view ds) o (survey-none h) .0 in
+        rw (q, ← same-refusal, h, e, v) (ap Pass.taken (begin-is old (input ws i)))
+
+  some-not-none : (x : PassRefusal) → first ≡ some x → first ≡ none → ⊥
+  some-not-none x h z = some-none (sym h ∙ z)
+
+  -- a pass that is refused
+  pub refused-pass : (x : PassRefusal) → option (r .refusal) ≡ first → option (r .refusal) ≡ some x → r .state ≡ s → r .devices ≡ ds → l' ≡ l → Begun i ws l s ds l' r
+  refused-pass x q y es ed el =
+      let h : first ≡ some x = sym q ∙ y in
+      record {
+        refusal = q;
+        refused = λ z. (es, ed, el);
+        taken = λ z. absurd (some-not-none x h z);
+        whole = λ o n t. refused-whole q o n t x h;
+        in-order = λ o. rw ed o;
+      }
+
+  -- a pass that is taken
+  pub taken-pass : (ps counts : List ℕ) (held : Devices) (time : Float) → option (r .refusal) ≡ first → option (r .refusal) ≡ none →
+      (first ≡ none → view held ≡ fits-events (shaped-events ws) (view ds)) →
+      (first ≡ none → Listed ws ps counts) →
+      time ≡ time-or (time-given (i .time)) (i .«predicted_dt») (s .clock .time) →
+      view (r .devices) ≡ map (end-touches time (s .pointer .place .«interact_pos») (listed-events ws ps touch-list (getD counts touch-list 0))) (view held) →
+      Acted i ws ps counts l s l' (r .state) → Begun i ws l s ds l' r
+  unfolding pass-events
+  taken-pass ps counts held time q y e ls tm m act =
+      let h : first ≡ none = sym q ∙ y in
+      let k = m ∙ ended-all ws ps counts (ls h) time (s .pointer .place .«interact_pos») (view held) in
+      let same = taken-is i ws ps counts l l' s (r .state) ds held (r .devices) time h (e h) (ls h) tm k act in
+      record {
+        refusal = q;
+        refused = λ z. absurd (z h);
+        taken = λ z. same;
+        whole = λ o n t. taken-whole q o n t h (same n t);
+        in-order =
+            λ o.
+            let later = survey-none q o (fresh .interaction) 0 h in
+            let a = accepted ws max-events (view ds) later .0 in
+            let v = events-law max-events (items ws) (view ds) o later .1 in
+            rw (k, e h, a) (end-law time (s .pointer .place .«interact_pos») (events-of (items ws)) (fits-events (events-of (items ws)) (view ds)) v);
+      }

@@ -1,0 +1,3 @@
+pub mod Types
+pub mod View
+pub mod Lookup

@@ -1,0 +1,106 @@
+// The devices at the end of a pass: their gestures go on, start or end.
+use data::touch::TouchPhase;
+use emath::pos2::MaybePos2;
+use event_loop::LISTED;
+use event_loop::TOUCHES;
+use event_loop::listed;
+use survey::touch::MaybeTouchEvent;
+use survey::touch::touch_event_at;
+use touch_device::Device;
+use touch_state::devices::Devices;
+ghost use mathlib.Core.Path.{_≡_};
+ghost use mathlib.Core.Bool.{_&&_};
+ghost use mathlib.Core.List.{[], _∷_, map};
+ghost use lib.Dec.{eqb};
+ghost use Rattle.model.specs.Touch.{adds-or-removes, added-or-removed-touches, end-touches};
+ghost use Rattle.touch_device.specs.View.{marked-view};
+ghost use Rattle.touch_state.specs.View.{view, marked};
+ghost use Rattle.event_loop.specs.Shaped.{shaped-at};
+ghost use Rattle.event_loop.specs.Lists.{listed-events, touch-list};
+ghost use Rattle.touch_ends.specs.Ends.{marked-by};
+
+fn adds_or_removes(phase: TouchPhase) -> bool
+    ensures { λ r. ⌜ r ≡ adds-or-removes phase ⌝ }
+{
+    match phase {
+        TouchPhase::Start => true,
+        TouchPhase::Move => false,
+        TouchPhase::End => true,
+        TouchPhase::Cancel => true,
+    }
+}
+
+fn adds_at(device_id: u64, feed: &[u32], at: usize) -> bool
+    ensures { λ r. ⌜ r ≡ added-or-removed-touches «device_id» (shaped-at (now (feed .entry)) at ∷ []) ⌝ }
+{
+    let found = touch_event_at(feed, at);
+    match found {
+        MaybeTouchEvent::None => false,
+        MaybeTouchEvent::Some(e) => {
+            let phase = e.phase;
+            if e.device_id == device_id {
+                return adds_or_removes(phase);
+            }
+            false
+        }
+    }
+}
+
+fn added_or_removed_touches(device_id: u64, feed: &[u32], lists: &[u16; LISTED], count: u8) -> bool
+    ensures { λ r. ⌜ r ≡ added-or-removed-touches «device_id» (listed-events (now (feed .entry)) (now (lists .entry)) touch-list count) ⌝ }
+{
+    let mut found = false;
+    let mut i: u8 = 0;
+    while i < count {
+        let at = listed(lists, TOUCHES, i);
+        let adds = adds_at(device_id, feed, at);
+        found = found | adds;
+        i += 1;
+    }
+    found
+}
+
+fn mark_device(d: Device, feed: &[u32], lists: &[u16; LISTED], count: u8) -> Device
+    ensures { λ r. ⌜ marked-view r ≡ marked-by (listed-events (now (feed .entry)) (now (lists .entry)) touch-list count) (marked-view d) ⌝ }
+{
+    let mut e = d;
+    e.added_or_removed_touches = added_or_removed_touches(d.id, feed, lists, count);
+    e
+}
+
+// Each device marked by whether the feed adds touches to it or removes them.
+fn mark(ds: Devices, feed: &[u32], lists: &[u16; LISTED], count: u8) -> Devices
+    ensures { λ r. ⌜ marked r ≡ map (marked-by (listed-events (now (feed .entry)) (now (lists .entry)) touch-list count)) (marked ds) ⌝ }
+{
+    let n = touch_state::devices::len(ds);
+    let mut a = ds.places;
+    let mut i: usize = 0;
+    while i < n {
+        let d = a[i];
+        let e = mark_device(d, feed, lists, count);
+        a[i] = e;
+        i += 1;
+    }
+    Devices {
+        count: n,
+        places: a,
+    }
+}
+
+// `pointer_pos` is the pointer's interact position of the pass before.
+pub fn end_devices(
+    ds: Devices,
+    feed: &[u32],
+    lists: &[u16; LISTED],
+    count: u8,
+    time: f64,
+    pointer_pos: MaybePos2,
+) -> Devices
+    ensures { λ r. ⌜ view r ≡ map (end-touches time «pointer_pos» (listed-events (now (feed .entry)) (now (lists .entry)) touch-list count)) (view ds) ⌝ }
+{
+    if ds.count == 0 {
+        return ds;
+    }
+    let m = mark(ds, feed, lists, count);
+    touch_state::devices::end_pass(m, time, pointer_pos)
+}

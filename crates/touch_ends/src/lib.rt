@@ -1,0 +1,2 @@
+// The touch devices at the end of a pass.
+pub mod ends;
