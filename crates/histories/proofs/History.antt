@@ -27,7 +27,7 @@ use Rattle.input_state.specs.declared.input.PassInput as Declared
 use Rattle.input_state.specs.declared.state.InputState.{InputState}
 use Rattle.input_state.specs.View.{Lent}
 use Rattle.input_pass.specs.Begun.{outcome}
-use Rattle.input_state.specs.View as Given
+use Rattle.input_state.specs.View as Shown
 use Rattle.input_pass.specs.Begun as Contract
 use Rattle.panel.specs.Steps.{ShowsInput}
 use Rattle.panel.proofs.Lookup.{looked-up}
@@ -50,7 +50,7 @@ kept x s ds l e f g =
     ∙ ap (λ (m : Lent). shows (with-input x (x .panel .input) (x .panel .devices) m)) g
 
 pass-step : (x : Running) (given : Declared.PassInput) (feed : List ℕ) (r : Begun) (l : Lent) → InOrder (view (x .panel .devices)) → Passes x given feed r l
-    → Stepped x (passes (Given.input feed given)) (pass-answer x r l) (after-pass x r l)
+    → Stepped x (passes (Shown.input feed given)) (pass-answer x r l) (after-pass x r l)
 unfolding call of-pass outcome after
 pass-step x given feed r l o h =
     record {

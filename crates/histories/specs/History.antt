@@ -26,7 +26,7 @@ use Rattle.input_pass.specs.declared.begin.Begun.{Begun}
 use Rattle.input_state.specs.declared.input.PassInput.{PassInput}
 use Rattle.input_state.specs.View.{Lent}
 use Rattle.input_pass.specs.Begun.{outcome}
-use Rattle.input_state.specs.View as Given
+use Rattle.input_state.specs.View as Shown
 use Rattle.input_pass.specs.Begun as Contract
 use Rattle.panel.specs.declared.state.Panel.{Panel}
 use Rattle.panel.specs.View.{shown-by, NoPresses, Fresh}
@@ -100,7 +100,7 @@ pub data History : Running → List Call → List Outcome → Running → Type 0
   rests : {x : Running} → History x [] [] x
   then-pass : {x y : Running} {calls : List Call} {answers : List Outcome} (given : PassInput) (feed : List ℕ) (r : Begun) (l : Lent)
       → Passes x given feed r l → History (after-pass x r l) calls answers y
-      → History x (passes (Given.input feed given) ∷ calls) (pass-answer x r l ∷ answers) y
+      → History x (passes (Shown.input feed given) ∷ calls) (pass-answer x r l ∷ answers) y
   then-interact : {x y : Running} {calls : List Call} {answers : List Outcome} (g : Given) (r : Interacted) (hovered contains : List ℕ)
       → InteractsAs x g r hovered contains → History (after-interact x r) calls answers y
       → History x (interacts (interact-input g) ∷ calls) (interact-answer x r hovered contains ∷ answers) y
