@@ -1,5 +1,6 @@
 // A whole trace: read, replayed, answered.
 use crate::call::call;
+use libc::STDERR_FILENO;
 use panel::clock::time;
 use pointer_events::CODES;
 use pointer_events::PLACES;
@@ -26,14 +27,21 @@ use widget_index::table::Edges;
 use widget_index::table::Numbers;
 use widget_index::table::Words;
 
-// No trace has more.
-const RECORDS: u32 = 0xFFFF_FFFF;
-
 // How the answers are written.
 pub enum Form {
     Whole,
     Sums,
     Text,
+}
+
+// A record passes the limit: whether the trace does, since it has these words too.
+fn say_if_longer(request: &mut Record, left: usize) {
+    if is_read(request, left) {
+        io::write_all(
+            STDERR_FILENO,
+            b"the trace is longer than 1 MiB: what follows is not replayed\n",
+        );
+    }
 }
 
 // How many words follow a record's first.
@@ -209,8 +217,8 @@ fn start() -> Going {
     }
 }
 
-// Standard input, record by record. One that is cut short, or longer than `input` takes, ends the trace.
-pub fn replay(form: Form) {
+// Standard input, record by record, up to `limit` words. A record that is cut short or passes the limit ends the trace.
+pub fn replay(form: Form, limit: usize) {
     let mut times = [0.0f64; 1000];
     let mut positions = [0.0f32; 2000];
     let mut codes = [0u32; CODES];
@@ -224,11 +232,16 @@ pub fn replay(form: Form) {
     let mut out = [0u8; 65536];
     let mut request = [0u32; 262144];
     let mut s = start();
-    let mut left: u32 = RECORDS;
+    let mut left = limit;
     let mut more = is_read(&mut request, 1);
     while more {
         let head = request[0];
         let len = wide_length(head);
+        if left <= len {
+            ended(&mut out, s, form, true);
+            say_if_longer(&mut request, left);
+            return;
+        }
         if !is_read(&mut request, len) {
             ended(&mut out, s, form, true);
             return;
@@ -251,12 +264,8 @@ pub fn replay(form: Form) {
             &request,
             len,
         );
+        left -= len + 1;
         more = is_read(&mut request, 1);
-        if left == 0 {
-            ended(&mut out, s, form, true);
-            return;
-        }
-        left -= 1;
     }
     ended(&mut out, s, form, false);
 }

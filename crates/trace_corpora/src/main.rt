@@ -2,6 +2,7 @@
 use trace::run::Form;
 use trace::run::replay;
 
+// 16 MiB of words are more than the corpora have.
 fn main() {
-    replay(Form::Sums);
+    replay(Form::Sums, 4194304);
 }
