@@ -1,10 +1,17 @@
 #!/bin/sh
 # Compares with egui where cargo and egui's sources are at hand; else says so and ends with 0.
-#   compare/run.sh [SECONDS]       default 60; EGUI_SRC: the src/ folder of egui 0.37.0
+#   compare/run.sh [SECONDS]       default: 4,000,000 calls; EGUI_SRC: the src/ folder of egui 0.37.0
+#   BUILD_ONLY=1 compare/run.sh    builds; BUILT=1 compare/run.sh takes what is built
 # The program compared is target/bin/replay, as `rt check` leaves it. Ends with 1 at any difference.
 set -eu
 here=$(cd "$(dirname "$0")" && pwd)
-seconds=${1:-60}
+if [ $# -gt 0 ]; then
+    calls=seconds=$1
+    lists=seconds=$(($1 / 4))
+else
+    calls=calls=4000000
+    lists=lists=600
+fi
 from=${EGUI_SRC:-$here/../../shared/docs/src/src}
 replay=${REPLAY:-$here/../target/bin/replay}
 if ! command -v cargo > /dev/null; then
@@ -15,10 +22,11 @@ if [ ! -f "$from/input_state/mod.rs" ]; then
     echo "compare: egui's sources are not in $from, nothing was compared with egui"
     exit 0
 fi
-if ! "$here/build.sh" "$from" > "$here/build.log" 2>&1; then
+if [ -z "${BUILT:-}" ] && ! "$here/build.sh" "$from" > "$here/build.log" 2>&1; then
     cat "$here/build.log"
     exit 1
 fi
+[ -z "${BUILD_ONLY:-}" ] || exit 0
 bin=$here/target/release
 work=$(mktemp -d)
 trap 'rm -rf "$work"' EXIT
@@ -41,5 +49,5 @@ if [ ! -x "$replay" ]; then
     "$bin/clearing" lists=1000 seed="$seed"
     exit 0
 fi
-"$bin/run" seconds="$seconds" seed="$seed" keep="$here/differs.trace" "$replay" whole
-"$bin/clearing" seconds=$((seconds / 4)) lists=300 seed="$seed" "$replay" whole
+"$bin/run" "$calls" seed="$seed" keep="$here/differs.trace" "$replay" whole
+"$bin/clearing" "$lists" seed="$seed" "$replay" whole
