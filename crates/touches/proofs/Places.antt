@@ -23,6 +23,9 @@ module _ {A : Type 0} where
   pub first-le : (c : ℕ) (a : List A) → length (take c a) ≤ length a
   first-le c a = omega (arith, length-take c a)
 
+  pub set-first : (c i : ℕ) (a : List A) (t : A) → i < length (take c a) → take c (set a i t) ≡ set (take c a) i t
+  set-first c i a t h = take-set-lt c a i t (omega (arith, length-take c a))
+
   module _ (n i : ℕ) (a : List A) (z : A) (h : i < n) (l : n ≤ length a) where
     pub rest : drop i (take n a) ≡ getD a i z ∷ drop (suc i) (take n a)
     rest =

@@ -99,16 +99,6 @@ module _ {A : Type 0} (key : A → ℕ) (d : ℕ) where
   at-no (suc i) [] h = refl
   at-no (suc i) (u ∷ us) h = at-no i us (omega arith)
 
-  index-by : (u : A) (us : List A) (b : Bool) → eqb d (key u) ≡ b → index key d us ≤ length us → index key d (u ∷ us) ≤ length (u ∷ us)
-  unfolding index
-  index-by u us true q ih = rw q (omega arith)
-  index-by u us false q ih = rw q (omega arith)
-
-  pub index-le : (us : List A) → index key d us ≤ length us
-  unfolding index
-  index-le [] = omega arith
-  index-le (u ∷ us) = index-by u us (eqb d (key u)) refl (index-le us)
-
 pub length-inserted : {A : Type 0} (i : ℕ) (x : A) (us : List A) → i ≤ length us → length (inserted-at i x us) ≡ suc (length us)
 unfolding inserted-at
 length-inserted i x us h = simp (length-append, length-take, length-drop) (omega arith)
@@ -134,8 +124,12 @@ move-set t (u ∷ us) = move-by t u us (eqb (t .id) (u .id)) refl (move-set t us
 pub some-ltb : (n : ℕ) → ltb 0 (suc n) ≡ true
 some-ltb n = lt-ltb 0 (suc n) (omega arith)
 
-pub move-out : (t : ActiveTouch) (us : List ActiveTouch) (i : ℕ) → i ≡ index touch-id (t .id) us → length us ≤ i → us ≡ move-touch t us
-move-out t us i e h = sym (set-out us i t h) ∙ rw e (move-set t us)
+module _ (t : ActiveTouch) (us : List ActiveTouch) (i : ℕ) (at : i ≡ index touch-id (t .id) us) where
+  pub move-at : set us i t ≡ move-touch t us
+  move-at = rw at (move-set t us)
+
+  pub move-out : length us ≤ i → us ≡ move-touch t us
+  move-out h = sym (set-out us i t h) ∙ move-at
 
 ltb-suc : (a b : ℕ) (c : Bool) → ltb a b ≡ c → ltb (suc a) (suc b) ≡ ltb a b
 ltb-suc a b true q = rw q (lt-ltb (suc a) (suc b) (omega (arith, ltb-true a b q)))
@@ -182,17 +176,17 @@ module _ (t : ActiveTouch) (us : List ActiveTouch) (i : ℕ) (at : i ≡ place t
       let p : insert-touch t us ≡ set us i t = rw at (insert-upsert t us ∙ upsert-hit touch-id (t .id) t (λ (u : ActiveTouch). t) t us (rw at at e)) in
       rw p (sym (fits _ _ (rw length-set l)))
 
-  pub insert-miss : is-at touch-id i (t .id) us ≡ false → length us < max-touches → inserted-at i t us ≡ if-room (insert-touch t us) us
-  insert-miss e l =
+  pub insert-miss : is-at touch-id i (t .id) us ≡ false → if-room (inserted-at i t us) us ≡ if-room (insert-touch t us) us
+  insert-miss e =
       let p : insert-touch t us ≡ inserted-at i t us = rw at (insert-upsert t us ∙ upsert-miss touch-id (t .id) t (λ (u : ActiveTouch). t) us (rw at at e)) in
-      let h : i ≤ length us = rw at (place-le touch-id (t .id) us) in
-      rw p (sym (fits _ _ (rw (length-inserted i t us h) l)))
+      rw p
 
-  pub insert-full : is-at touch-id i (t .id) us ≡ false → max-touches ≤ length us → us ≡ if-room (insert-touch t us) us
-  insert-full e l =
-      let p : insert-touch t us ≡ inserted-at i t us = rw at (insert-upsert t us ∙ upsert-miss touch-id (t .id) t (λ (u : ActiveTouch). t) us (rw at at e)) in
-      let h : i ≤ length us = rw at (place-le touch-id (t .id) us) in
-      rw p (sym (too-long _ _ (rw (length-inserted i t us h) (omega arith))))
+module _ (t : ActiveTouch) (us : List ActiveTouch) (i : ℕ) (h : i ≤ length us) where
+  pub inserted-fits : length us < max-touches → inserted-at i t us ≡ if-room (inserted-at i t us) us
+  inserted-fits l = sym (fits _ _ (rw (length-inserted i t us h) l))
+
+  pub inserted-full : max-touches ≤ length us → us ≡ if-room (inserted-at i t us) us
+  inserted-full l = sym (too-long _ _ (rw (length-inserted i t us h) (omega arith)))
 
 -- ---- whether there is one
 

@@ -6,11 +6,10 @@ use data::touch::TouchPhase;
 use emath::pos2::Pos2;
 ghost use mathlib.Core.Path.{_≡_};
 ghost use mathlib.Core.List.{[]};
-ghost use Prim.Native.Nat.{_≤_, _<_};
-ghost use lib.ListN.{length, set};
-ghost use Rattle.data.specs.Limits.{max-touches};
+ghost use Prim.Native.Nat.{_≤_};
+ghost use lib.ListN.{length};
 ghost use Rattle.model.specs.Touch.{insert-touch, move-touch, remove-touch, holds};
-ghost use Rattle.touches.specs.Touches.{list, touch-id, place, index, is-at, inserted-at, if-room, on-touch-if-room};
+ghost use Rattle.touches.specs.Touches.{list, touch-id, index, inserted-at, if-room, on-touch-if-room};
 
 pub struct Touches {
     pub count: usize,
@@ -44,23 +43,6 @@ pub fn len(ts: Touches) -> usize
     MAX_TOUCHES
 }
 
-// The first place with this id or a greater one.
-fn place_of(ts: Touches, id: u64) -> usize
-    ensures { λ r. ⌜ r ≡ place touch-id id (list ts) ⌝ }
-{
-    let n = len(ts);
-    let a = ts.places;
-    let mut i: usize = 0;
-    while i < n {
-        let x = a[i];
-        if x.id >= id {
-            return i;
-        }
-        i += 1;
-    }
-    i
-}
-
 // The first place with this id, or the number of touches.
 fn index_of(ts: Touches, id: u64) -> usize
     ensures { λ r. ⌜ r ≡ index touch-id id (list ts) ⌝ }
@@ -78,102 +60,91 @@ fn index_of(ts: Touches, id: u64) -> usize
     i
 }
 
-// Does the touch at place i have this id?
-fn is_at(ts: Touches, i: usize, id: u64) -> bool
-    ensures { λ r. ⌜ r ≡ is-at touch-id i id (list ts) ⌝ }
-{
-    if i < len(ts) {
-        let a = ts.places;
-        let x = a[i];
-        return id == x.id;
-    }
-    false
-}
-
 pub fn holds(ts: Touches, id: u64) -> bool
     ensures { λ r. ⌜ r ≡ holds id (list ts) ⌝ }
 {
     index_of(ts, id) < len(ts)
 }
 
-// The touches from place i on move up by one.
+// The touches from place i on move up by one, if there is a place.
 fn insert_at(ts: Touches, i: usize, t: ActiveTouch) -> Touches
-    requires { ⌜ (i ≤ length (list ts)) × (length (list ts) < max-touches) ⌝ }
-    ensures { λ r. ⌜ list r ≡ inserted-at i t (list ts) ⌝ }
+    requires { ⌜ i ≤ length (list ts) ⌝ }
+    ensures { λ r. ⌜ list r ≡ if-room (inserted-at i t (list ts)) (list ts) ⌝ }
 {
     let n = len(ts);
-    let mut a = ts.places;
+    if n >= MAX_TOUCHES {
+        return ts;
+    }
+    let mut s = ts;
     let mut carry = t;
     let mut k = i;
     while k < n {
-        let x = a[k];
-        a[k] = carry;
+        let x = s.places[k];
+        s.places[k] = carry;
         carry = x;
         k += 1;
     }
-    a[n] = carry;
-    Touches {
-        count: n + 1,
-        places: a,
-    }
-}
-
-fn put(ts: Touches, i: usize, t: ActiveTouch) -> Touches
-    requires { ⌜ i < length (list ts) ⌝ }
-    ensures { λ r. ⌜ list r ≡ set (list ts) i t ⌝ }
-{
-    let mut a = ts.places;
-    a[i] = t;
-    Touches {
-        count: ts.count,
-        places: a,
-    }
+    s.places[n] = carry;
+    s.count = n + 1;
+    s
 }
 
 // A held id is replaced. A touch for which there is no place is left out.
 fn insert(ts: Touches, t: ActiveTouch) -> Touches
     ensures { λ r. ⌜ list r ≡ if-room (insert-touch t (list ts)) (list ts) ⌝ }
 {
-    let i = place_of(ts, t.id);
-    if is_at(ts, i, t.id) {
-        return put(ts, i, t);
+    let n = len(ts);
+    let mut s = ts;
+    let mut i: usize = 0;
+    while i < n {
+        let x = s.places[i];
+        if x.id >= t.id {
+            if x.id == t.id {
+                s.places[i] = t;
+                return s;
+            }
+            return insert_at(s, i, t);
+        }
+        i += 1;
     }
-    if len(ts) < MAX_TOUCHES {
-        return insert_at(ts, i, t);
-    }
-    ts
+    insert_at(s, n, t)
 }
 
 // An unheld id does nothing.
 fn move_to(ts: Touches, t: ActiveTouch) -> Touches
     ensures { λ r. ⌜ list r ≡ move-touch t (list ts) ⌝ }
 {
-    let i = index_of(ts, t.id);
-    if i < len(ts) {
-        return put(ts, i, t);
+    let n = len(ts);
+    let mut s = ts;
+    let mut i: usize = 0;
+    while i < n {
+        let x = s.places[i];
+        if x.id == t.id {
+            s.places[i] = t;
+            return s;
+        }
+        i += 1;
     }
-    ts
+    s
 }
 
 fn remove(ts: Touches, id: u64) -> Touches
     ensures { λ r. ⌜ list r ≡ remove-touch id (list ts) ⌝ }
 {
     let n = len(ts);
-    let mut a = ts.places;
+    let mut s = ts;
     let mut kept: usize = 0;
     let mut i: usize = 0;
     while i < n {
-        let x = a[i];
+        let x = s.places[i];
         if x.id != id {
-            a[kept] = x;
+            s.places[kept] = x;
             kept += 1;
         }
         i += 1;
     }
-    Touches {
-        count: kept,
-        places: a,
-    }
+    s.count = kept;
+    s
 }
 
 pub fn on_touch(ts: Touches, phase: TouchPhase, t: ActiveTouch) -> Touches
