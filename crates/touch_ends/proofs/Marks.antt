@@ -1,17 +1,20 @@
--- Which devices a feed adds touches to or removes them from, event by event; and the end of a pass by those marks. Assumes nothing.
-use mathlib.Core.Path.{_≡_, refl, sym, ap, ap₂, _∙_}
+-- Which devices a feed adds touches to or removes them from, event by event; and the end of a pass by those marks, device by device. Assumes nothing.
+use mathlib.Core.Path.{_≡_, refl, ap, ap₂, _∙_}
 use mathlib.Core.Bool.{Bool, true, false, _&&_, _||_}
-use mathlib.Core.List.{List, [], _∷_, map}
-use Prim.Native.Nat.{ℕ}
+use mathlib.Core.List.{List, [], _∷_, _++_, map, map-append, append-nil}
+use Prim.Native.Nat.{ℕ, suc, _+_, _≤_, _<_}
+use native.Mathlib.Numerals.{add-one}
+use native.Mathlib.Omega.{arith}
 use lib.Dec.{eqb}
+use lib.ListN.{length, getD, set, take, drop}
+use lib.Seq.{append-snoc, take-suc-set, take-set-lt, drop-set-lt}
 use lib.Ieee.{Float}
 use Rattle.data.specs.Numbers.{kind-number}
 use Rattle.model.specs.Types.{MaybePos2, Event, Key, ModifiersChanged, PointerMoved, MouseMoved, Button, PointerGone, Zoom, Rotate, Touch, MouseWheel, WindowFocused, Other}
 use Rattle.model.specs.Touch.{TouchState, adds-or-removes, added-or-removed-touches, end-touches}
 use Rattle.touch_device.specs.declared.Device.{Device}
-use Rattle.touch_state.specs.declared.devices.Devices.{Devices}
 use Rattle.touch_device.specs.View.{Marked, device-view, marked-view, end-marked}
-use Rattle.touch_state.specs.View.{known, view, marked}
+use Rattle.touches.proofs.Places.{rest, done}
 use Rattle.event_loop.specs.Lists.{touch-list, own}
 use Rattle.event_loop.specs.Loop.{Any}
 use Rattle.event_loop.proofs.Loops.{any-loop, own-any-law}
@@ -66,25 +69,34 @@ module _ (d : ℕ) where
   unfolding added-or-removed-touches
   adds-own es = own-any-law (added-or-removed-touches d) refl adds-first touch-list (λ e h. adds-idle e (not-read touch-list e 9 h refl)) es
 
--- ---- the end of a pass
+-- ---- the end of a pass, a turn at a time: those that are done, and the rest
 module _ (time : Float) (p : MaybePos2) (es : List Event) where
-  end-one : (d : Device) → end-marked time p (marked-by es (marked-view d)) .device ≡ end-touches time p es (device-view d)
+  unfoldable pub ended : ℕ → List Device → ℕ → List TouchState
+  ended n a i = map device-view (take i a) ++ map (end-touches time p es) (map device-view (drop i (take n a)))
+
+  pub ended-start : (n : ℕ) (a : List Device) → ended n a 0 ≡ map (end-touches time p es) (map device-view (take n a))
+  unfolding ended
+  ended-start n a = refl
+
+  -- a device that is marked and then ended
+  end-one : (d m x : Device) → marked-view m ≡ marked-by es (marked-view d) → marked-view x ≡ end-marked time p (marked-view m) → device-view x ≡ end-touches time p es (device-view d)
   unfolding end-marked marked-by end-touches
-  end-one d = refl
+  end-one d m x h k = ap (λ (v : Marked). v .device) (k ∙ ap (end-marked time p) h)
 
-  end-all : (ds : List Device) →
-      map (λ (m : Marked). m .device) (map (end-marked time p) (map (marked-by es) (map marked-view ds))) ≡ map (end-touches time p es) (map device-view ds)
-  end-all [] = refl
-  end-all (d ∷ ds) = ap₂ (λ (v : TouchState) (vs : List TouchState). v ∷ vs) (end-one d) (end-all ds)
+  pub ended-step : (n i : ℕ) (a : List Device) (z m x : Device) → i < n → n ≤ length a → marked-view m ≡ marked-by es (marked-view (getD a i z)) → marked-view x ≡ end-marked time p (marked-view m)
+      → ended n (set a i x) (i + 1) ≡ ended n a i
+  unfolding ended
+  ended-step n i a z m x h l marks ends =
+      let b : i < length a = omega arith in
+      let s : i < suc i = omega arith in
+      let one = end-one (getD a i z) m x marks ends in
+      rw (add-one, take-suc-set a i x b, map-append, append-snoc, take-set-lt n a i x h, drop-set-lt (suc i) (take n a) i x s, rest n i a z h l, one)
 
-bare-view : (ds : List Device) → map (λ (m : Marked). m .device) (map marked-view ds) ≡ map device-view ds
-bare-view [] = refl
-bare-view (d ∷ ds) = ap (λ (vs : List TouchState). device-view d ∷ vs) (bare-view ds)
-
-pub all-ended : (time : Float) (p : MaybePos2) (es : List Event) (old mid new : Devices) → marked mid ≡ map (marked-by es) (marked old) →
-    marked new ≡ map (end-marked time p) (marked mid) → view new ≡ map (end-touches time p es) (view old)
-all-ended time p es old mid new h k =
-    sym (bare-view (known new)) ∙ ap (map (λ (m : Marked). m .device)) (k ∙ ap (map (end-marked time p)) h) ∙ end-all time p es (known old)
+  pub ended-end : (n i : ℕ) (a : List Device) → i ≤ n → n ≤ i → n ≤ length a → map device-view (take n a) ≡ ended n a i
+  unfolding ended
+  ended-end n i a h k l =
+      let e : i ≡ n = omega arith in
+      rw (e, done n n a (omega arith) l, append-nil)
 
 -- and of its touch events alone
 pub ended-own : (time : Float) (p : MaybePos2) (es : List Event) (vs : List TouchState) → map (end-touches time p (own touch-list es)) vs ≡ map (end-touches time p es) vs

@@ -14,7 +14,7 @@ ghost use mathlib.Core.List.{[], _∷_, map};
 ghost use lib.Dec.{eqb};
 ghost use Rattle.model.specs.Touch.{adds-or-removes, added-or-removed-touches, end-touches};
 ghost use Rattle.touch_device.specs.View.{marked-view};
-ghost use Rattle.touch_state.specs.View.{view, marked};
+ghost use Rattle.touch_state.specs.View.{view};
 ghost use Rattle.event_loop.specs.Shaped.{shaped-at};
 ghost use Rattle.event_loop.specs.Lists.{listed-events, touch-list};
 ghost use Rattle.touch_ends.specs.Ends.{marked-by};
@@ -68,25 +68,7 @@ fn mark_device(d: Device, feed: &[u32], lists: &[u16; LISTED], count: u8) -> Dev
     e
 }
 
-// Each device marked by whether the feed adds touches to it or removes them.
-fn mark(ds: Devices, feed: &[u32], lists: &[u16; LISTED], count: u8) -> Devices
-    ensures { λ r. ⌜ marked r ≡ map (marked-by (listed-events (now (feed .entry)) (now (lists .entry)) touch-list count)) (marked ds) ⌝ }
-{
-    let n = touch_state::devices::len(ds);
-    let mut a = ds.places;
-    let mut i: usize = 0;
-    while i < n {
-        let d = a[i];
-        let e = mark_device(d, feed, lists, count);
-        a[i] = e;
-        i += 1;
-    }
-    Devices {
-        count: n,
-        places: a,
-    }
-}
-
+// Each device is marked by whether the feed adds touches to it or removes them, and ended where it stands.
 // `pointer_pos` is the pointer's interact position of the pass before.
 pub fn end_devices(
     ds: Devices,
@@ -101,6 +83,14 @@ pub fn end_devices(
     if ds.count == 0 {
         return ds;
     }
-    let m = mark(ds, feed, lists, count);
-    touch_state::devices::end_pass(m, time, pointer_pos)
+    let n = touch_state::devices::len(ds);
+    let mut out = ds;
+    let mut i: usize = 0;
+    while i < n {
+        let d = out.places[i];
+        let m = mark_device(d, feed, lists, count);
+        out.places[i] = touch_device::end_pass(m, time, pointer_pos);
+        i += 1;
+    }
+    out
 }

@@ -1,18 +1,18 @@
 -- The model's questions over the devices, a turn at a time, and a device by its place. Assumes nothing.
 use mathlib.Core.Path.{_≡_, refl, sym, ap, _∙_}
-use mathlib.Core.Bool.{Bool, true, false, _||_, cond}
-use mathlib.Core.Option.{Option, none, some}
-use mathlib.Core.List.{List, [], _∷_, _++_, map, map-append, append-nil}
+use mathlib.Core.Bool.{Bool, true, false, cond}
+use mathlib.Core.Option.{none, some}
+use mathlib.Core.List.{List, [], _∷_, map}
 use Prim.Native.Nat.{ℕ, zero, suc, _+_, _≤_, _<_}
 use native.Mathlib.Numerals.{add-one}
 use native.Mathlib.Omega.{arith}
 use borrow.Author.Tests.{le-leb, lt-leb}
-use lib.Dec.{eqb, ltb, leb}
+use lib.Dec.{eqb, ltb}
 use lib.ListN.{length, getD, set, take, drop, length-map, length-take, length-set}
-use lib.Seq.{append-snoc, take-suc-set, take-set-lt, drop-set-lt, getD-take}
+use lib.Seq.{take-set-lt, getD-take}
 use Rattle.data.specs.Limits.{max-devices}
-use Rattle.model.specs.Types.{TouchPhase, ActiveTouch, MaybeMultiTouchInfo, no-info, some-info}
-use Rattle.model.specs.Touch.{TouchState, find-device, info, multi-touch, first-of as first-info, any-touches, some-touch, has-touch-screen}
+use Rattle.model.specs.Types.{TouchPhase, ActiveTouch, MaybeMultiTouchInfo, no-info}
+use Rattle.model.specs.Touch.{find-device, info, multi-touch, first-of as first-info, any-touches, some-touch, has-touch-screen}
 use Rattle.touch_device.specs.declared.Device.{Device}
 use Rattle.touches.specs.Touches.{place, index, starts, is-at, inserted-at}
 use Rattle.touch_device.specs.View.{Marked, device-view, marked-view, new-marked, touch-marked}
@@ -214,26 +214,3 @@ module _ (d i c : ℕ) (a : List Device) (ph : TouchPhase) (t : ActiveTouch) (e 
       at-upsert d f ms ∙ (upsert-miss marked-id d (f (new-marked d)) f ms (at-ms q) ∙ rw place-ms) in
       let n : max-devices < length (at-marked d f ms) = rw (s, length-inserted i (f (new-marked d)) ms h) (simp length-map (omega arith)) in
       rw (lt-leb _ _ n)
-
--- ---- the end of a pass, a turn at a time: those that are done, and the rest
-
-unfoldable pub ended : (Marked → Marked) → ℕ → List Device → ℕ → List Marked
-ended g n a i = map marked-view (take i a) ++ map g (map marked-view (drop i (take n a)))
-
-pub ended-start : (g : Marked → Marked) (n : ℕ) (a : List Device) → ended g n a 0 ≡ map g (map marked-view (take n a))
-unfolding ended
-ended-start g n a = refl
-
-pub ended-step : (g : Marked → Marked) (n i : ℕ) (a : List Device) (z x : Device) → i < n → n ≤ length a → marked-view x ≡ g (marked-view (getD a i z))
-    → ended g n (set a i x) (i + 1) ≡ ended g n a i
-unfolding ended
-ended-step g n i a z x h l p =
-    let b : i < length a = omega arith in
-    let s : i < suc i = omega arith in
-    rw (add-one, take-suc-set a i x b, map-append, append-snoc, take-set-lt n a i x h, drop-set-lt (suc i) (take n a) i x s, rest n i a z h l, p)
-
-pub ended-end : (g : Marked → Marked) (n i : ℕ) (a : List Device) → i ≤ n → n ≤ i → n ≤ length a → map marked-view (take n a) ≡ ended g n a i
-unfolding ended
-ended-end g n i a h k l =
-    let e : i ≡ n = omega arith in
-    rw (e, done n n a (omega arith) l, append-nil)

@@ -2,7 +2,6 @@
 use data::limits::MAX_DEVICES;
 use data::touch::ActiveTouch;
 use data::touch::TouchPhase;
-use emath::pos2::MaybePos2;
 use touch_device::Device;
 use touch_device::is_start;
 ghost use mathlib.Core.Path.{_≡_};
@@ -12,7 +11,6 @@ ghost use lib.ListN.{length};
 ghost use Rattle.data.specs.Limits.{max-devices};
 ghost use Rattle.model.specs.Touch.{no-place, find-device};
 ghost use Rattle.touches.specs.Touches.{place, index, is-at, inserted-at};
-ghost use Rattle.touch_device.specs.View.{end-marked};
 ghost use Rattle.touch_state.specs.View.{known, device-id, known-at, view, marked, touch-step};
 
 pub struct Devices {
@@ -156,23 +154,4 @@ pub fn no_place(ds: Devices, device_id: u64, phase: TouchPhase, id: u64) -> bool
         return touch_device::is_full(d, phase, id);
     }
     false
-}
-
-// The end of a pass for every device.
-pub fn end_pass(ds: Devices, time: f64, pointer_pos: MaybePos2) -> Devices
-    ensures { λ r. ⌜ marked r ≡ map (end-marked time «pointer_pos») (marked ds) ⌝ }
-{
-    let n = len(ds);
-    let mut a = ds.places;
-    let mut i: usize = 0;
-    while i < n {
-        let d = a[i];
-        let e = touch_device::end_pass(d, time, pointer_pos);
-        a[i] = e;
-        i += 1;
-    }
-    Devices {
-        count: n,
-        places: a,
-    }
 }
