@@ -3,15 +3,16 @@ use data::touch::TouchPhase;
 use emath::pos2::MaybePos2;
 use event_loop::LISTED;
 use event_loop::TOUCHES;
+use event_loop::kind_at;
 use event_loop::listed;
-use survey::touch::MaybeTouchEvent;
-use survey::touch::touch_event_at;
+use feed::fields::id_of;
+use feed::fields::phase_of;
 use touch_device::Device;
 use touch_state::devices::Devices;
 ghost use mathlib.Core.Path.{_≡_};
-ghost use mathlib.Core.Bool.{_&&_};
 ghost use mathlib.Core.List.{[], _∷_, map};
-ghost use lib.Dec.{eqb};
+ghost use lib.ListN.{getD};
+ghost use Rattle.feed.specs.Split.{kind};
 ghost use Rattle.model.specs.Touch.{adds-or-removes, added-or-removed-touches, end-touches};
 ghost use Rattle.touch_device.specs.View.{marked-view};
 ghost use Rattle.touch_state.specs.View.{view};
@@ -30,20 +31,33 @@ fn adds_or_removes(phase: TouchPhase) -> bool
     }
 }
 
+// Of a touch event only the first three words are read: its phase and its device.
+fn touch_adds_at(device_id: u64, feed: &[u32], at: usize) -> bool
+    ensures { λ r. ⌜ (kind (getD (now (feed .entry)) at 0) ≡ 9 → r ≡ added-or-removed-touches «device_id» (shaped-at (now (feed .entry)) at ∷ [])) ⌝ }
+{
+    if at >= feed.len() {
+        return false;
+    }
+    let low = feed[at] % 0x1000_0000;
+    let n = 6 + (feed[at] / 4 % 2) as usize;
+    if feed.len() - at <= n {
+        return false;
+    }
+    if low >= 8 {
+        return false;
+    }
+    let id = id_of(feed[at + 1], feed[at + 2]);
+    let phase = phase_of(low % 4);
+    (id == device_id) & adds_or_removes(phase)
+}
+
 fn adds_at(device_id: u64, feed: &[u32], at: usize) -> bool
     ensures { λ r. ⌜ r ≡ added-or-removed-touches «device_id» (shaped-at (now (feed .entry)) at ∷ []) ⌝ }
 {
-    let found = touch_event_at(feed, at);
-    match found {
-        MaybeTouchEvent::None => false,
-        MaybeTouchEvent::Some(e) => {
-            let phase = e.phase;
-            if e.device_id == device_id {
-                return adds_or_removes(phase);
-            }
-            false
-        }
+    if kind_at(feed, at) == 9 {
+        return touch_adds_at(device_id, feed, at);
     }
+    false
 }
 
 fn added_or_removed_touches(device_id: u64, feed: &[u32], lists: &[u16; LISTED], count: u8) -> bool
