@@ -25,25 +25,25 @@ pub const LIST_COUNT: usize = 6;
 // The places of all lists: `MAX_EVENTS` for each.
 pub const LISTED: usize = 384;
 
-// The list of a kind.
-fn list_of(kind: u32) -> u8
-    ensures { λ r. ⌜ r ≡ list-of kind ⌝ }
-{
-    match kind {
-        1 => KEYS,
-        2 => KEYS,
-        3 => POINTER,
-        4 => POINTER,
-        5 => POINTER,
-        6 => POINTER,
-        7 => SUMS,
-        8 => SUMS,
-        9 => TOUCHES,
-        10 => WHEEL,
-        11 => KEYS,
-        _ => 0,
-    }
-}
+// The list of each kind.
+const LISTS: [u8; 16] = [
+    0,
+    KEYS,
+    KEYS,
+    POINTER,
+    POINTER,
+    POINTER,
+    POINTER,
+    SUMS,
+    SUMS,
+    TOUCHES,
+    WHEEL,
+    KEYS,
+    0,
+    0,
+    0,
+    0,
+];
 
 // The kind of the event at `at`; 0 past the end.
 pub fn kind_at(feed: &[u32], at: usize) -> u32
@@ -60,7 +60,8 @@ pub fn list_at(feed: &[u32], at: usize) -> u8
     ensures { λ r. ⌜ r ≡ list-of (kind (getD (now (feed .entry)) at 0)) ⌝ }
 {
     if at < feed.len() {
-        return list_of(feed[at] / 0x1000_0000);
+        let kind = (feed[at] / 0x1000_0000) as usize;
+        return LISTS[kind];
     }
     0
 }

@@ -40,23 +40,3 @@ length-least w k h = rw (← h) (omega arith)
 pub touch-following : (w : ℕ) → kind w ≡ 9 → following w ≡ 6 + w / 4 % 2
 unfolding following
 touch-following w h = rw h
-
--- no word follows a kind that stands in no arm
-pub length-none : (k : ℕ) → (k ≡ 3 → ⊥) → (k ≡ 4 → ⊥) → (k ≡ 5 → ⊥) → (k ≡ 7 → ⊥) → (k ≡ 8 → ⊥) → (k ≡ 9 → ⊥) → (k ≡ 10 → ⊥) → 0 ≡ getD lengths k 0
-length-none zero n3 n4 n5 n7 n8 n9 n10 = refl
-length-none (suc zero) n3 n4 n5 n7 n8 n9 n10 = refl
-length-none (suc (suc zero)) n3 n4 n5 n7 n8 n9 n10 = refl
-length-none (suc (suc (suc zero))) n3 n4 n5 n7 n8 n9 n10 = absurd (n3 refl)
-length-none (suc (suc (suc (suc zero)))) n3 n4 n5 n7 n8 n9 n10 = absurd (n4 refl)
-length-none (suc (suc (suc (suc (suc zero))))) n3 n4 n5 n7 n8 n9 n10 = absurd (n5 refl)
-length-none (suc (suc (suc (suc (suc (suc zero)))))) n3 n4 n5 n7 n8 n9 n10 = refl
-length-none (suc (suc (suc (suc (suc (suc (suc zero))))))) n3 n4 n5 n7 n8 n9 n10 = absurd (n7 refl)
-length-none (suc (suc (suc (suc (suc (suc (suc (suc zero)))))))) n3 n4 n5 n7 n8 n9 n10 = absurd (n8 refl)
-length-none (suc (suc (suc (suc (suc (suc (suc (suc (suc zero))))))))) n3 n4 n5 n7 n8 n9 n10 = absurd (n9 refl)
-length-none (suc (suc (suc (suc (suc (suc (suc (suc (suc (suc zero)))))))))) n3 n4 n5 n7 n8 n9 n10 = absurd (n10 refl)
-length-none (suc (suc (suc (suc (suc (suc (suc (suc (suc (suc (suc zero))))))))))) n3 n4 n5 n7 n8 n9 n10 = refl
-length-none (suc (suc (suc (suc (suc (suc (suc (suc (suc (suc (suc (suc zero)))))))))))) n3 n4 n5 n7 n8 n9 n10 = refl
-length-none (suc (suc (suc (suc (suc (suc (suc (suc (suc (suc (suc (suc (suc zero))))))))))))) n3 n4 n5 n7 n8 n9 n10 = refl
-length-none (suc (suc (suc (suc (suc (suc (suc (suc (suc (suc (suc (suc (suc (suc zero)))))))))))))) n3 n4 n5 n7 n8 n9 n10 = refl
-length-none (suc (suc (suc (suc (suc (suc (suc (suc (suc (suc (suc (suc (suc (suc (suc zero))))))))))))))) n3 n4 n5 n7 n8 n9 n10 = refl
-length-none (suc (suc (suc (suc (suc (suc (suc (suc (suc (suc (suc (suc (suc (suc (suc (suc k)))))))))))))))) n3 n4 n5 n7 n8 n9 n10 = refl
