@@ -7,9 +7,10 @@ ghost use Prim.Native.Nat.{_+_, _*_};
 ghost use lib.ListN.{getD};
 ghost use Rattle.data.specs.Limits.{max-events};
 ghost use Rattle.feed.specs.Split.{kind};
-ghost use Rattle.event_loop.specs.Lists.{list-of};
 
-// The components that read events: the numbers of their lists. List 0 is of the events that none reads.
+// The numbers of the components' lists. The first is of the events that no component reads.
+pub const UNREAD: u8 = 0;
+
 pub const POINTER: u8 = 1;
 
 pub const KEYS: u8 = 2;
@@ -25,43 +26,12 @@ pub const LIST_COUNT: usize = 6;
 // The places of all lists: `MAX_EVENTS` for each.
 pub const LISTED: usize = 384;
 
-// The list of each kind.
-const LISTS: [u8; 16] = [
-    0,
-    KEYS,
-    KEYS,
-    POINTER,
-    POINTER,
-    POINTER,
-    POINTER,
-    SUMS,
-    SUMS,
-    TOUCHES,
-    WHEEL,
-    KEYS,
-    0,
-    0,
-    0,
-    0,
-];
-
 // The kind of the event at `at`; 0 past the end.
 pub fn kind_at(feed: &[u32], at: usize) -> u32
     ensures { λ r. ⌜ r ≡ kind (getD (now (feed .entry)) at 0) ⌝ }
 {
     if at < feed.len() {
         return feed[at] / 0x1000_0000;
-    }
-    0
-}
-
-// The list of the event at `at`; 0 past the end.
-pub fn list_at(feed: &[u32], at: usize) -> u8
-    ensures { λ r. ⌜ r ≡ list-of (kind (getD (now (feed .entry)) at 0)) ⌝ }
-{
-    if at < feed.len() {
-        let kind = (feed[at] / 0x1000_0000) as usize;
-        return LISTS[kind];
     }
     0
 }

@@ -3,9 +3,8 @@ use data::limits::MAX_EVENTS;
 use data::refusal::PassRefusal;
 use event_loop::LIST_COUNT;
 use event_loop::LISTED;
-use event_loop::list_at;
-use feed::decode::EventAt;
-use feed::decode::event_at;
+use feed_check::Verdict;
+use feed_check::verdict_at;
 ghost use mathlib.Core.Path.{_≡_};
 ghost use Prim.Native.Nat.{_+_, _*_, _%_, _<_};
 ghost use lib.ListN.{length, set};
@@ -47,23 +46,22 @@ pub fn read(feed: &[u32], lists: &mut [u16; LISTED]) -> Reading
                 counts,
             };
         }
-        let e = event_at(feed, at);
-        match e {
-            EventAt::Event(_, next) => {
-                let list = list_at(feed, at);
+        let v = verdict_at(feed, at);
+        match v {
+            Verdict::Good(list, next) => {
                 let k = counts[list as usize];
                 put(lists, list, k, at);
                 counts[list as usize] = k + 1;
                 n += 1;
                 at = next;
             }
-            EventAt::Malformed => {
+            Verdict::Malformed => {
                 return Reading {
                     refusal: MaybePassRefusal::Some(PassRefusal::Malformed(at)),
                     counts,
                 };
             }
-            EventAt::OutsideDomain => {
+            Verdict::OutsideDomain => {
                 return Reading {
                     refusal: MaybePassRefusal::Some(PassRefusal::OutsideDomain(at)),
                     counts,

@@ -8,6 +8,7 @@ use lib.ListN.{getD, length}
 use Rattle.feed.specs.Split.{kind}
 use Rattle.event_loop.proofs.OfKind.{list-small}
 use Rattle.feed.proofs.Steps.{steps}
+use Rattle.feed_check.proofs.Found.{good-at, malformed-at, outside-at}
 use Rattle.survey.specs.Survey.{option}
 use Rattle.survey.proofs.Places.{Reads, reads-first, fits, reads-more, read-done, over-is, malformed-is, outside-is, none-is, none-some}
 use Rattle.survey.proofs.reading.read.Statement.{statement}
@@ -31,39 +32,38 @@ returns c =
     let z : 64 - l .loop .n ≡ 0 = omega arith in
     read-done ws 0 (l .loop .n) (l .loop .at) _ _ _ (rw z at (l .loop .inv .1)) (λ us. over-is ws (l .loop .at) here us .0) (over-is ws (l .loop .at) here [] .1) (λ h. none-some (sym h))
 
-event-at-requires : tie.Need-event-at-requires Inv-loop μ-loop
-event-at-requires c κs = search needs
+verdict-at-requires : tie.Need-verdict-at-requires Inv-loop μ-loop
+verdict-at-requires c κs = search needs
 
-enum-known-e : tie.Need-enum-known-e Inv-loop μ-loop
-enum-known-e c = search needs
-
-list-at-requires : tie.Need-list-at-requires Inv-loop μ-loop
-list-at-requires c κs = search needs
+enum-known-v : tie.Need-enum-known-v Inv-loop μ-loop
+enum-known-v c = search needs
 
 cast-k : tie.Need-cast-k Inv-loop μ-loop
 cast-k c = search needs
 
 array-read-k : tie.Need-array-read-k Inv-loop μ-loop
 array-read-k c =
-    let l = c .before .before .before .before .before .before .before in
-    let s = list-small (kind (getD (l .before .before .args .feed .now) (l .loop .at) 0)) in
-    rw (c .list-at .ensures) (omega arith)
+    let l = c .before .before .before .before .before .before in
+    let ws = l .before .before .args .feed .now in
+    let t = good-at ws (l .loop .at) _ _ (sym (c .before .before .before .verdict-at .ensures) ∙ c .before .v .given .1) in
+    let s = list-small (kind (getD ws (l .loop .at) 0)) in
+    rw (t .list-is) (omega arith)
 
 put-requires : tie.Need-put-requires Inv-loop μ-loop
 put-requires c κs =
     let m = c .before in
-    let o = m .before .before .before .before .before .before in
+    let o = m .before .before .before .before .before in
     let l = o .before in
     let ws = l .before .before .args .feed .now in
-    let found = sym (m .before .before .before .before .event-at .ensures) ∙ m .before .before .e .given .1 in
+    let t = good-at ws (l .loop .at) _ _ (sym (m .before .before .before .verdict-at .ensures) ∙ m .before .v .given .1) in
     let z : 64 - l .loop .n ≡ suc (64 - (l .loop .n + 1)) = omega arith in
     let long : length (l .loop .lists) ≡ 384 = search needs in
-    rw (m .list-at .ensures) (fits ws (l .loop .at) _ _ (o .loop-test .taken) found _ _ _ _ long (rw z at (l .loop .inv .1)))
+    rw (t .list-is) (fits ws (l .loop .at) _ _ (o .loop-test .taken) (t .found) _ _ _ _ long (rw z at (l .loop .inv .1)))
 
 add-counts : tie.Need-add-counts Inv-loop μ-loop
 add-counts c =
-    let l = c .before .before .before .before .before .before .before .before .before .loop in
-    let k = l .inv .1 .counted (c .before .before .list-at .result) in
+    let m = c .before .before in
+    let k = m .before .before .before .before .before .before .loop .inv .1 .counted (m .before .v .given .0 .0) in
     omega arith
 
 cast-counts : tie.Need-cast-counts Inv-loop μ-loop
@@ -72,34 +72,37 @@ cast-counts c = search needs
 array-write-counts : tie.Need-array-write-counts Inv-loop μ-loop
 array-write-counts c =
     let m = c .before .before in
-    let l = m .before .before .before .before .before .before .before in
-    let s = list-small (kind (getD (l .before .before .args .feed .now) (l .loop .at) 0)) in
-    rw (m .list-at .ensures) (omega arith)
+    let l = m .before .before .before .before .before .before in
+    let ws = l .before .before .args .feed .now in
+    let t = good-at ws (l .loop .at) _ _ (sym (m .before .before .before .verdict-at .ensures) ∙ m .before .v .given .1) in
+    let s = list-small (kind (getD ws (l .loop .at) 0)) in
+    rw (t .list-is) (omega arith)
 
 add-n : tie.Need-add-n Inv-loop μ-loop
 add-n c =
-    let i = c .before .before .before .before .before .before .before .before .before .loop .inv in
+    let i = c .before .before .before .before .before .before .before .before .loop .inv in
     omega arith
 
 loop-less : tie.Need-loop-less Inv-loop μ-loop
 loop-less c =
     let m = c .before .before in
-    let o = m .before .before .before .before .before .before in
+    let o = m .before .before .before .before .before in
     let l = o .before in
-    let found = sym (m .before .before .before .before .event-at .ensures) ∙ m .before .before .e .given .1 in
-    let s = steps .event (l .before .before .args .feed .now) (l .loop .at) _ _ (o .loop-test .taken) found in
+    let ws = l .before .before .args .feed .now in
+    let t = good-at ws (l .loop .at) _ _ (sym (m .before .before .before .verdict-at .ensures) ∙ m .before .v .given .1) in
+    let s = steps .event ws (l .loop .at) _ _ (o .loop-test .taken) (t .found) in
     omega (arith, s .1, s .2)
 
 loop-again : tie.Need-loop-again Inv-loop μ-loop
 loop-again c =
     let m = c .before .before in
-    let o = m .before .before .before .before .before .before in
+    let o = m .before .before .before .before .before in
     let l = o .before in
     let ws = l .before .before .args .feed .now in
-    let found = sym (m .before .before .before .before .event-at .ensures) ∙ m .before .before .e .given .1 in
+    let t = good-at ws (l .loop .at) _ _ (sym (m .before .before .before .verdict-at .ensures) ∙ m .before .v .given .1) in
     let z : 64 - l .loop .n ≡ suc (64 - (l .loop .n + 1)) = omega arith in
     let long : length (l .loop .lists) ≡ 384 = search needs in
-    (omega arith, rw (c .put .ensures, m .list-at .ensures) (reads-more ws (l .loop .at) _ _ (o .loop-test .taken) found _ _ _ _ long (rw z at (l .loop .inv .1))))
+    (omega arith, rw (c .put .ensures, t .list-is) (reads-more ws (l .loop .at) _ _ (o .loop-test .taken) (t .found) _ _ _ _ long (rw z at (l .loop .inv .1))))
 
 enum-told : tie.Need-enum-told Inv-loop μ-loop
 enum-told c = search needs
@@ -110,7 +113,7 @@ returns-2 c =
     let o = c .before .before .before .before in
     let l = o .before in
     let ws = l .before .before .args .feed .now in
-    let found = sym (c .before .before .event-at .ensures) ∙ c .enum-told .given .1 in
+    let found = malformed-at ws (l .loop .at) (sym (c .before .before .verdict-at .ensures) ∙ c .enum-told .given .1) in
     let z : 64 - l .loop .n ≡ suc (64 - (l .loop .n + 1)) = omega arith in
     let is = malformed-is ws (l .loop .at) (o .loop-test .taken) (64 - (l .loop .n + 1)) found in
     read-done ws _ (l .loop .n) (l .loop .at) _ _ _ (rw z at (l .loop .inv .1)) (λ us. is us .0) (is [] .1) (λ h. none-some (sym h))
@@ -124,7 +127,7 @@ returns-3 c =
     let o = c .before .before .before .before in
     let l = o .before in
     let ws = l .before .before .args .feed .now in
-    let found = sym (c .before .before .event-at .ensures) ∙ c .enum-told2 .given .1 in
+    let found = outside-at ws (l .loop .at) (sym (c .before .before .verdict-at .ensures) ∙ c .enum-told2 .given .1) in
     let z : 64 - l .loop .n ≡ suc (64 - (l .loop .n + 1)) = omega arith in
     let is = outside-is ws (l .loop .at) (o .loop-test .taken) (64 - (l .loop .n + 1)) found in
     read-done ws _ (l .loop .n) (l .loop .at) _ _ _ (rw z at (l .loop .inv .1)) (λ us. is us .0) (is [] .1) (λ h. none-some (sym h))
@@ -145,9 +148,8 @@ read-spec =
     μ-loop
     loop-holds
     returns
-    event-at-requires
-    enum-known-e
-    list-at-requires
+    verdict-at-requires
+    enum-known-v
     cast-k
     array-read-k
     put-requires

@@ -1,0 +1,27 @@
+-- `rotate` meets its contract. Assumes nothing.
+use borrow.Author.Tests.{le-ltb, lt-ltb}
+use borrow.Author.Needs.{needs}
+use Rattle.feed_check.specs.Verdict.{judged}
+use Rattle.feed_check.proofs.rotate.Statement.{statement}
+use Rattle.feed_check.proofs.rotate.Tie as tie
+
+float-of-requires : tie.Need-float-of-requires
+float-of-requires c κs = search needs
+
+radians-ok-requires : tie.Need-radians-ok-requires
+radians-ok-requires c κs = search needs
+
+in-domain-requires : tie.Need-in-domain-requires
+in-domain-requires c κs = search needs
+
+returns : tie.Need-returns
+unfolding judged
+returns c = rw (c .in-domain .ensures, c .before .radians-ok .ensures, c .before .before .float-of .ensures, lt-ltb _ _ (c .before .before .before .if1 .taken))
+
+returns-2 : tie.Need-returns-2
+unfolding judged
+returns-2 c = rw (le-ltb _ _ (c .if1 .left))
+
+pub rotate-spec : {M : Type 1} → statement M
+rotate-spec =
+    tie.close (tie.spec float-of-requires radians-ok-requires in-domain-requires returns returns-2)
