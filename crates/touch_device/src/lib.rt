@@ -92,9 +92,11 @@ pub fn is_full(d: Device, phase: TouchPhase, id: u64) -> bool
     ensures { λ r. ⌜ r ≡ no-place phase id 0 (some (device-view d)) ⌝ }
 {
     let touches = d.touches;
+    if touches.count < MAX_TOUCHES {
+        return false;
+    }
     let held = touches::holds(touches, id);
-    let full = MAX_TOUCHES <= touches::len(touches);
-    (is_start(phase) & !held) & full
+    is_start(phase) & !held
 }
 
 // The end of a pass, with the pointer's interact position of the pass before.
