@@ -54,6 +54,9 @@ module _ (d k : ℕ) (ph : TouchPhase) (t : ActiveTouch) (old : Devices) (room :
   at-most : length (known old) ≤ max-devices
   at-most = omega (arith, length-take (old .count) (old .places))
 
+  pub place-most : k ≤ max-devices
+  place-most = rw found (known-at-le d _ (old .count) (old .places) ph t refl at-most)
+
   pub fits-known : (z x : Device) → k < max-devices → marked-view x ≡ touch-marked ph t (marked-view (getD (old .places) k z))
       → view (record { count = old .count; places = set (old .places) k x }) ≡ fits-touch d ph t (view old)
   fits-known z x h p =
@@ -62,5 +65,5 @@ module _ (d k : ℕ) (ph : TouchPhase) (t : ActiveTouch) (old : Devices) (room :
 
   pub fits-added : (new : Devices) → max-devices ≤ k → (known-at d (known old) ≡ max-devices → marked new ≡ touch-step d ph t (marked old)) → view new ≡ fits-touch d ph t (view old)
   fits-added new h added =
-      let l : known-at d (known old) ≤ max-devices = known-at-le d _ (old .count) (old .places) ph t refl at-most in
+      let l = place-most in
       fitted d ph t old new (added (omega arith))

@@ -1,5 +1,6 @@
 pub mod Places
 pub mod TouchOf
 pub mod Fits
+pub mod Apart
 pub mod Accepted
 pub mod Formed

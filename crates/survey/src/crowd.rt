@@ -4,13 +4,23 @@ use crate::touch::MaybeTouchEvent;
 use crate::touch::touch_event_at;
 use data::limits::MAX_DEVICES;
 use data::refusal::PassRefusal;
+use data::touch::TouchPhase;
 use event_loop::LISTED;
 use event_loop::TOUCHES;
 use event_loop::listed;
+use touch_device::Device;
 use touch_state::devices::Devices;
 use touch_state::devices::add;
 use touch_state::devices::known_at;
 use touch_state::devices::no_place;
+ghost use mathlib.Core.Path.{_≡_};
+ghost use mathlib.Core.Bool.{cond};
+ghost use mathlib.Core.Option.{some};
+ghost use lib.Dec.{ltb};
+ghost use lib.ListN.{length};
+ghost use Rattle.data.specs.Limits.{max-devices};
+ghost use Rattle.model.specs.Touch.{no-place, find-device};
+ghost use Rattle.touch_device.specs.View.{device-view};
 ghost use Rattle.touch_state.specs.View.{view};
 ghost use Rattle.survey.specs.Survey.{option, Crowded};
 
@@ -20,7 +30,25 @@ pub struct Surveyed {
     pub devices: Devices,
 }
 
-// The touch events in their list, of which there are `count`; `later` is what is refused after them. A known device is changed where it stands.
+// Is there no place for a touch event: of the device at place k, or of one that is not known?
+fn is_crowded(
+    held: Devices,
+    k: usize,
+    device: Device,
+    device_id: u64,
+    phase: TouchPhase,
+    id: u64,
+) -> bool
+    ensures { λ r. ⌜ r ≡ cond (ltb k max-devices) (no-place phase id 0 (some (device-view device))) (no-place phase id (length (view held)) (find-device «device_id» (view held))) ⌝ }
+{
+    if k < MAX_DEVICES {
+        return touch_device::is_full(device, phase, id);
+    }
+    no_place(held, device_id, phase, id)
+}
+
+// The touch events in their list, of which there are `count`; `later` is what is refused after them.
+// `device` is the one of the last event, at place k; it is put back when another's turn comes. MAX_DEVICES is no place.
 pub fn crowd(
     ds: Devices,
     feed: &[u32],
@@ -31,6 +59,8 @@ pub fn crowd(
     ensures { λ r. ⌜ Crowded (now (feed .entry)) (now (lists .entry)) count (option later) (view ds) r ⌝ }
 {
     let mut held = ds;
+    let mut k: usize = MAX_DEVICES;
+    let mut device = touch_device::new(0);
     let mut i: u8 = 0;
     while i < count {
         let at = listed(lists, TOUCHES, i);
@@ -40,22 +70,32 @@ pub fn crowd(
             MaybeTouchEvent::Some(e) => {
                 let phase = e.phase;
                 let touch = e.touch;
-                if no_place(held, e.device_id, phase, touch.id) {
+                if (k == MAX_DEVICES) | (device.id != e.device_id) {
+                    if k < MAX_DEVICES {
+                        held.places[k] = device;
+                    }
+                    k = known_at(held, e.device_id);
+                    if k < MAX_DEVICES {
+                        device = held.places[k];
+                    }
+                }
+                if is_crowded(held, k, device, e.device_id, phase, touch.id) {
                     return Surveyed {
                         refusal: MaybePassRefusal::Some(PassRefusal::NoPlace(at)),
                         devices: held,
                     };
                 }
-                let k = known_at(held, e.device_id);
                 if k < MAX_DEVICES {
-                    let d = held.places[k];
-                    held.places[k] = touch_device::on_touch(d, phase, touch);
+                    device = touch_device::on_touch(device, phase, touch);
                 } else {
                     held = add(held, e.device_id, phase, touch);
                 }
             }
         }
         i += 1;
+    }
+    if k < MAX_DEVICES {
+        held.places[k] = device;
     }
     Surveyed {
         refusal: later,

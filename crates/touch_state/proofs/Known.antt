@@ -135,6 +135,15 @@ fits-devices : (d : ℕ) (ph : TouchPhase) (t : ActiveTouch) (ms new : List Mark
 unfolding touch-step
 fits-devices d ph t ms new e h = rw (e, le-leb _ _ h)
 
+-- where `known-at` finds a device, it has the id
+pub known-place : (d k : ℕ) (us : List Device) → k ≡ known-at d us → k < max-devices → (k ≡ place device-id d us) × (is-at device-id k d us ≡ true)
+unfolding known-at
+known-place d k us h b = go (is-at device-id (place device-id d us) d us) refl
+  where
+    go : (v : Bool) → is-at device-id (place device-id d us) d us ≡ v → (k ≡ place device-id d us) × (is-at device-id k d us ≡ true)
+    go true q = let e : k ≡ place device-id d us = rw q at h in (e, rw e q)
+    go false q = let none-known : k ≡ max-devices = rw q at h in absurd (omega arith)
+
 module _ (d i c : ℕ) (a : List Device) (ph : TouchPhase) (t : ActiveTouch) (e : i ≡ place device-id d (take c a)) where
   unfoldable f : Marked → Marked
   f = touch-marked ph t
@@ -172,18 +181,13 @@ module _ (d i c : ℕ) (a : List Device) (ph : TouchPhase) (t : ActiveTouch) (e 
   -- the device that `known-at` finds, changed where it stands
   pub touched-known : (z x : Device) (k : ℕ) → k ≡ known-at d (take c a) → k < max-devices → length (take c a) ≤ max-devices → marked-view x ≡ touch-marked ph t (marked-view (getD a k z))
       → map marked-view (take c (set a k x)) ≡ touch-step d ph t (map marked-view (take c a))
-  unfolding known-at
-  touched-known z x k h b l p = go (is-at device-id i d (take c a)) refl
-    where
-      go : (v : Bool) → is-at device-id i d (take c a) ≡ v → map marked-view (take c (set a k x)) ≡ touch-step d ph t (map marked-view (take c a))
-      go true q =
-          let same : k ≡ i = rw (← e, q) at h in
-          let n : i < length (take c a) = at-lt device-id d i (take c a) q in
-          let m : k < c = omega (arith, length-take c a) in
-          rw (take-set-lt c a k x m, same) (touched-hit z x q l (rw same at p))
-      go false q =
-          let none-known : k ≡ max-devices = rw (← e, q) at h in
-          absurd (omega arith)
+  touched-known z x k h b l p =
+      let at = known-place d k (take c a) h b in
+      let same : k ≡ i = at .0 ∙ sym e in
+      let q : is-at device-id i d (take c a) ≡ true = rw same at (at .1) in
+      let n : i < length (take c a) = at-lt device-id d i (take c a) q in
+      let m : k < c = omega (arith, length-take c a) in
+      rw (take-set-lt c a k x m, same) (touched-hit z x q l (rw same at p))
 
   pub touched-miss : (x : Device) → is-at device-id i d (take c a) ≡ false → length (take c a) < max-devices → marked-view x ≡ touch-marked ph t (new-marked d)
       → map marked-view (inserted-at i x (take c a)) ≡ touch-step d ph t (map marked-view (take c a))
