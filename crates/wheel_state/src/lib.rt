@@ -12,6 +12,9 @@ use emath::rect::Rect;
 use emath::vec2::Vec2;
 ghost use mathlib.Core.Path.{_≡_};
 ghost use mathlib.Core.Bool.{true};
+ghost use lib.Ieee.{lt};
+ghost use Rattle.emath.specs.Vec.{length};
+ghost use Rattle.model.specs.Numbers.{eight};
 ghost use Rattle.model.specs.Wheel.{wheel-default, is-static, is-in-touch, is-trackpad, is-scrolling, timeout, is-scroll-action-over, end-scroll-action-if};
 ghost use Rattle.model.specs.Wheel.{move-status, move-modifiers, in-points, swapped, axes, small, add-delta, on-move, on-phase, on-wheel-event};
 ghost use Rattle.model.specs.Wheel.{applied, unapplied, smoothed, end-if-still, after-events, clear-smooth, stopped-wheel};
@@ -176,11 +179,21 @@ fn axes(options: InputOptions, modifiers: Modifiers, delta: Vec2) -> Vec2
     swapped(is_horizontal, is_vertical, delta)
 }
 
+// Is it shorter than 8? With a square of 64 or more no root is taken: roots never fall.
+fn is_short(delta: Vec2) -> bool
+    ensures { λ r. ⌜ r ≡ lt (length delta) eight ⌝ }
+{
+    if 64.0 <= delta.length_sq() {
+        return false;
+    }
+    delta.length() < 8.0
+}
+
 fn small(unit: MouseWheelUnit, delta: Vec2) -> bool
     ensures { λ r. ⌜ r ≡ small unit delta ⌝ }
 {
     match unit {
-        MouseWheelUnit::Point => delta.length() < 8.0,
+        MouseWheelUnit::Point => is_short(delta),
         MouseWheelUnit::Line => false,
         MouseWheelUnit::Page => false,
     }
