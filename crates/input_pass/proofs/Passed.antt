@@ -19,7 +19,7 @@ use Rattle.touch_state.specs.View.{view}
 use Rattle.touch_state.specs.declared.devices.Devices.{Devices}
 use Rattle.survey.specs.Survey.{option, fits-events, fits-survey, crowd-then}
 use Rattle.survey.specs.declared.reading.Reading.{Reading}
-use Rattle.survey.proofs.Places.{fits-loop, survey-is, none-refused, devices-are}
+use Rattle.survey.proofs.Places.{survey-is, none-refused, devices-are}
 use Rattle.survey.specs.Laws.{InOrder}
 use Rattle.survey.proofs.Formed.{survey-law, events-law, end-law}
 use Rattle.survey.proofs.Accepted.{accepted}
@@ -38,18 +38,20 @@ module _ (i : PassInput) (ws ps : List ℕ) (old : Float) (r : Reading) (vs : Li
   abbrev touches : ℕ
   touches = getD (r .counts) touch-list 0
 
-  pub record Surveys (refusal : Option PassRefusal) (held : List TouchState) : Type 0 where
+  -- the devices after the touch events, as their list tells
+  abbrev held : List TouchState
+  held = fits-events (listed-events ws ps touch-list touches) vs
+
+  pub record Surveys (refusal : Option PassRefusal) : Type 0 where
     pub first : refusal ≡ refusal-of i ws old vs
     pub devices : refusal-of i ws old vs ≡ none → held ≡ fits-events (shaped-events ws) vs
     pub lists : refusal-of i ws old vs ≡ none → Listed ws ps (r .counts)
 
-  pub surveys : (refusal : Option PassRefusal) (held : List TouchState) →
-      refusal ≡ crowd-then ws (listed ps touch-list touches) (λ us. option (r .refusal)) vs →
-      (refusal ≡ none → held ≡ fits-events (listed-events ws ps touch-list touches) vs) → Surveys refusal held
+  pub surveys : (refusal : Option PassRefusal) → refusal ≡ crowd-then ws (listed ps touch-list touches) (λ us. option (r .refusal)) vs → Surveys refusal
   unfolding refusal-of or-else crowd-then listed
-  surveys refusal held is are = go (own-refusal (input ws i) old) refl
+  surveys refusal is = go (own-refusal (input ws i) old) refl
     where
-      go : (o : Option PassRefusal) → own-refusal (input ws i) old ≡ o → Surveys refusal held
+      go : (o : Option PassRefusal) → own-refusal (input ws i) old ≡ o → Surveys refusal
       go (some q) e =
           let own = looked .own q e in
           let none-counted : refusal ≡ some q = is ∙ rw (own .1) (own .0) in
@@ -59,30 +61,25 @@ module _ (i : PassInput) (ws ps : List ℕ) (old : Float) (r : Reading) (vs : Li
           let same : refusal ≡ fits-survey max-events (items ws) vs = is ∙ survey-is ws ps r vs read in
           record {
             first = same ∙ rw e;
-            devices = λ z. are (same ∙ rw e at z) ∙ devices-are ws ps r vs read (rw e at z);
+            devices = λ z. devices-are ws ps r vs read (rw e at z);
             lists = λ z. read .lists (none-refused ws ps r vs read (rw e at z));
           }
-
-  -- with no touch event
-  pub surveys-none : touches ≡ 0 → Surveys (option (r .refusal)) vs
-  unfolding crowd-then listed
-  surveys-none n = surveys (option (r .refusal)) vs (rw n) (λ z. rw n (sym (fits-loop .begins ws ps touch-list vs)))
 
 none-later : (a b : Option PassRefusal) → or-else a b ≡ none → b ≡ none
 unfolding or-else
 none-later none b h = h
 none-later (some r) b h = some-none h
 
-pub taken-is : (i : PassInput) (ws ps counts : List ℕ) (l l' : Lent) (s s' : InputState) (ds held ds' : Devices) (time : Float) →
+pub taken-is : (i : PassInput) (ws ps counts : List ℕ) (l l' : Lent) (s s' : InputState) (ds ds' : Devices) (held : List TouchState) (time : Float) →
     refusal-of i ws (s .clock .time) (view ds) ≡ none →
-    view held ≡ fits-events (shaped-events ws) (view ds) →
+    held ≡ fits-events (shaped-events ws) (view ds) →
     Listed ws ps counts →
     time ≡ time-or (time-given (i .time)) (i .«predicted_dt») (s .clock .time) →
-    view ds' ≡ map (end-touches time (s .pointer .place .«interact_pos») (shaped-events ws)) (view held) →
+    view ds' ≡ map (end-touches time (s .pointer .place .«interact_pos») (shaped-events ws)) held →
     Acted i ws ps counts l s l' s' → (n : Interaction) (t : ℕ) →
     panel l' s' (view ds') n t ≡ begin-by (pass-events (input ws i)) (fits-events (pass-events (input ws i)) (view ds)) (panel l s (view ds) n t) (input ws i)
 unfolding refusal-of time-of pass-events
-taken-is i ws ps counts l l' s s' ds held ds' time z h ls e k act n t =
+taken-is i ws ps counts l l' s s' ds ds' held time z h ls e k act n t =
     let a = accepted ws max-events (view ds) (none-later (own-refusal (input ws i) (s .clock .time)) _ z) in
     rw (k, h, e) (act .result ls (a .1) (view ds) (fits-events (shaped-events ws) (view ds)) n t ∙ rw (a .0))
 
@@ -137,17 +134,17 @@ module _ (i : PassInput) (ws : List ℕ) (l l' : Lent) (s : InputState) (ds : De
       }
 
   -- a pass that is taken
-  pub taken-pass : (ps counts : List ℕ) (held : Devices) (time : Float) → option (r .refusal) ≡ first → option (r .refusal) ≡ none →
-      (first ≡ none → view held ≡ fits-events (shaped-events ws) (view ds)) →
+  pub taken-pass : (ps counts : List ℕ) (held : List TouchState) (time : Float) → option (r .refusal) ≡ first → option (r .refusal) ≡ none →
+      (first ≡ none → held ≡ fits-events (shaped-events ws) (view ds)) →
       (first ≡ none → Listed ws ps counts) →
       time ≡ time-or (time-given (i .time)) (i .«predicted_dt») (s .clock .time) →
-      view (r .devices) ≡ map (end-touches time (s .pointer .place .«interact_pos») (listed-events ws ps touch-list (getD counts touch-list 0))) (view held) →
+      view (r .devices) ≡ map (end-touches time (s .pointer .place .«interact_pos») (listed-events ws ps touch-list (getD counts touch-list 0))) held →
       Acted i ws ps counts l s l' (r .state) → Begun i ws l s ds l' r
   unfolding pass-events
   taken-pass ps counts held time q y e ls tm m act =
       let h : first ≡ none = sym q ∙ y in
-      let k = m ∙ ended-all ws ps counts (ls h) time (s .pointer .place .«interact_pos») (view held) in
-      let same = taken-is i ws ps counts l l' s (r .state) ds held (r .devices) time h (e h) (ls h) tm k act in
+      let k = m ∙ ended-all ws ps counts (ls h) time (s .pointer .place .«interact_pos») held in
+      let same = taken-is i ws ps counts l l' s (r .state) ds (r .devices) held time h (e h) (ls h) tm k act in
       record {
         refusal = q;
         refused = λ z. absurd (z h);

@@ -11,11 +11,10 @@ use input_state::state::InputState;
 use input_state::state::act;
 use pointer_events::CODES;
 use pointer_events::PLACES;
-use survey::crowd::crowd;
 use survey::reading::MaybePassRefusal;
 use survey::reading::Reading;
 use survey::reading::read;
-use touch_ends::ends::end_devices;
+use touch_ends::pass::touch_pass;
 use touch_state::devices::Devices;
 ghost use Rattle.input_state.specs.View.{lent};
 ghost use Rattle.input_pass.specs.Begun.{Looked};
@@ -42,7 +41,7 @@ fn look(old: f64, i: PassInput, feed: &[u32], lists: &mut [u16; LISTED]) -> Read
     }
 }
 
-// egui's `begin_pass`. A gesture starts at the interact position of the pass before. With no touch event the devices stand where they are.
+// egui's `begin_pass`. A gesture starts at the interact position of the pass before.
 pub fn begin_pass(
     s: InputState,
     ds: Devices,
@@ -57,17 +56,18 @@ pub fn begin_pass(
     ensures { λ r. ⌜ BegunAs i (now (feed .entry)) (lent (now (times .entry)) (now (positions .entry)) (now (codes .entry)) (now (places .entry)) (now (presses .entry))) s ds (lent (now (times .exit)) (now (positions .exit)) (now (codes .exit)) (now (places .exit)) (now (presses .exit))) r ⌝ }
 {
     let clock = s.clock;
+    let pointer = s.pointer;
+    let place = pointer.place;
+    let pos = place.interact_pos;
+    let given = i.time;
+    let time = time_of(given, i.predicted_dt, clock.time);
     let mut lists = [0u16; LISTED];
     let looked = look(clock.time, i, feed, &mut lists);
     let counts = looked.counts;
     let touches = counts[TOUCHES as usize];
-    let mut refusal = looked.refusal;
-    let mut held = ds;
-    if touches > 0 {
-        let surveyed = crowd(ds, feed, &lists, touches, refusal);
-        refusal = surveyed.refusal;
-        held = surveyed.devices;
-    }
+    let later = looked.refusal;
+    let passed = touch_pass(ds, feed, &lists, touches, later, time, pos);
+    let refusal = passed.refusal;
     match refusal {
         MaybePassRefusal::Some(q) => Begun {
             state: s,
@@ -75,12 +75,6 @@ pub fn begin_pass(
             refusal: MaybePassRefusal::Some(q),
         },
         MaybePassRefusal::None => {
-            let given = i.time;
-            let time = time_of(given, i.predicted_dt, clock.time);
-            let pointer = s.pointer;
-            let place = pointer.place;
-            let pos = place.interact_pos;
-            let devices = end_devices(held, feed, &lists, touches, time, pos);
             let state = act(
                 s,
                 times,
@@ -93,6 +87,7 @@ pub fn begin_pass(
                 &lists,
                 counts,
             );
+            let devices = passed.devices;
             Begun {
                 state,
                 devices,

@@ -1,2 +1,3 @@
-// The touch devices at the end of a pass.
+// The touch devices in a pass and at its end.
 pub mod ends;
+pub mod pass;
