@@ -10,7 +10,6 @@ use gesture::forget_previous_if;
 use gesture::update_gesture;
 use touches::Touches;
 ghost use mathlib.Core.Path.{_≡_};
-ghost use lib.ListN.{length};
 ghost use mathlib.Core.Option.{some};
 ghost use Rattle.model.specs.Touch.{is-start, adds-or-removes, no-place, any-touches-at};
 ghost use Rattle.touch_device.specs.View.{device-view, marked-view, new-marked, touch-marked, end-marked};
@@ -48,7 +47,7 @@ pub fn is_start(phase: TouchPhase) -> bool
     }
 }
 
-fn adds_or_removes(phase: TouchPhase) -> bool
+pub fn adds_or_removes(phase: TouchPhase) -> bool
     ensures { λ r. ⌜ r ≡ adds-or-removes phase ⌝ }
 {
     match phase {

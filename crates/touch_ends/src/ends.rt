@@ -1,5 +1,4 @@
 // The devices at the end of a pass: their gestures go on, start or end.
-use data::touch::TouchPhase;
 use emath::pos2::MaybePos2;
 use event_loop::LISTED;
 use event_loop::TOUCHES;
@@ -8,28 +7,18 @@ use event_loop::listed;
 use feed::fields::id_of;
 use feed::fields::phase_of;
 use touch_device::Device;
+use touch_device::adds_or_removes;
 use touch_state::devices::Devices;
 ghost use mathlib.Core.Path.{_≡_};
 ghost use mathlib.Core.List.{[], _∷_, map};
 ghost use lib.ListN.{getD};
 ghost use Rattle.feed.specs.Split.{kind};
-ghost use Rattle.model.specs.Touch.{adds-or-removes, added-or-removed-touches, end-touches};
+ghost use Rattle.model.specs.Touch.{added-or-removed-touches, end-touches};
 ghost use Rattle.touch_device.specs.View.{marked-view};
 ghost use Rattle.touch_state.specs.View.{view};
 ghost use Rattle.event_loop.specs.Shaped.{shaped-at};
 ghost use Rattle.event_loop.specs.Lists.{listed-events, touch-list};
 ghost use Rattle.touch_ends.specs.Ends.{marked-by};
-
-fn adds_or_removes(phase: TouchPhase) -> bool
-    ensures { λ r. ⌜ r ≡ adds-or-removes phase ⌝ }
-{
-    match phase {
-        TouchPhase::Start => true,
-        TouchPhase::Move => false,
-        TouchPhase::End => true,
-        TouchPhase::Cancel => true,
-    }
-}
 
 // Of a touch event only the first three words are read: its phase and its device.
 fn touch_adds_at(device_id: u64, feed: &[u32], at: usize) -> bool
