@@ -1,5 +1,5 @@
 -- Events of the kinds that a component does not read leave it as it is; and its loop along its list. Assumes nothing.
-use mathlib.Core.Path.{_≡_, refl}
+use mathlib.Core.Path.{_≡_, refl, sym}
 use mathlib.Core.Bool.{Bool, true, false, _||_}
 use mathlib.Core.List.{List, [], _∷_, _++_}
 use Prim.Native.Nat.{ℕ, _+_, _≤_}
@@ -11,6 +11,9 @@ use Rattle.model.specs.Types.{Rect, InputOptions, WheelState}
 use Rattle.model.specs.Types.{Event, Key, ModifiersChanged, PointerMoved, MouseMoved, Button, PointerGone, Zoom, Rotate, Touch, MouseWheel, WindowFocused, Other}
 use Rattle.model.specs.Pointer.{Place, Press, start-place, place-event, place-events, place-pass, clear-history-after, press-event, press-events, press-pass, add-event, press-button, release-button, release}
 use Rattle.model.specs.Wheel.{wheel-event, wheel-events, wheel-pass, clear-smooth}
+use Rattle.pointer_events.proofs.Stored.{capped-events}
+use Rattle.pointer_state.specs.declared.press.Press.{Press as PressHeld}
+use Rattle.pointer_state.specs.View.{press, Stepped}
 use Rattle.event_loop.specs.Lists.{pointer-list, wheel-list, own}
 use Rattle.event_loop.specs.Loop.{Loop, Any}
 use Rattle.event_loop.proofs.Loops.{loop, own-law, any-loop, own-any-law}
@@ -112,7 +115,7 @@ module _ (r : Rect) (o : InputOptions) (time : Float) where
 
 -- ---- presses: kinds 3 and 5
 module _ (o : InputOptions) (time : Float) where
-  pub press-idle : (e : Event) (s : Press) → (kind-number e ≡ 3 → ⊥) → (kind-number e ≡ 5 → ⊥) → press-event o time e s ≡ s
+  press-idle : (e : Event) (s : Press) → (kind-number e ≡ 3 → ⊥) → (kind-number e ≡ 5 → ⊥) → press-event o time e s ≡ s
   unfolding press-event
   press-idle (Key k b) s h3 h5 = refl
   press-idle (ModifiersChanged m) s h3 h5 = refl
@@ -126,6 +129,12 @@ module _ (o : InputOptions) (time : Float) where
   press-idle (MouseWheel u v ph g m) s h3 h5 = refl
   press-idle (WindowFocused b) s h3 h5 = refl
   press-idle Other s h3 h5 = refl
+
+  -- and its arrays
+  pub press-stays : (e : Event) (cs : List ℕ) (ps : List Float) (s : PressHeld) → (kind-number e ≡ 3 → ⊥) → (kind-number e ≡ 5 → ⊥) → Stepped o time e cs ps s cs ps s
+  press-stays e cs ps s h3 h5 =
+      let q = press-idle e (press cs ps s) h3 h5 in
+      record { result = rw (q, capped-events cs ps (s .held .«event_count»)); room = λ h. sym q; codes-past = refl; positions-past = refl }
 
   pub press-loop : Loop (press-events o time) (press-event o time)
   unfolding press-events

@@ -1,4 +1,5 @@
 // Buttons, presses and clicks.
+use data::event::Event;
 use data::options::InputOptions;
 use event_loop::LISTED;
 use event_loop::POINTER;
@@ -10,13 +11,14 @@ use pointer_clicks::clear_events;
 use pointer_events::CODES;
 use pointer_events::PLACES;
 use pointer_state::press::Press;
-use pointer_state::press::press_event;
+use pointer_state::press::button_event;
+use pointer_state::press::moved;
 ghost use Rattle.event_loop.specs.Shaped.{shaped-at};
 ghost use Rattle.event_loop.specs.Lists.{listed-events, pointer-list};
 ghost use Rattle.pointer_state.specs.View.{Stepped};
 ghost use Rattle.pass_loops.specs.Passed.{PressPassed};
 
-// Of the pointer's kinds, 3 and 5 are read.
+// Of the pointer's kinds, 3 and 5 are read, and each goes straight to its step.
 fn press_at(
     s: Press,
     codes: &mut [u32; CODES],
@@ -31,11 +33,27 @@ fn press_at(
     let kind = kind_at(feed, at);
     if kind == 3 {
         let e = moved_at(feed, at);
-        return press_event(s, codes, positions, options, time, e);
+        let Event::PointerMoved(pos) = e else {
+            return s;
+        };
+        return moved(s, codes, positions, options, pos);
     }
     if kind == 5 {
         let e = button_at(feed, at);
-        return press_event(s, codes, positions, options, time, e);
+        let Event::PointerButton(pos, button, is_pressed, modifiers) = e else {
+            return s;
+        };
+        return button_event(
+            s,
+            codes,
+            positions,
+            options,
+            time,
+            pos,
+            button,
+            is_pressed,
+            modifiers,
+        );
     }
     s
 }

@@ -1,5 +1,5 @@
 // What an event does to the presses and clicks, and to the pass's pointer events.
-use data::event::Event;
+// These end at 64: a 65th is left out, and the rest goes on.
 use data::modifiers::Modifiers;
 use data::options::InputOptions;
 use data::pointer::ButtonsDown;
@@ -60,7 +60,7 @@ impl Press {
     }
 }
 
-fn moved(
+pub fn moved(
     s: Press,
     codes: &mut [u32; CODES],
     positions: &mut [f32; PLACES],
@@ -149,7 +149,7 @@ fn released(
     Press { held, past }
 }
 
-fn button_event(
+pub fn button_event(
     s: Press,
     codes: &mut [u32; CODES],
     positions: &mut [f32; PLACES],
@@ -166,43 +166,4 @@ fn button_event(
         return pressed(s, codes, positions, time, pos, button);
     }
     released(s, codes, positions, options, time, pos, button, modifiers)
-}
-
-// An event's effect on presses and clicks. The events end at 64: a 65th is left out, and the rest goes on.
-pub fn press_event(
-    s: Press,
-    codes: &mut [u32; CODES],
-    positions: &mut [f32; PLACES],
-    options: InputOptions,
-    time: f64,
-    e: Event,
-) -> Press
-    ensures { λ r. ⌜ Stepped options time e (now (codes .entry)) (now (positions .entry)) s (now (codes .exit)) (now (positions .exit)) r ⌝ }
-{
-    match e {
-        Event::PointerMoved(pos) => moved(s, codes, positions, options, pos),
-        Event::PointerButton(pos, button, is_pressed, modifiers) => {
-            button_event(
-                s,
-                codes,
-                positions,
-                options,
-                time,
-                pos,
-                button,
-                is_pressed,
-                modifiers,
-            )
-        }
-        Event::Key(_, _) => s,
-        Event::ModifiersChanged(_) => s,
-        Event::MouseMoved(_) => s,
-        Event::PointerGone => s,
-        Event::Zoom(_) => s,
-        Event::Rotate(_) => s,
-        Event::Touch(_, _, _, _, _) => s,
-        Event::MouseWheel(_, _, _, _, _) => s,
-        Event::WindowFocused(_) => s,
-        Event::Other => s,
-    }
 }
