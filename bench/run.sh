@@ -12,5 +12,6 @@ target=${CARGO_TARGET_DIR:-$root/target/bench}
 (cd "$root/compare" && CARGO_TARGET_DIR=$target cargo build --release --offline --quiet --bin bench)
 libs=$rt/on/x86_64/toolchain/lib
 date +%F
-python3 "$here/table.py" "$libs/ld-linux-x86-64.so.2 --inhibit-cache --library-path $libs $root/target/bin/bench_calls" "$target/release/bench" "${1:-}"
-python3 "$here/stack.py" "$root/target/bin/bench_calls"
+ours="$libs/ld-linux-x86-64.so.2 --inhibit-cache --library-path $libs $root/target/bin/bench_calls"
+python3 "$here/table.py" "$ours" "$target/release/bench" "${1:-}"
+python3 "$here/stack.py" "$ours" "$root/target/bin/bench_calls"

@@ -114,4 +114,5 @@ def main():
         print(f'| {name} | {i:,.0f} : {j:,.0f} | {i / j:.2f}{above} | {bar or ""} | {k:,.0f} | {i / k:.2f} | {ns} |', flush=True)
     sys.exit(differ)
 
-main()
+if __name__ == '__main__':
+    main()
