@@ -1,3 +1,4 @@
+pub mod Insertion
 pub mod Places
 pub mod Removal
 pub mod Upsert

@@ -1,13 +1,13 @@
 -- Lists as the first n places of an array, and places in a list by ascending id. For any type of elements. Assumes nothing.
-use mathlib.Core.Path.{_≡_, refl, sym, ap, _∙_}
-use mathlib.Core.Bool.{Bool, true, false, cond}
+use mathlib.Core.Path.{_≡_, refl, ap, _∙_}
+use mathlib.Core.Bool.{true, false}
 use mathlib.Core.List.{List, [], _∷_, _++_}
 use Prim.Native.Nat.{ℕ, zero, suc, _+_, _≤_, _<_}
 use native.Mathlib.Numerals.{add-one}
 use native.Mathlib.Omega.{arith}
-use lib.Dec.{ltb, eqb, leb}
+use lib.Dec.{ltb, eqb}
 use lib.ListN.{length, getD, set, take, drop, length-set, length-take, drop-of-length-le}
-use lib.Seq.{take-suc, drop-cons, append-snoc, take-suc-set, take-set-lt, drop-set-lt, getD-take, length-take-le, take-take, take-all}
+use lib.Seq.{drop-cons, append-snoc, take-suc-set, take-set-lt, drop-set-lt, getD-take, length-take-le, take-take}
 use Rattle.touches.specs.Touches.{place, index, inserted-at}
 
 module _ {A : Type 0} where
@@ -25,6 +25,9 @@ module _ {A : Type 0} where
 
   pub set-first : (c i : ℕ) (a : List A) (t : A) → i < length (take c a) → take c (set a i t) ≡ set (take c a) i t
   set-first c i a t h = take-set-lt c a i t (omega (arith, length-take c a))
+
+  pub length-set-first : (c i : ℕ) (a : List A) (t : A) → length (take c (set a i t)) ≡ length (take c a)
+  length-set-first c i a t = simp (length-take, length-set)
 
   module _ (n i : ℕ) (a : List A) (z : A) (h : i < n) (l : n ≤ length a) where
     pub rest : drop i (take n a) ≡ getD a i z ∷ drop (suc i) (take n a)

@@ -1,12 +1,12 @@
 -- Putting an element into a list by ascending id, or changing the one that is there: the model's recursions by the place where they stop. Assumes nothing.
 use mathlib.Core.Path.{_≡_, refl, sym, ap, _∙_}
-use mathlib.Core.Bool.{Bool, true, false, cond, _||_}
-use mathlib.Core.List.{List, [], _∷_, _++_, map}
-use Prim.Native.Nat.{ℕ, zero, suc, _+_, _≤_, _<_}
+use mathlib.Core.Bool.{Bool, true, false, cond}
+use mathlib.Core.List.{List, [], _∷_}
+use Prim.Native.Nat.{ℕ, zero, suc, _≤_, _<_}
 use native.Mathlib.Omega.{arith}
-use borrow.Author.Tests.{ltb-true, ltb-false, eqb-true, eqb-false, lt-ltb, le-ltb, eq-eqb, ne-eqb, le-leb, lt-leb}
-use lib.Dec.{ltb, eqb, leb}
-use lib.ListN.{length, getD, set, take, drop, length-set, length-take, length-drop, length-append}
+use borrow.Author.Tests.{ltb-true, ltb-false, eqb-true, eqb-false, lt-ltb, le-ltb, ne-eqb, le-leb, lt-leb}
+use lib.Dec.{ltb, eqb}
+use lib.ListN.{length, getD, set, take, length-set, length-take, length-drop, length-append}
 use lib.Seq.{set-out, getD-take}
 use Rattle.data.specs.Limits.{max-touches}
 use Rattle.model.specs.Types.{ActiveTouch}
@@ -169,24 +169,6 @@ pub length-remove : (d : ℕ) (us : List ActiveTouch) → length (remove-touch d
 unfolding remove-touch
 length-remove d [] = omega arith
 length-remove d (u ∷ us) = remove-by d u us (eqb d (u .id)) refl (length-remove d us)
-
-module _ (t : ActiveTouch) (us : List ActiveTouch) (i : ℕ) (at : i ≡ place touch-id (t .id) us) where
-  pub insert-hit : is-at touch-id i (t .id) us ≡ true → length us ≤ max-touches → set us i t ≡ if-room (insert-touch t us) us
-  insert-hit e l =
-      let p : insert-touch t us ≡ set us i t = rw at (insert-upsert t us ∙ upsert-hit touch-id (t .id) t (λ (u : ActiveTouch). t) t us (rw at at e)) in
-      rw p (sym (fits _ _ (rw length-set l)))
-
-  pub insert-miss : is-at touch-id i (t .id) us ≡ false → if-room (inserted-at i t us) us ≡ if-room (insert-touch t us) us
-  insert-miss e =
-      let p : insert-touch t us ≡ inserted-at i t us = rw at (insert-upsert t us ∙ upsert-miss touch-id (t .id) t (λ (u : ActiveTouch). t) us (rw at at e)) in
-      rw p
-
-module _ (t : ActiveTouch) (us : List ActiveTouch) (i : ℕ) (h : i ≤ length us) where
-  pub inserted-fits : length us < max-touches → inserted-at i t us ≡ if-room (inserted-at i t us) us
-  inserted-fits l = sym (fits _ _ (rw (length-inserted i t us h) l))
-
-  pub inserted-full : max-touches ≤ length us → us ≡ if-room (inserted-at i t us) us
-  inserted-full l = sym (too-long _ _ (rw (length-inserted i t us h) (omega arith)))
 
 -- ---- whether there is one
 

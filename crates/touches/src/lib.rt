@@ -6,10 +6,9 @@ use data::touch::TouchPhase;
 use emath::pos2::Pos2;
 ghost use mathlib.Core.Path.{_≡_};
 ghost use mathlib.Core.List.{[]};
-ghost use Prim.Native.Nat.{_≤_};
 ghost use lib.ListN.{length};
 ghost use Rattle.model.specs.Touch.{insert-touch, move-touch, remove-touch, holds};
-ghost use Rattle.touches.specs.Touches.{list, touch-id, index, inserted-at, if-room, on-touch-if-room};
+ghost use Rattle.touches.specs.Touches.{list, touch-id, index, if-room, on-touch-if-room};
 
 pub struct Touches {
     pub count: usize,
@@ -66,48 +65,33 @@ pub fn holds(ts: Touches, id: u64) -> bool
     index_of(ts, id) < len(ts)
 }
 
-// The touches from place i on move up by one, if there is a place.
-fn insert_at(ts: Touches, i: usize, t: ActiveTouch) -> Touches
-    requires { ⌜ i ≤ length (list ts) ⌝ }
-    ensures { λ r. ⌜ list r ≡ if-room (inserted-at i t (list ts)) (list ts) ⌝ }
-{
-    let n = len(ts);
-    if n >= MAX_TOUCHES {
-        return ts;
-    }
-    let mut s = ts;
-    let mut carry = t;
-    let mut k = i;
-    while k < n {
-        let x = s.places[k];
-        s.places[k] = carry;
-        carry = x;
-        k += 1;
-    }
-    s.places[n] = carry;
-    s.count = n + 1;
-    s
-}
-
-// A held id is replaced. A touch for which there is no place is left out.
+// A held id is replaced; else the touches with a greater one move up by one. A touch for which there is no place is left out.
 fn insert(ts: Touches, t: ActiveTouch) -> Touches
     ensures { λ r. ⌜ list r ≡ if-room (insert-touch t (list ts)) (list ts) ⌝ }
 {
     let n = len(ts);
     let mut s = ts;
+    let mut carry = t;
+    let mut shifting = false;
     let mut i: usize = 0;
     while i < n {
         let x = s.places[i];
-        if x.id >= t.id {
-            if x.id == t.id {
-                s.places[i] = t;
-                return s;
-            }
-            return insert_at(s, i, t);
+        shifting = shifting | (x.id > t.id);
+        if shifting {
+            s.places[i] = carry;
+            carry = x;
+        } else if x.id == t.id {
+            s.places[i] = t;
+            return s;
         }
         i += 1;
     }
-    insert_at(s, n, t)
+    if n >= MAX_TOUCHES {
+        return ts;
+    }
+    s.places[n] = carry;
+    s.count = n + 1;
+    s
 }
 
 // An unheld id does nothing.

@@ -1,22 +1,27 @@
--- `touches::insert` meets its contract: the first place with that id or a greater one decides whether the touch is replaced or put in. Assumes nothing.
+-- `touches::insert` meets its contract: what is done and what is to come make the answer at each turn. Assumes nothing.
 use Prim.Native.Nat.{_+_, _-_, _≤_}
 use mathlib.Core.Path.{_≡_, _∙_, sym, refl}
+use mathlib.Core.Bool.{false}
+use mathlib.Core.Logic.{⊎-elim}
 use borrow.Author.Needs.{needs}
-use borrow.Author.Tests.{eq-eqb, ne-eqb, le-ltb, lt-ltb}
+use borrow.Author.Tests.{eq-eqb, ne-eqb}
 use native.Mathlib.Omega.{arith}
-use lib.ListN.{length, take, drop, length-map}
-use Rattle.touches.specs.Touches.{list, place, touch-id}
-use Rattle.touches.proofs.Places.{first-of, first-le, set-first, place-skips, place-stops, place-ends}
-use Rattle.touches.proofs.Upsert.{at-place, at-no, insert-hit, insert-miss}
+use lib.ListN.{length, set, length-map, length-set, length-take}
+use Rattle.model.specs.Touch.{insert-touch}
+use Rattle.touches.specs.Touches.{list}
+use Rattle.touches.proofs.Places.{first-of, first-le, length-set-first}
+use Rattle.touches.proofs.Upsert.{no, too-long}
+use Rattle.touches.proofs.Insertion.{grown, grown-start, not-yet, shifts, passes, replaces, grown-end, grown-length, fitting}
 use Rattle.touches.proofs.insert.Statement.{statement}
 use Rattle.touches.proofs.insert.Tie as tie
 
 abbrev Inv-loop : tie.InvT-loop
-Inv-loop t n s₀ i₀ s i =
-    (i ≤ n) × (n ≤ length (s .places)) × (length (s .places) ≡ 10) × (n ≡ length (list s)) × (list s ≡ list s₀) × (i + place touch-id (t .id) (drop i (take n (s .places))) ≡ place touch-id (t .id) (list s))
+Inv-loop ts t n s₀ carry₀ shifting₀ i₀ s carry shifting i =
+    (i ≤ n) × (n ≤ length (s .places)) × (length (s .places) ≡ 10) × (n ≡ length (list s)) × (shifting ≡ false → carry ≡ t)
+    × (grown t n (s .places) carry shifting i ≡ insert-touch t (list s₀))
 
 abbrev μ-loop : tie.MeasureT-loop
-μ-loop t n s₀ i₀ s i = n - i
+μ-loop ts t n s₀ carry₀ shifting₀ i₀ s carry shifting i = n - i
 
 len-requires : tie.Need-len-requires Inv-loop μ-loop
 len-requires c κs = search needs
@@ -26,13 +31,19 @@ loop-holds c =
     let ts = c .before .args .ts in
     let e = c .len .ensures in
     let l : length (ts .places) ≡ 10 = simp length-map at (c .before .good .0 .1 .1 .1 .0 .1 .0 .1) in
-    (omega arith, rw e (first-le (ts .count) (ts .places)), l, e, refl, rw (first-of _ (ts .count) (ts .places) e) (omega arith))
+    (omega arith, rw e (first-le (ts .count) (ts .places)), l, e, λ q. refl, rw (← first-of _ (ts .count) (ts .places) e) (grown-start _ _ _ _))
 
 mul-x : tie.Need-mul-x Inv-loop μ-loop
 mul-x c = search needs
 
 element-copy-out-x : tie.Need-element-copy-out-x Inv-loop μ-loop
 element-copy-out-x c = search needs
+
+mul-carry : tie.Need-mul-carry Inv-loop μ-loop
+mul-carry c = search needs
+
+element-set-from-carry : tie.Need-element-set-from-carry Inv-loop μ-loop
+element-set-from-carry c = search needs
 
 mul-t : tie.Need-mul-t Inv-loop μ-loop
 mul-t c = search needs
@@ -46,23 +57,8 @@ returns c =
     let s = o .loop .s in
     let v = o .loop .inv in
     let h = c .before .before .before .before .before .before .before .loop-test .taken in
-    let k = rw (v .3) at h in
-    let p = place-stops touch-id _ _ _ _ _ h (v .1) (le-ltb _ _ (c .before .before .before .if1 .taken)) ∙ v .5 in
-    let is = sym (at-place touch-id _ _ (s .count) (s .places) _ k) ∙ eq-eqb _ _ (sym (c .if2 .taken)) in
-    rw (← v .4) (set-first (s .count) _ (s .places) _ k ∙ insert-hit _ _ _ p is (omega arith))
-
-insert-at-requires : tie.Need-insert-at-requires Inv-loop μ-loop
-insert-at-requires c κs = omega arith
-
-returns-2 : tie.Need-returns-2 Inv-loop μ-loop
-returns-2 c =
-    let o = c .before .before .before .before .before .before .before .before .before in
-    let s = o .loop .s in
-    let v = o .loop .inv in
-    let h = c .before .before .before .before .before .before .before .before .loop-test .taken in
-    let p = place-stops touch-id _ _ _ _ _ h (v .1) (le-ltb _ _ (c .before .before .before .before .if1 .taken)) ∙ v .5 in
-    let is-not = sym (at-place touch-id _ _ (s .count) (s .places) _ (rw (v .3) at h)) ∙ ne-eqb _ _ (λ e. c .before .if2 .left (sym e)) in
-    rw (← v .4) (c .insert-at .ensures ∙ insert-miss _ _ _ p is-not)
+    let at = replaces _ _ _ _ _ h (v .1) _ (s .count) (v .3) _ (c .before .before .before .if1 .left) (eq-eqb _ _ (sym (c .if2 .taken))) ∙ v .5 in
+    fitting _ _ _ at (omega (arith, length-set-first (s .count) (o .loop .i) (s .places) (o .before .before .args .t)))
 
 add-i : tie.Need-add-i Inv-loop μ-loop
 add-i c = search needs
@@ -72,19 +68,37 @@ loop-less c = search needs
 
 loop-again : tie.Need-loop-again Inv-loop μ-loop
 loop-again c =
-    let v = c .before .before .before .before .before .loop .inv in
+    let o = c .before .before .before .before .before in
+    let s = o .loop .s in
+    let v = o .loop .inv in
     let h = c .before .before .before .before .loop-test .taken in
-    (omega arith, v .1, v .2, v .3, v .4, place-skips touch-id _ _ _ _ _ h (v .1) (lt-ltb _ _ (c .if1 .left)) ∙ v .5)
+    let same = length-set-first (s .count) (o .loop .i) (s .places) (o .loop .carry) in
+    ⊎-elim
+    (λ w. (omega arith, rw (w .1, length-set) (v .1), rw (w .1, length-set) (v .2), rw (w .1) (v .3 ∙ sym same), λ q. no (sym q ∙ w .0 .taken), rw (w .1, w .2) (shifts _ _ _ _ _ h (v .1) _ _ (v .4) (w .0 .taken) ∙ v .5)))
+    (λ w. (omega arith, rw (w .4) (v .1), rw (w .4) (v .2), rw (w .4) (v .3), λ q. rw (w .5) (v .4 (not-yet _ _ q)), rw (w .4, w .5) (passes _ _ _ _ _ h (v .1) _ _ (w .0 .left) (ne-eqb _ _ (λ e. w .3 .left (sym e))) ∙ v .5)))
+    (c .if1 .came)
 
-insert-at-requires-2 : tie.Need-insert-at-requires-2 Inv-loop μ-loop
-insert-at-requires-2 c κs = omega arith
+returns-2 : tie.Need-returns-2 Inv-loop μ-loop
+returns-2 c =
+    let a = c .before .before .before .before .args in
+    let v = c .before .before .loop .inv in
+    sym (too-long (insert-touch (a .t) (list (a .ts))) _ (rw (← v .5, grown-length _ _ _ _ _ (v .0) (c .before .loop-test .left) _ (v .1)) (omega arith)))
+
+mul-carry-2 : tie.Need-mul-carry-2 Inv-loop μ-loop
+mul-carry-2 c = search needs
+
+element-set-from-carry-2 : tie.Need-element-set-from-carry-2 Inv-loop μ-loop
+element-set-from-carry-2 c = search needs
+
+add-s : tie.Need-add-s Inv-loop μ-loop
+add-s c = search needs
 
 returns-3 : tie.Need-returns-3 Inv-loop μ-loop
 returns-3 c =
-    let v = c .before .before .loop .inv in
-    let e : c .before .before .before .len .result ≡ c .before .before .loop .i = omega arith in
-    let p = place-ends touch-id _ _ _ _ (c .before .loop-test .left) (v .1) ∙ v .5 in
-    rw (← v .4) (c .insert-at2 .ensures ∙ insert-miss _ _ _ (e ∙ p) (at-no touch-id _ _ _ (omega arith)))
+    let n = c .before .before .before .len .result in
+    let l = c .before .before .loop in
+    let v = l .inv in
+    fitting _ _ _ (grown-end _ _ _ _ _ (v .0) (c .before .loop-test .left) _ (v .4) (omega arith) ∙ v .5) (omega (arith, length-take (n + 1) (set (l .s .places) n (l .carry))))
 
 pub insert-spec : {M : Type 1} → statement M
 insert-spec =
@@ -96,13 +110,16 @@ insert-spec =
     loop-holds
     mul-x
     element-copy-out-x
+    mul-carry
+    element-set-from-carry
     mul-t
     element-set-from-t
     returns
-    insert-at-requires
-    returns-2
     add-i
     loop-less
     loop-again
-    insert-at-requires-2
+    returns-2
+    mul-carry-2
+    element-set-from-carry-2
+    add-s
     returns-3)
