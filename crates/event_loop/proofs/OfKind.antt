@@ -1,15 +1,19 @@
--- An event that is shaped is of its first word's kind, or `Other`; a key's place is one of egui's. Assumes nothing.
+-- An event that is shaped is of its first word's kind, or `Other`; a key's place is one of egui's; variants by their kinds. Assumes nothing.
 use mathlib.Core.Path.{_≡_, refl, sym, _∙_, subst}
-use mathlib.Core.Bool.{Bool, true, false, cond}
-use mathlib.Core.List.{List, [], _∷_}
+use mathlib.Core.Bool.{Bool, true, false, cond, not}
+use mathlib.Core.List.{List, [], _∷_, _++_}
 use mathlib.Core.Logic.{_⊎_, inl, inr, ⊎-elim}
 use Prim.Native.Nat.{ℕ, suc, _-_, _≤_, _<_}
 use native.Mathlib.Omega.{arith}
 use lib.Dec.{T, eqb, ltb}
-use lib.ListN.{getD, length, drop}
+use lib.ListN.{getD, length, take, drop}
+use mir.Val.{hasKey}
+use types.Run.{OneOf, miss}
+use denote.Enum.Declared.{tagOf}
 use borrow.Author.Tests.{eqb-true, eqb-false, ltb-true, ltb-false}
 use Rattle.data.specs.Numbers.{kind-number}
-use Rattle.feed.specs.Types.{Event, Other}
+use Rattle.data.proofs.event.Event.{the-type}
+use Rattle.feed.specs.Types.{Event, Key, ModifiersChanged, PointerMoved, MouseMoved, Button, PointerGone, Zoom, Rotate, Touch, MouseWheel, WindowFocused, Other}
 use Rattle.feed.specs.declared.shape.MaybeEvent.{MaybeEvent}
 use Rattle.feed.specs.declared.shape.MaybeEvent.the-variants.{None as no-event, Some as some-event}
 use Rattle.feed.specs.Encode.{fields-ok}
@@ -113,3 +117,35 @@ not-read l e k h own same = eqb-false (list-of (kind-number e)) l h (rw same own
 pub list-small : (k : ℕ) → list-of k ≤ 5
 unfolding all-le
 list-small k = getD-le 5 lists k tt
+
+-- ---- the variants stand in the order of the kinds, which begin at 1
+variant-kind : (e : Event) → kind-number e ≡ suc (tagOf the-type e)
+variant-kind (Key k b) = refl
+variant-kind (ModifiersChanged m) = refl
+variant-kind (PointerMoved v) = refl
+variant-kind (MouseMoved v) = refl
+variant-kind (Button v b c m) = refl
+variant-kind PointerGone = refl
+variant-kind (Zoom x) = refl
+variant-kind (Rotate x) = refl
+variant-kind (Touch d i ph v f) = refl
+variant-kind (MouseWheel u v ph g m) = refl
+variant-kind (WindowFocused b) = refl
+variant-kind Other = refl
+
+-- all their places but k
+abbrev pub others : ℕ → List ℕ
+others k =
+    let all : List ℕ = 0 ∷ 1 ∷ 2 ∷ 3 ∷ 4 ∷ 5 ∷ 6 ∷ 7 ∷ 8 ∷ 9 ∷ 10 ∷ 11 ∷ [] in
+    take k all ++ drop (suc k) all
+
+-- an event of one of these variants is of no other's kind
+pub other-variant : (e : Event) (these : List ℕ) (k : ℕ) → OneOf these (tagOf the-type e) → T (not (hasKey these k)) → kind-number e ≡ suc k → ⊥
+other-variant e these k one other same =
+    let is : tagOf the-type e ≡ k = omega (arith, variant-kind e) in
+    miss these k other (rw is at one)
+
+-- a reader's event that is not of the variant of its kind
+pub is-other : (ws : List ℕ) (at k : ℕ) (e : Event) → kind (getD ws at 0) ≡ suc k → e ≡ shaped-at ws at → OneOf (others k) (tagOf the-type e) → T (not (hasKey (others k) k)) → shaped-at ws at ≡ Other
+is-other ws at k e here same one other =
+    ⊎-elim (λ h. absurd (other-variant e (others k) k one other (rw same (h ∙ here)))) (λ h. h) (of-kind ws at .0)

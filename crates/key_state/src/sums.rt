@@ -10,32 +10,16 @@ ghost use Rattle.model.specs.Pass.{zoom-event, zoom-of, rotation-event, rotatio
 ghost use Rattle.event_loop.specs.Shaped.{shaped-at};
 ghost use Rattle.event_loop.specs.Lists.{listed-events, sums-list};
 
-fn zoom_event(e: Event, factor: f32) -> f32
-    ensures { λ r. ⌜ r ≡ zoom-event e factor ⌝ }
-{
-    match e {
-        Event::Zoom(x) => factor * x,
-        Event::Key(_, _) => factor,
-        Event::ModifiersChanged(_) => factor,
-        Event::PointerMoved(_) => factor,
-        Event::MouseMoved(_) => factor,
-        Event::PointerButton(_, _, _, _) => factor,
-        Event::PointerGone => factor,
-        Event::Rotate(_) => factor,
-        Event::Touch(_, _, _, _, _) => factor,
-        Event::MouseWheel(_, _, _, _, _) => factor,
-        Event::WindowFocused(_) => factor,
-        Event::Other => factor,
-    }
-}
-
 // Kind 7 is read.
 fn zoom_at(factor: f32, feed: &[u32], at: usize) -> f32
     ensures { λ r. ⌜ r ≡ zoom-event (shaped-at (now (feed .entry)) at) factor ⌝ }
 {
     if kind_at(feed, at) == 7 {
         let e = event_readers::readers::zoom_at(feed, at);
-        return zoom_event(e, factor);
+        let Event::Zoom(x) = e else {
+            return factor;
+        };
+        return factor * x;
     }
     factor
 }
@@ -53,32 +37,16 @@ pub fn zoom_of(feed: &[u32], lists: &[u16; LISTED], count: u8) -> f32
     factor
 }
 
-fn rotation_event(e: Event, radians: f32) -> f32
-    ensures { λ r. ⌜ r ≡ rotation-event e radians ⌝ }
-{
-    match e {
-        Event::Rotate(x) => radians + x,
-        Event::Key(_, _) => radians,
-        Event::ModifiersChanged(_) => radians,
-        Event::PointerMoved(_) => radians,
-        Event::MouseMoved(_) => radians,
-        Event::PointerButton(_, _, _, _) => radians,
-        Event::PointerGone => radians,
-        Event::Zoom(_) => radians,
-        Event::Touch(_, _, _, _, _) => radians,
-        Event::MouseWheel(_, _, _, _, _) => radians,
-        Event::WindowFocused(_) => radians,
-        Event::Other => radians,
-    }
-}
-
 // Kind 8 is read.
 fn rotation_at(radians: f32, feed: &[u32], at: usize) -> f32
     ensures { λ r. ⌜ r ≡ rotation-event (shaped-at (now (feed .entry)) at) radians ⌝ }
 {
     if kind_at(feed, at) == 8 {
         let e = event_readers::readers::rotate_at(feed, at);
-        return rotation_event(e, radians);
+        let Event::Rotate(x) = e else {
+            return radians;
+        };
+        return radians + x;
     }
     radians
 }
