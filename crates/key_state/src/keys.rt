@@ -85,41 +85,31 @@ fn focus(k: Keys, focused: bool) -> Keys
     }
 }
 
-fn key_event(k: Keys, presses: &mut [u8; 145], e: Event) -> Keys
-    ensures { λ r. ⌜ Stepped e (now (presses .entry)) k (now (presses .exit)) r ⌝ }
-{
-    match e {
-        Event::Key(place, pressed) => key(k, presses, place, pressed),
-        Event::ModifiersChanged(modifiers) => Keys { modifiers, ..k },
-        Event::WindowFocused(focused) => focus(k, focused),
-        Event::PointerMoved(_) => k,
-        Event::MouseMoved(_) => k,
-        Event::PointerButton(_, _, _, _) => k,
-        Event::PointerGone => k,
-        Event::Zoom(_) => k,
-        Event::Rotate(_) => k,
-        Event::Touch(_, _, _, _, _) => k,
-        Event::MouseWheel(_, _, _, _, _) => k,
-        Event::Other => k,
-    }
-}
-
-// Kinds 1, 2 and 11 are read.
+// Kinds 1, 2 and 11 are read, and each goes straight to its step.
 fn key_at(k: Keys, presses: &mut [u8; 145], feed: &[u32], at: usize) -> Keys
     ensures { λ r. ⌜ Stepped (shaped-at (now (feed .entry)) at) (now (presses .entry)) k (now (presses .exit)) r ⌝ }
 {
     let kind = kind_at(feed, at);
     if kind == 1 {
         let e = event_readers::readers::key_at(feed, at);
-        return key_event(k, presses, e);
+        let Event::Key(place, pressed) = e else {
+            return k;
+        };
+        return key(k, presses, place, pressed);
     }
     if kind == 2 {
         let e = modifiers_at(feed, at);
-        return key_event(k, presses, e);
+        let Event::ModifiersChanged(modifiers) = e else {
+            return k;
+        };
+        return Keys { modifiers, ..k };
     }
     if kind == 11 {
         let e = focus_at(feed, at);
-        return key_event(k, presses, e);
+        let Event::WindowFocused(focused) = e else {
+            return k;
+        };
+        return focus(k, focused);
     }
     k
 }

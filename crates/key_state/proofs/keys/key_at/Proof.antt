@@ -1,8 +1,9 @@
 -- `keys::key_at` meets its contract. Assumes nothing.
+use Rattle.model.specs.Pass.{key-event}
 use Rattle.key_state.proofs.Idle.{key-idle}
-use Rattle.event_loop.proofs.OfKind.{not-of-kind}
+use Rattle.event_loop.proofs.OfKind.{not-of-kind, is-other}
 use native.Mathlib.Omega.{arith}
-use mathlib.Core.Path.{sym, _∙_}
+use mathlib.Core.Path.{refl, sym, _∙_}
 use borrow.Author.Needs.{needs}
 use Rattle.key_state.proofs.keys.key_at.Statement.{statement}
 use Rattle.key_state.proofs.keys.key_at.Tie as tie
@@ -13,32 +14,70 @@ kind-at-requires c κs = search needs
 key-at-requires : tie.Need-key-at-requires
 key-at-requires c κs = search needs
 
-key-event-requires : tie.Need-key-event-requires
-key-event-requires c κs = search needs
+enum-known-e : tie.Need-enum-known-e
+enum-known-e c = search needs
 
 returns : tie.Need-returns
-returns c = rw (← c .before .before .key-at .ensures (sym (c .before .before .before .before .kind-at .ensures) ∙ c .before .before .before .if1 .taken)) (c .key-event .ensures)
+unfolding key-event
+returns c =
+    let k = sym (c .before .before .before .kind-at .ensures) ∙ c .before .before .if1 .taken in
+    rw (is-other _ _ 0 _ k (c .before .key-at .ensures k) (c .match .keys2) tt) (λ f room. refl)
+
+key-requires : tie.Need-key-requires
+key-requires c κs = search needs
+
+returns-2 : tie.Need-returns-2
+returns-2 c =
+    let e = c .before .before .before in
+    let r = e .before .before in
+    let k = sym (r .before .before .kind-at .ensures) ∙ r .before .if1 .taken in
+    rw (← r .key-at .ensures k, e .e .given .1) (c .key .ensures)
 
 modifiers-at-requires : tie.Need-modifiers-at-requires
 modifiers-at-requires c κs = search needs
 
-key-event-requires-2 : tie.Need-key-event-requires-2
-key-event-requires-2 c κs = search needs
+enum-known-e-2 : tie.Need-enum-known-e-2
+enum-known-e-2 c = search needs
 
-returns-2 : tie.Need-returns-2
-returns-2 c = rw (← c .before .before .modifiers-at .ensures (sym (c .before .before .before .before .before .kind-at .ensures) ∙ c .before .before .before .if2 .taken)) (c .key-event2 .ensures)
+returns-3 : tie.Need-returns-3
+unfolding key-event
+returns-3 c =
+    let k = sym (c .before .before .before .before .kind-at .ensures) ∙ c .before .before .if2 .taken in
+    rw (is-other _ _ 1 _ k (c .before .modifiers-at .ensures k) (c .match2 .keys2) tt) (λ f room. refl)
+
+returns-4 : tie.Need-returns-4
+unfolding key-event
+returns-4 c =
+    let e = c .before .before in
+    let r = e .before .before in
+    let k = sym (r .before .before .before .kind-at .ensures) ∙ r .before .if2 .taken in
+    rw (← r .modifiers-at .ensures k, e .e2 .given .1) (λ f room. refl)
 
 focus-at-requires : tie.Need-focus-at-requires
 focus-at-requires c κs = search needs
 
-key-event-requires-3 : tie.Need-key-event-requires-3
-key-event-requires-3 c κs = search needs
+enum-known-e-3 : tie.Need-enum-known-e-3
+enum-known-e-3 c = search needs
 
-returns-3 : tie.Need-returns-3
-returns-3 c = rw (← c .before .before .focus-at .ensures (sym (c .before .before .before .before .before .before .kind-at .ensures) ∙ c .before .before .before .if3 .taken)) (c .key-event3 .ensures)
+returns-5 : tie.Need-returns-5
+unfolding key-event
+returns-5 c =
+    let k = sym (c .before .before .before .before .before .kind-at .ensures) ∙ c .before .before .if3 .taken in
+    rw (is-other _ _ 10 _ k (c .before .focus-at .ensures k) (c .match3 .keys2) tt) (λ f room. refl)
 
-returns-4 : tie.Need-returns-4
-returns-4 c f room =
+focus-requires : tie.Need-focus-requires
+focus-requires c κs = search needs
+
+returns-6 : tie.Need-returns-6
+returns-6 c =
+    let e = c .before .before in
+    let r = e .before .before in
+    let start = r .before .before .before .before in
+    let k = sym (start .kind-at .ensures) ∙ r .before .if3 .taken in
+    rw (← r .focus-at .ensures k, e .e3 .given .1) (λ f room. c .focus .ensures (start .before .before .args .presses .now))
+
+returns-7 : tie.Need-returns-7
+returns-7 c f room =
     let k = c .before .before .before .kind-at .ensures in
     sym
     (key-idle _ _
@@ -52,12 +91,17 @@ key-at-spec =
     (tie.spec
     kind-at-requires
     key-at-requires
-    key-event-requires
+    enum-known-e
     returns
-    modifiers-at-requires
-    key-event-requires-2
+    key-requires
     returns-2
-    focus-at-requires
-    key-event-requires-3
+    modifiers-at-requires
+    enum-known-e-2
     returns-3
-    returns-4)
+    returns-4
+    focus-at-requires
+    enum-known-e-3
+    returns-5
+    focus-requires
+    returns-6
+    returns-7)
