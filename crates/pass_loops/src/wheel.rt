@@ -12,44 +12,7 @@ ghost use Rattle.model.specs.Wheel.{wheel-event, wheel-events, wheel-pass};
 ghost use Rattle.event_loop.specs.Shaped.{shaped-at};
 ghost use Rattle.event_loop.specs.Lists.{listed-events, wheel-list};
 
-fn wheel_event(
-    w: WheelState,
-    viewport_rect: Rect,
-    options: InputOptions,
-    time: f64,
-    e: Event,
-) -> WheelState
-    ensures { λ r. ⌜ r ≡ wheel-event «viewport_rect» options time e w ⌝ }
-{
-    match e {
-        Event::MouseWheel(unit, delta, phase, source, modifiers) => {
-            wheel_state::on_wheel_event(
-                w,
-                viewport_rect,
-                options,
-                time,
-                unit,
-                delta,
-                phase,
-                source,
-                modifiers,
-            )
-        }
-        Event::Key(_, _) => w,
-        Event::ModifiersChanged(_) => w,
-        Event::PointerMoved(_) => w,
-        Event::MouseMoved(_) => w,
-        Event::PointerButton(_, _, _, _) => w,
-        Event::PointerGone => w,
-        Event::Zoom(_) => w,
-        Event::Rotate(_) => w,
-        Event::Touch(_, _, _, _, _) => w,
-        Event::WindowFocused(_) => w,
-        Event::Other => w,
-    }
-}
-
-// Kind 10 is read.
+// Kind 10 is read, and goes straight to its step.
 fn wheel_at(
     w: WheelState,
     viewport_rect: Rect,
@@ -62,7 +25,20 @@ fn wheel_at(
 {
     if kind_at(feed, at) == 10 {
         let e = event_readers::readers::wheel_at(feed, at);
-        return wheel_event(w, viewport_rect, options, time, e);
+        let Event::MouseWheel(unit, delta, phase, source, modifiers) = e else {
+            return w;
+        };
+        return wheel_state::on_wheel_event(
+            w,
+            viewport_rect,
+            options,
+            time,
+            unit,
+            delta,
+            phase,
+            source,
+            modifiers,
+        );
     }
     w
 }
