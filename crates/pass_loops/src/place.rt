@@ -1,4 +1,5 @@
 // Where the pointer is.
+use data::event::Event;
 use emath_history::history::MAX_LEN;
 use emath_history::history::PARTS;
 use event_loop::LISTED;
@@ -9,8 +10,11 @@ use event_readers::readers::button_at;
 use event_readers::readers::motion_at;
 use event_readers::readers::moved_at;
 use pointer_place::Place;
+use pointer_place::button_place;
 use pointer_place::end_place;
-use pointer_place::place_event;
+use pointer_place::gone_place;
+use pointer_place::motion_place;
+use pointer_place::moved_place;
 use pointer_place::start_place;
 ghost use mathlib.Core.Path.{_≡_};
 ghost use mathlib.Core.List.{List, [], _∷_};
@@ -21,26 +25,34 @@ ghost use Rattle.event_loop.specs.Lists.{listed-events, pointer-list};
 ghost use Rattle.pointer_place.specs.View.{place};
 ghost use Rattle.pass_loops.specs.Passed.{PlacePassed};
 
-// Kinds 3 to 6 are read.
+// Kinds 3 to 6 are read, and each goes straight to its step.
 fn place_at(p: Place, feed: &[u32], at: usize) -> Place
     ensures { λ r. ⌜ ((times positions : List Float) → place times positions r ≡ place-event (shaped-at (now (feed .entry)) at) (place times positions p)) ⌝ }
 {
     match kind_at(feed, at) {
         3 => {
-            let e = moved_at(feed, at);
-            place_event(p, e)
+            let Event::PointerMoved(pos) = moved_at(feed, at) else {
+                return p;
+            };
+            moved_place(p, pos)
         }
         4 => {
-            let e = motion_at(feed, at);
-            place_event(p, e)
+            let Event::MouseMoved(delta) = motion_at(feed, at) else {
+                return p;
+            };
+            motion_place(p, delta)
         }
         5 => {
-            let e = button_at(feed, at);
-            place_event(p, e)
+            let Event::PointerButton(pos, _, pressed, _) = button_at(feed, at) else {
+                return p;
+            };
+            button_place(p, pos, pressed)
         }
         6 => {
-            let e = event_readers::readers::gone_at(feed, at);
-            place_event(p, e)
+            let Event::PointerGone = event_readers::readers::gone_at(feed, at) else {
+                return p;
+            };
+            gone_place(p)
         }
         _ => p,
     }

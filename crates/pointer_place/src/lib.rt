@@ -14,7 +14,7 @@ ghost use lib.Ieee.{Float};
 ghost use Rattle.emath.specs.Vec.{normalized};
 ghost use Rattle.emath.specs.History.{velocity};
 ghost use Rattle.emath_history.specs.Ring.{view};
-ghost use Rattle.model.specs.Types.{PointerButton, Modifiers, Event, Button, PointerGone};
+ghost use Rattle.model.specs.Types.{PointerButton, Modifiers, Event, PointerMoved, MouseMoved, Button, PointerGone};
 ghost use Rattle.model.specs.Pointer.{unwrap-or-default, zero-motion, add-motion, place-event, clear-history-after, start-place, delta-of, velocity-of};
 ghost use Rattle.model.specs.Pass.{fresh-place};
 ghost use Rattle.pointer_place.specs.View.{place, Sampled, Ended};
@@ -89,7 +89,28 @@ pub fn start_place(p: Place) -> Place
     }
 }
 
-fn button_place(p: Place, pos: Pos2, pressed: bool) -> Place
+// An event's effect on it: the pointer moved.
+pub fn moved_place(p: Place, pos: Pos2) -> Place
+    ensures { λ r. ⌜ ((times positions : List Float) → place times positions r ≡ place-event (PointerMoved pos) (place times positions p)) ⌝ }
+{
+    Place {
+        latest_pos: MaybePos2::Some(pos),
+        interact_pos: MaybePos2::Some(pos),
+        ..p
+    }
+}
+
+// The mouse moved by `delta`.
+pub fn motion_place(p: Place, delta: Vec2) -> Place
+    ensures { λ r. ⌜ ((times positions : List Float) → place times positions r ≡ place-event (MouseMoved delta) (place times positions p)) ⌝ }
+{
+    let known = p.motion;
+    let motion = add_motion(known, delta);
+    Place { motion, ..p }
+}
+
+// A press clears the history.
+pub fn button_place(p: Place, pos: Pos2, pressed: bool) -> Place
     ensures { λ r. ⌜ ((times positions : List Float) (b : PointerButton) (m : Modifiers) → place times positions r ≡ place-event (Button pos b pressed m) (place times positions p)) ⌝ }
 {
     if pressed {
@@ -108,7 +129,8 @@ fn button_place(p: Place, pos: Pos2, pressed: bool) -> Place
     }
 }
 
-fn gone_place(p: Place) -> Place
+// A pointer that is gone keeps its interact position.
+pub fn gone_place(p: Place) -> Place
     ensures { λ r. ⌜ ((times positions : List Float) → place times positions r ≡ place-event PointerGone (place times positions p)) ⌝ }
 {
     let kept = p.interact_pos;
@@ -116,34 +138,6 @@ fn gone_place(p: Place) -> Place
         latest_pos: MaybePos2::None,
         interact_pos: kept,
         ..p
-    }
-}
-
-// An event's effect on it. A press clears the history; a pointer that is gone keeps its interact position.
-pub fn place_event(p: Place, e: Event) -> Place
-    ensures { λ r. ⌜ ((times positions : List Float) → place times positions r ≡ place-event e (place times positions p)) ⌝ }
-{
-    match e {
-        Event::PointerMoved(pos) => Place {
-            latest_pos: MaybePos2::Some(pos),
-            interact_pos: MaybePos2::Some(pos),
-            ..p
-        },
-        Event::MouseMoved(delta) => {
-            let known = p.motion;
-            let motion = add_motion(known, delta);
-            Place { motion, ..p }
-        }
-        Event::PointerButton(pos, _, pressed, _) => button_place(p, pos, pressed),
-        Event::PointerGone => gone_place(p),
-        Event::Key(_, _) => p,
-        Event::ModifiersChanged(_) => p,
-        Event::Zoom(_) => p,
-        Event::Rotate(_) => p,
-        Event::Touch(_, _, _, _, _) => p,
-        Event::MouseWheel(_, _, _, _, _) => p,
-        Event::WindowFocused(_) => p,
-        Event::Other => p,
     }
 }
 

@@ -1,9 +1,10 @@
 -- `place::place_at` meets its contract. Assumes nothing.
-use Rattle.pass_loops.proofs.Loops.{place-idle}
-use Rattle.event_loop.proofs.OfKind.{not-of-kind}
 use mathlib.Core.Path.{sym, _∙_}
 use native.Mathlib.Omega.{arith}
 use borrow.Author.Needs.{needs}
+use Rattle.model.specs.Pointer.{place-event}
+use Rattle.event_loop.proofs.OfKind.{not-of-kind}
+use Rattle.pass_loops.proofs.Loops.{read-other, place-idle}
 use Rattle.pass_loops.proofs.place.place_at.Statement.{statement}
 use Rattle.pass_loops.proofs.place.place_at.Tie as tie
 
@@ -13,41 +14,89 @@ kind-at-requires c κs = search needs
 moved-at-requires : tie.Need-moved-at-requires
 moved-at-requires c κs = search needs
 
-place-event-requires : tie.Need-place-event-requires
-place-event-requires c κs = search needs
+enum-known-pos : tie.Need-enum-known-pos
+enum-known-pos c = search needs
+
+returns : tie.Need-returns
+unfolding place-event
+returns c times positions =
+    let k = sym (c .before .before .before .kind-at .ensures) ∙ c .before .before .match .keys1 in
+    rw (read-other 2 _ _ _ tt k (c .before .moved-at .ensures) (c .match2 .keys2))
+
+moved-place-requires : tie.Need-moved-place-requires
+moved-place-requires c κs = search needs
 
 motion-at-requires : tie.Need-motion-at-requires
 motion-at-requires c κs = search needs
 
-place-event-requires-2 : tie.Need-place-event-requires-2
-place-event-requires-2 c κs = search needs
+enum-known-delta : tie.Need-enum-known-delta
+enum-known-delta c = search needs
+
+returns-2 : tie.Need-returns-2
+unfolding place-event
+returns-2 c times positions =
+    let k = sym (c .before .before .before .kind-at .ensures) ∙ c .before .before .match .keys2 in
+    rw (read-other 3 _ _ _ tt k (c .before .motion-at .ensures) (c .match3 .keys2))
+
+motion-place-requires : tie.Need-motion-place-requires
+motion-place-requires c κs = search needs
 
 button-at-requires : tie.Need-button-at-requires
 button-at-requires c κs = search needs
 
-place-event-requires-3 : tie.Need-place-event-requires-3
-place-event-requires-3 c κs = search needs
+enum-known-pos-2 : tie.Need-enum-known-pos-2
+enum-known-pos-2 c = search needs
+
+returns-3 : tie.Need-returns-3
+unfolding place-event
+returns-3 c times positions =
+    let k = sym (c .before .before .before .kind-at .ensures) ∙ c .before .before .match .keys3 in
+    rw (read-other 4 _ _ _ tt k (c .before .button-at .ensures) (c .match4 .keys2))
+
+button-place-requires : tie.Need-button-place-requires
+button-place-requires c κs = search needs
 
 gone-at-requires : tie.Need-gone-at-requires
 gone-at-requires c κs = search needs
 
-place-event-requires-4 : tie.Need-place-event-requires-4
-place-event-requires-4 c κs = search needs
-
-returns : tie.Need-returns
-returns c times positions = c .place-event .ensures times positions ∙ rw (c .before .moved-at .ensures (sym (c .before .before .before .kind-at .ensures) ∙ c .before .before .match .keys1))
-
-returns-2 : tie.Need-returns-2
-returns-2 c times positions = c .place-event2 .ensures times positions ∙ rw (c .before .motion-at .ensures (sym (c .before .before .before .kind-at .ensures) ∙ c .before .before .match .keys2))
-
-returns-3 : tie.Need-returns-3
-returns-3 c times positions = c .place-event3 .ensures times positions ∙ rw (c .before .button-at .ensures (sym (c .before .before .before .kind-at .ensures) ∙ c .before .before .match .keys3))
+enum-told : tie.Need-enum-told
+enum-told c = search needs
 
 returns-4 : tie.Need-returns-4
-returns-4 c times positions = c .place-event4 .ensures times positions ∙ rw (c .before .gone-at .ensures (sym (c .before .before .before .kind-at .ensures) ∙ c .before .before .match .keys4))
+unfolding place-event
+returns-4 c times positions =
+    let k = sym (c .before .before .before .kind-at .ensures) ∙ c .before .before .match .keys4 in
+    rw (read-other 5 _ _ _ tt k (c .before .gone-at .ensures) (c .match5 .keys2))
+
+gone-place-requires : tie.Need-gone-place-requires
+gone-place-requires c κs = search needs
 
 returns-5 : tie.Need-returns-5
 returns-5 c times positions =
+    let e = c .before .before in
+    let k = sym (e .before .before .before .before .kind-at .ensures) ∙ e .before .before .before .match .keys1 in
+    rw (← e .before .before .moved-at .ensures k, e .pos .given .1) (c .moved-place .ensures times positions)
+
+returns-6 : tie.Need-returns-6
+returns-6 c times positions =
+    let e = c .before .before in
+    let k = sym (e .before .before .before .before .kind-at .ensures) ∙ e .before .before .before .match .keys2 in
+    rw (← e .before .before .motion-at .ensures k, e .delta .given .1) (c .motion-place .ensures times positions)
+
+returns-7 : tie.Need-returns-7
+returns-7 c times positions =
+    let e = c .before .before in
+    let k = sym (e .before .before .before .before .kind-at .ensures) ∙ e .before .before .before .match .keys3 in
+    rw (← e .before .before .button-at .ensures k, e .pos2 .given .1) (c .button-place .ensures times positions _ _)
+
+returns-8 : tie.Need-returns-8
+returns-8 c times positions =
+    let e = c .before in
+    let k = sym (e .before .before .before .before .kind-at .ensures) ∙ e .before .before .before .match .keys4 in
+    rw (← e .before .before .gone-at .ensures k, e .enum-told .given .1) (c .gone-place .ensures times positions)
+
+returns-9 : tie.Need-returns-9
+returns-9 c times positions =
     let k = c .before .kind-at .ensures in
     let r = c .match .rest in
     sym
@@ -63,15 +112,23 @@ place-at-spec =
     (tie.spec
     kind-at-requires
     moved-at-requires
-    place-event-requires
-    motion-at-requires
-    place-event-requires-2
-    button-at-requires
-    place-event-requires-3
-    gone-at-requires
-    place-event-requires-4
+    enum-known-pos
     returns
+    moved-place-requires
+    motion-at-requires
+    enum-known-delta
     returns-2
+    motion-place-requires
+    button-at-requires
+    enum-known-pos-2
     returns-3
+    button-place-requires
+    gone-at-requires
+    enum-told
     returns-4
-    returns-5)
+    gone-place-requires
+    returns-5
+    returns-6
+    returns-7
+    returns-8
+    returns-9)
