@@ -1,6 +1,6 @@
 -- Events of the kinds that a component does not read leave it as it is; and its loop along its list. Assumes nothing.
 use mathlib.Core.Path.{_≡_, refl, sym, ap}
-use mathlib.Core.Bool.{Bool, true, false, _||_, not}
+use mathlib.Core.Bool.{true, false, _||_, not}
 use mathlib.Core.List.{List, [], _∷_, _++_}
 use mathlib.Core.Logic.{⊎-elim}
 use Prim.Native.Nat.{ℕ, suc, _+_, _≤_}
@@ -86,10 +86,6 @@ place-own es s =
     (λ e s h. place-idle e s (not-read pointer-list e 3 h refl) (not-read pointer-list e 4 h refl) (not-read pointer-list e 5 h refl) (not-read pointer-list e 6 h refl)) es s
 
 -- ---- whether the pointer is gone: kind 6
-pub or-none : (b : Bool) → b ≡ (b || false)
-or-none true = refl
-or-none false = refl
-
 pub gone-first : (e : Event) (es : List Event) → clear-history-after (e ∷ es) ≡ (clear-history-after (e ∷ []) || clear-history-after es)
 unfolding clear-history-after
 gone-first (Key k b) es = refl

@@ -76,8 +76,10 @@ fn gone_at(feed: &[u32], at: usize) -> bool
     ensures { λ r. ⌜ r ≡ clear-history-after (shaped-at (now (feed .entry)) at ∷ []) ⌝ }
 {
     if kind_at(feed, at) == 6 {
-        let e = event_readers::readers::gone_at(feed, at);
-        return pointer_place::clears_history(false, e);
+        let Event::PointerGone = event_readers::readers::gone_at(feed, at) else {
+            return false;
+        };
+        return true;
     }
     false
 }

@@ -1,5 +1,4 @@
 // Where the pointer is and how it moves. The caller lends the places of the history.
-use data::event::Event;
 use emath::pos2::MaybePos2;
 use emath::pos2::Pos2;
 use emath::vec2::MaybeVec2;
@@ -8,14 +7,14 @@ use emath_history::history::History;
 use emath_history::history::MAX_LEN;
 use emath_history::history::PARTS;
 ghost use mathlib.Core.Path.{_≡_};
-ghost use mathlib.Core.Bool.{_||_, cond};
-ghost use mathlib.Core.List.{List, [], _∷_};
+ghost use mathlib.Core.Bool.{cond};
+ghost use mathlib.Core.List.{List, []};
 ghost use lib.Ieee.{Float};
 ghost use Rattle.emath.specs.Vec.{normalized};
 ghost use Rattle.emath.specs.History.{velocity};
 ghost use Rattle.emath_history.specs.Ring.{view};
-ghost use Rattle.model.specs.Types.{PointerButton, Modifiers, Event, PointerMoved, MouseMoved, Button, PointerGone};
-ghost use Rattle.model.specs.Pointer.{unwrap-or-default, zero-motion, add-motion, place-event, clear-history-after, start-place, delta-of, velocity-of};
+ghost use Rattle.model.specs.Types.{PointerButton, Modifiers, PointerMoved, MouseMoved, Button, PointerGone};
+ghost use Rattle.model.specs.Pointer.{unwrap-or-default, zero-motion, add-motion, place-event, start-place, delta-of, velocity-of};
 ghost use Rattle.model.specs.Pass.{fresh-place};
 ghost use Rattle.pointer_place.specs.View.{place, Sampled, Ended};
 
@@ -138,26 +137,6 @@ pub fn gone_place(p: Place) -> Place
         latest_pos: MaybePos2::None,
         interact_pos: kept,
         ..p
-    }
-}
-
-// Is the history to be cleared at the end of the pass: after an event that the pointer is gone.
-pub fn clears_history(gone: bool, e: Event) -> bool
-    ensures { λ r. ⌜ ((es : List Event) → (r || clear-history-after es) ≡ (gone || clear-history-after (e ∷ es))) ⌝ }
-{
-    match e {
-        Event::PointerGone => true,
-        Event::PointerMoved(_) => gone,
-        Event::MouseMoved(_) => gone,
-        Event::PointerButton(_, _, _, _) => gone,
-        Event::Key(_, _) => gone,
-        Event::ModifiersChanged(_) => gone,
-        Event::Zoom(_) => gone,
-        Event::Rotate(_) => gone,
-        Event::Touch(_, _, _, _, _) => gone,
-        Event::MouseWheel(_, _, _, _, _) => gone,
-        Event::WindowFocused(_) => gone,
-        Event::Other => gone,
     }
 }
 

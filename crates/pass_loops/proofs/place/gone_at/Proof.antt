@@ -1,11 +1,10 @@
--- `place/gone_at` meets its contract: each way to a return is the case of the definition that its tests pick. Assumes nothing.
-use Rattle.pass_loops.proofs.Loops.{or-none, gone-idle}
-use Rattle.model.specs.Pointer.{clear-history-after}
-use mathlib.Core.List.{[]}
-use Rattle.event_loop.proofs.OfKind.{not-of-kind}
-use mathlib.Core.Path.{_≡_, refl, sym, ap, _∙_}
+-- `place::gone_at` meets its contract. Assumes nothing.
+use mathlib.Core.Path.{sym, _∙_}
 use native.Mathlib.Omega.{arith}
 use borrow.Author.Needs.{needs}
+use Rattle.model.specs.Pointer.{clear-history-after}
+use Rattle.event_loop.proofs.OfKind.{not-of-kind}
+use Rattle.pass_loops.proofs.Loops.{read-other, gone-idle}
 use Rattle.pass_loops.proofs.place.gone_at.Statement.{statement}
 use Rattle.pass_loops.proofs.place.gone_at.Tie as tie
 
@@ -15,17 +14,25 @@ kind-at-requires c κs = search needs
 gone-at-requires : tie.Need-gone-at-requires
 gone-at-requires c κs = search needs
 
-clears-history-requires : tie.Need-clears-history-requires
-clears-history-requires c κs = search needs
+enum-told : tie.Need-enum-told
+enum-told c = search needs
 
 returns : tie.Need-returns
 unfolding clear-history-after
-returns c = or-none _ ∙ c .clears-history .ensures [] ∙ rw (c .before .gone-at .ensures (sym (c .before .before .before .kind-at .ensures) ∙ c .before .before .if1 .taken))
+returns c =
+    let k = sym (c .before .before .before .kind-at .ensures) ∙ c .before .before .if1 .taken in
+    rw (read-other 5 _ _ _ tt k (c .before .gone-at .ensures) (c .match .keys2))
 
 returns-2 : tie.Need-returns-2
-returns-2 c = sym (gone-idle _ (not-of-kind _ _ 6 (λ e. c .if1 .left (c .before .kind-at .ensures ∙ e)) (λ e. omega arith)))
+unfolding clear-history-after
+returns-2 c =
+    let k = sym (c .before .before .before .before .kind-at .ensures) ∙ c .before .before .before .if1 .taken in
+    rw (← c .before .before .gone-at .ensures k, c .enum-told .given .1)
+
+returns-3 : tie.Need-returns-3
+returns-3 c = sym (gone-idle _ (not-of-kind _ _ 6 (λ e. c .if1 .left (c .before .kind-at .ensures ∙ e)) (λ e. omega arith)))
 
 pub gone-at-spec : {M : Type 1} → statement M
 gone-at-spec =
     tie.close
-    (tie.spec kind-at-requires gone-at-requires clears-history-requires returns returns-2)
+    (tie.spec kind-at-requires gone-at-requires enum-told returns returns-2 returns-3)
