@@ -1,19 +1,12 @@
 -- Events of the kinds that a component does not read leave it as it is; and its loop along its list. Assumes nothing.
-use mathlib.Core.Path.{_≡_, refl, sym, ap}
-use mathlib.Core.Bool.{true, false, _||_, not}
+use mathlib.Core.Path.{_≡_, refl, sym}
+use mathlib.Core.Bool.{true, false, _||_}
 use mathlib.Core.List.{List, [], _∷_, _++_}
-use mathlib.Core.Logic.{⊎-elim}
-use Prim.Native.Nat.{ℕ, suc, _+_, _≤_}
+use Prim.Native.Nat.{ℕ, _+_, _≤_}
 use native.Mathlib.Omega.{arith}
-use lib.Dec.{T}
-use lib.ListN.{length, take, drop, getD, length-append}
+use lib.ListN.{length, length-append}
 use lib.Ieee.{Float}
-use mir.Val.{hasKey}
-use types.Run.{OneOf, miss}
-use denote.Enum.Declared.{tagOf}
 use Rattle.data.specs.Numbers.{kind-number}
-use Rattle.data.proofs.event.Event.{the-type}
-use Rattle.feed.specs.Split.{kind}
 use Rattle.model.specs.Types.{Rect, InputOptions, WheelState}
 use Rattle.model.specs.Types.{Event, Key, ModifiersChanged, PointerMoved, MouseMoved, Button, PointerGone, Zoom, Rotate, Touch, MouseWheel, WindowFocused, Other}
 use Rattle.model.specs.Pointer.{Place, Press, start-place, place-event, place-events, place-pass, clear-history-after, press-event, press-events, press-pass, add-event, press-button, release-button, release}
@@ -21,43 +14,10 @@ use Rattle.model.specs.Wheel.{wheel-event, wheel-events, wheel-pass, clear-smoo
 use Rattle.pointer_events.proofs.Stored.{capped-events}
 use Rattle.pointer_state.specs.declared.press.Press.{Press as PressHeld}
 use Rattle.pointer_state.specs.View.{press, Stepped}
-use Rattle.event_loop.specs.Shaped.{shaped-at}
 use Rattle.event_loop.specs.Lists.{pointer-list, wheel-list, own}
 use Rattle.event_loop.specs.Loop.{Loop, Any}
 use Rattle.event_loop.proofs.Loops.{loop, own-law, any-loop, own-any-law}
-use Rattle.event_loop.proofs.OfKind.{of-kind, not-read}
-
--- ---- the event of a known kind: of its variant, or `Other`
--- the variants stand in the order of the kinds, which begin at 1
-variant-kind : (e : Event) → kind-number e ≡ suc (tagOf the-type e)
-variant-kind (Key k b) = refl
-variant-kind (ModifiersChanged m) = refl
-variant-kind (PointerMoved v) = refl
-variant-kind (MouseMoved v) = refl
-variant-kind (Button v b c m) = refl
-variant-kind PointerGone = refl
-variant-kind (Zoom x) = refl
-variant-kind (Rotate x) = refl
-variant-kind (Touch d i ph v f) = refl
-variant-kind (MouseWheel u v ph g m) = refl
-variant-kind (WindowFocused b) = refl
-variant-kind Other = refl
-
--- the places of the variants but k
-abbrev pub but : ℕ → List ℕ
-but k =
-    let all : List ℕ = 0 ∷ 1 ∷ 2 ∷ 3 ∷ 4 ∷ 5 ∷ 6 ∷ 7 ∷ 8 ∷ 9 ∷ 10 ∷ 11 ∷ [] in
-    take k all ++ drop (suc k) all
-
--- what a reader of variant k gives, where it gives another
-pub read-other : (k : ℕ) (ws : List ℕ) (at : ℕ) (e : Event) → T (not (hasKey (but k) k)) → kind (getD ws at 0) ≡ suc k → (kind (getD ws at 0) ≡ suc k → e ≡ shaped-at ws at) → OneOf (but k) (tagOf the-type e) → shaped-at ws at ≡ Other
-read-other k ws at e without same read one =
-    ⊎-elim
-    (λ h.
-    let is : tagOf the-type e ≡ k = omega (arith, variant-kind e, ap kind-number (read same), h, same) in
-    absurd (miss (but k) k without (rw is at one)))
-    (λ h. h)
-    (of-kind ws at .0)
+use Rattle.event_loop.proofs.OfKind.{not-read}
 
 -- ---- the pointer's place: kinds 3 to 6
 pub place-idle : (e : Event) (s : Place) → (kind-number e ≡ 3 → ⊥) → (kind-number e ≡ 4 → ⊥) → (kind-number e ≡ 5 → ⊥) → (kind-number e ≡ 6 → ⊥) → place-event e s ≡ s

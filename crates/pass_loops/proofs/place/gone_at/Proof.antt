@@ -3,8 +3,8 @@ use mathlib.Core.Path.{sym, _∙_}
 use native.Mathlib.Omega.{arith}
 use borrow.Author.Needs.{needs}
 use Rattle.model.specs.Pointer.{clear-history-after}
-use Rattle.event_loop.proofs.OfKind.{not-of-kind}
-use Rattle.pass_loops.proofs.Loops.{read-other, gone-idle}
+use Rattle.event_loop.proofs.OfKind.{not-of-kind, is-other}
+use Rattle.pass_loops.proofs.Loops.{gone-idle}
 use Rattle.pass_loops.proofs.place.gone_at.Statement.{statement}
 use Rattle.pass_loops.proofs.place.gone_at.Tie as tie
 
@@ -21,7 +21,7 @@ returns : tie.Need-returns
 unfolding clear-history-after
 returns c =
     let k = sym (c .before .before .before .kind-at .ensures) ∙ c .before .before .if1 .taken in
-    rw (read-other 5 _ _ _ tt k (c .before .gone-at .ensures) (c .match .keys2))
+    rw (is-other _ _ 5 _ k (c .before .gone-at .ensures k) (c .match .keys2) tt)
 
 returns-2 : tie.Need-returns-2
 unfolding clear-history-after

@@ -3,8 +3,8 @@ use mathlib.Core.Path.{sym, _∙_}
 use native.Mathlib.Omega.{arith}
 use borrow.Author.Needs.{needs}
 use Rattle.model.specs.Pointer.{place-event}
-use Rattle.event_loop.proofs.OfKind.{not-of-kind}
-use Rattle.pass_loops.proofs.Loops.{read-other, place-idle}
+use Rattle.event_loop.proofs.OfKind.{not-of-kind, is-other}
+use Rattle.pass_loops.proofs.Loops.{place-idle}
 use Rattle.pass_loops.proofs.place.place_at.Statement.{statement}
 use Rattle.pass_loops.proofs.place.place_at.Tie as tie
 
@@ -21,7 +21,7 @@ returns : tie.Need-returns
 unfolding place-event
 returns c times positions =
     let k = sym (c .before .before .before .kind-at .ensures) ∙ c .before .before .match .keys1 in
-    rw (read-other 2 _ _ _ tt k (c .before .moved-at .ensures) (c .match2 .keys2))
+    rw (is-other _ _ 2 _ k (c .before .moved-at .ensures k) (c .match2 .keys2) tt)
 
 moved-place-requires : tie.Need-moved-place-requires
 moved-place-requires c κs = search needs
@@ -36,7 +36,7 @@ returns-2 : tie.Need-returns-2
 unfolding place-event
 returns-2 c times positions =
     let k = sym (c .before .before .before .kind-at .ensures) ∙ c .before .before .match .keys2 in
-    rw (read-other 3 _ _ _ tt k (c .before .motion-at .ensures) (c .match3 .keys2))
+    rw (is-other _ _ 3 _ k (c .before .motion-at .ensures k) (c .match3 .keys2) tt)
 
 motion-place-requires : tie.Need-motion-place-requires
 motion-place-requires c κs = search needs
@@ -51,7 +51,7 @@ returns-3 : tie.Need-returns-3
 unfolding place-event
 returns-3 c times positions =
     let k = sym (c .before .before .before .kind-at .ensures) ∙ c .before .before .match .keys3 in
-    rw (read-other 4 _ _ _ tt k (c .before .button-at .ensures) (c .match4 .keys2))
+    rw (is-other _ _ 4 _ k (c .before .button-at .ensures k) (c .match4 .keys2) tt)
 
 button-place-requires : tie.Need-button-place-requires
 button-place-requires c κs = search needs
@@ -66,7 +66,7 @@ returns-4 : tie.Need-returns-4
 unfolding place-event
 returns-4 c times positions =
     let k = sym (c .before .before .before .kind-at .ensures) ∙ c .before .before .match .keys4 in
-    rw (read-other 5 _ _ _ tt k (c .before .gone-at .ensures) (c .match5 .keys2))
+    rw (is-other _ _ 5 _ k (c .before .gone-at .ensures k) (c .match5 .keys2) tt)
 
 gone-place-requires : tie.Need-gone-place-requires
 gone-place-requires c κs = search needs

@@ -3,8 +3,8 @@ use mathlib.Core.Path.{sym, _∙_}
 use native.Mathlib.Omega.{arith}
 use borrow.Author.Needs.{needs}
 use Rattle.model.specs.Types.{Other}
-use Rattle.event_loop.proofs.OfKind.{not-of-kind}
-use Rattle.pass_loops.proofs.Loops.{read-other, press-stays}
+use Rattle.event_loop.proofs.OfKind.{not-of-kind, is-other}
+use Rattle.pass_loops.proofs.Loops.{press-stays}
 use Rattle.pass_loops.proofs.press.press_at.Statement.{statement}
 use Rattle.pass_loops.proofs.press.press_at.Tie as tie
 
@@ -20,7 +20,7 @@ enum-known-e c = search needs
 returns : tie.Need-returns
 returns c =
     let k = sym (c .before .before .before .kind-at .ensures) ∙ c .before .before .if1 .taken in
-    rw (read-other 2 _ _ _ tt k (c .before .moved-at .ensures) (c .match .keys2)) (press-stays _ _ Other _ _ _ (λ e. omega arith) (λ e. omega arith))
+    rw (is-other _ _ 2 _ k (c .before .moved-at .ensures k) (c .match .keys2) tt) (press-stays _ _ Other _ _ _ (λ e. omega arith) (λ e. omega arith))
 
 moved-requires : tie.Need-moved-requires
 moved-requires c κs = search needs
@@ -40,7 +40,7 @@ enum-known-e-2 c = search needs
 returns-3 : tie.Need-returns-3
 returns-3 c =
     let k = sym (c .before .before .before .before .kind-at .ensures) ∙ c .before .before .if2 .taken in
-    rw (read-other 4 _ _ _ tt k (c .before .button-at .ensures) (c .match2 .keys2)) (press-stays _ _ Other _ _ _ (λ e. omega arith) (λ e. omega arith))
+    rw (is-other _ _ 4 _ k (c .before .button-at .ensures k) (c .match2 .keys2) tt) (press-stays _ _ Other _ _ _ (λ e. omega arith) (λ e. omega arith))
 
 button-event-requires : tie.Need-button-event-requires
 button-event-requires c κs = search needs

@@ -3,8 +3,8 @@ use mathlib.Core.Path.{sym, _∙_}
 use native.Mathlib.Omega.{arith}
 use borrow.Author.Needs.{needs}
 use Rattle.model.specs.Wheel.{wheel-event}
-use Rattle.event_loop.proofs.OfKind.{not-of-kind}
-use Rattle.pass_loops.proofs.Loops.{read-other, wheel-idle}
+use Rattle.event_loop.proofs.OfKind.{not-of-kind, is-other}
+use Rattle.pass_loops.proofs.Loops.{wheel-idle}
 use Rattle.pass_loops.proofs.wheel.wheel_at.Statement.{statement}
 use Rattle.pass_loops.proofs.wheel.wheel_at.Tie as tie
 
@@ -21,7 +21,7 @@ returns : tie.Need-returns
 unfolding wheel-event
 returns c =
     let k = sym (c .before .before .before .kind-at .ensures) ∙ c .before .before .if1 .taken in
-    rw (read-other 9 _ _ _ tt k (c .before .wheel-at .ensures) (c .match .keys2))
+    rw (is-other _ _ 9 _ k (c .before .wheel-at .ensures k) (c .match .keys2) tt)
 
 on-wheel-event-requires : tie.Need-on-wheel-event-requires
 on-wheel-event-requires c κs = search needs
