@@ -1,14 +1,12 @@
 -- An event by the parts of a touch event. Assumes nothing.
-use mathlib.Core.Path.{_≡_, refl, sym, ap, _∙_}
-use mathlib.Core.Bool.{Bool, false, _&&_, _||_}
-use mathlib.Core.List.{List, [], _∷_}
+use mathlib.Core.Path.{_≡_, refl, ap}
+use mathlib.Core.List.{List}
 use Prim.Native.Nat.{ℕ}
 use native.Mathlib.Omega.{arith}
-use lib.Dec.{eqb}
 use lib.ListN.{length}
 use Rattle.data.specs.Numbers.{kind-number}
 use Rattle.model.specs.Types.{Event, Key, ModifiersChanged, PointerMoved, MouseMoved, Button, PointerGone, Zoom, Rotate, Touch, MouseWheel, WindowFocused, Other}
-use Rattle.model.specs.Touch.{TouchState, no-place, find-device, adds-or-removes, added-or-removed-touches}
+use Rattle.model.specs.Touch.{TouchState, no-place, find-device}
 use Rattle.model.specs.Pass.{crowded}
 use Rattle.survey.specs.Survey.{fits-touch, fits-event}
 use Rattle.survey.specs.Touch.{touch-of}
@@ -77,7 +75,3 @@ module _ (e : Event) (t : TouchEvent) (is : touch-of e ≡ some-touch t) where
   pub fits-is : (vs : List TouchState) → fits-touch (t .«device_id») (t .phase) (t .touch) vs ≡ fits-event e vs
   unfolding fits-event
   fits-is vs = rw (touch-is e t is)
-
-  pub adds-is : (d : ℕ) → ((eqb (t .«device_id») d && adds-or-removes (t .phase)) || false) ≡ added-or-removed-touches d (e ∷ [])
-  unfolding added-or-removed-touches
-  adds-is d = rw (touch-is e t is)
