@@ -91,14 +91,15 @@ def seconds(cmd, data):
         answer(cmd, data)
         best = min(best, time.perf_counter() - t)
     return best
-def nanoseconds(cmd, n, per, make):
+def nanoseconds(cmd, n, make, less):
     k = 50 * n
-    return (seconds(cmd, make(2 * k)) - seconds(cmd, make(k))) / k / per * 1e9
+    one = lambda m: (seconds(cmd, m(2 * k)) - seconds(cmd, m(k))) / k * 1e9
+    return one(make) - (one(less) if less else 0)
 
 def main():
     ours, egui = shlex.split(sys.argv[1]), shlex.split(sys.argv[2])
     only = sys.argv[3] if len(sys.argv) > 3 else ''
-    print('| call | instructions, ours : egui | ratio | bar | egui with the checks | ratio | ns, ours : egui |')
+    print('| call | instructions, ours : egui | ratio | bar | egui with the checks | ratio | ns, ours : egui : with the checks |')
     print('|---|---|---|---|---|---|---|')
     differ = False
     for name, bar, n, per, make, less in ROWS:
@@ -109,7 +110,10 @@ def main():
             differ = True
             print(f'answers differ in {name}: {a} {b} {c}', file=sys.stderr)
         i, j, k = (count(x, n, per, make, less) for x in (ours, egui, egui + ['checked']))
-        ns = '' if less else ' : '.join(f'{nanoseconds(x, n, per, make):,.0f}' for x in (ours, egui))
+        ns = ''
+        if per == 1:
+            t, u, v = (nanoseconds(x, n, make, less) for x in (ours, egui, egui + ['checked']))
+            ns = f'{t:,.0f} : {u:,.0f} : {v:,.0f}'
         above = ' **above**' if bar and i / j > bar else ''
         print(f'| {name} | {i:,.0f} : {j:,.0f} | {i / j:.2f}{above} | {bar or ""} | {k:,.0f} | {i / k:.2f} | {ns} |', flush=True)
     sys.exit(differ)
