@@ -6,8 +6,8 @@ OURS is the command of the program bench_calls, EGUI that of compare's bin bench
 Instructions are callgrind's: the difference of a run of 2N calls and one of N, over N. Time is the same difference by the wall clock,
 the least of some runs. `egui` has its events and hits ready; `with the checks` also decodes the feed, checks the domain and writes the id
 sets as ascending lists, as the calls here do.
-An insertion's lent slots go through the program by value: a run that only copies them is taken off, and its time would say nothing.
-The questions are asked after a pass of 8 events, which is taken off too.
+An insertion's lent slots go through the program by value: a run that only copies them is taken off. The questions are asked after a
+pass of 8 events, which is taken off too. Of both the time would say nothing: what is taken off is far more than what is left.
 """
 import shlex, struct, subprocess, sys, time
 
@@ -91,10 +91,9 @@ def seconds(cmd, data):
         answer(cmd, data)
         best = min(best, time.perf_counter() - t)
     return best
-def nanoseconds(cmd, n, make, less):
+def nanoseconds(cmd, n, make):
     k = 50 * n
-    one = lambda m: (seconds(cmd, m(2 * k)) - seconds(cmd, m(k))) / k * 1e9
-    return one(make) - (one(less) if less else 0)
+    return (seconds(cmd, make(2 * k)) - seconds(cmd, make(k))) / k * 1e9
 
 def main():
     ours, egui = shlex.split(sys.argv[1]), shlex.split(sys.argv[2])
@@ -111,8 +110,8 @@ def main():
             print(f'answers differ in {name}: {a} {b} {c}', file=sys.stderr)
         i, j, k = (count(x, n, per, make, less) for x in (ours, egui, egui + ['checked']))
         ns = ''
-        if per == 1:
-            t, u, v = (nanoseconds(x, n, make, less) for x in (ours, egui, egui + ['checked']))
+        if not less:
+            t, u, v = (nanoseconds(x, n, make) for x in (ours, egui, egui + ['checked']))
             ns = f'{t:,.0f} : {u:,.0f} : {v:,.0f}'
         above = ' **above**' if bar and i / j > bar else ''
         print(f'| {name} | {i:,.0f} : {j:,.0f} | {i / j:.2f}{above} | {bar or ""} | {k:,.0f} | {i / k:.2f} | {ns} |', flush=True)
