@@ -1,6 +1,6 @@
 #!/bin/sh
 # Compares with egui where cargo and egui's sources are at hand; else says so and ends with 0.
-#   compare/run.sh [SECONDS]       default: 2,500,000 calls; EGUI_SRC: the src/ folder of egui 0.37.0
+#   compare/run.sh [SECONDS]       default: 4,000,000 calls; EGUI_SRC: the src/ folder of egui 0.37.0
 #   BUILD_ONLY=1 compare/run.sh    builds; BUILT=1 compare/run.sh takes what is built
 # The program compared is target/bin/replay, as `rt check` leaves it. Ends with 1 at any difference.
 set -eu
@@ -9,7 +9,7 @@ if [ $# -gt 0 ]; then
     calls=seconds=$1
     lists=seconds=$(($1 / 4))
 else
-    calls=calls=2500000
+    calls=calls=4000000
     lists=lists=600
 fi
 from=${EGUI_SRC:-$here/../../shared/docs/src/src}
