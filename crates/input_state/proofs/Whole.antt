@@ -17,7 +17,9 @@ use Rattle.model.specs.Pass as Pass
 use Rattle.event_loop.specs.Shaped.{shaped-events}
 use Rattle.event_loop.specs.Lists.{pointer-list, keys-list, sums-list, touch-list, wheel-list, list-count, listed-events, Listed}
 use Rattle.event_loop.proofs.Loops.{own-fewer}
-use Rattle.pass_loops.proofs.Loops.{place-pass-own, press-pass-own, wheel-pass-own}
+use Rattle.place_loop.proofs.Loops.{place-pass-own}
+use Rattle.press_loop.proofs.Loops.{press-pass-own}
+use Rattle.wheel_loop.proofs.Loops.{wheel-pass-own}
 use Rattle.key_state.specs.View.{begun}
 use Rattle.key_state.proofs.Idle.{zoom-own, rotation-own, key-own}
 use Rattle.touch_ends.proofs.Marks.{ended-own}

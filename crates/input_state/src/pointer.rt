@@ -3,14 +3,14 @@ use data::options::InputOptions;
 use emath_history::history::MAX_LEN;
 use emath_history::history::PARTS;
 use event_loop::LISTED;
-use pass_loops::place::place_pass;
-use pass_loops::press::press_pass;
+use place_loop::place_pass;
 use pointer_clicks::is_decidedly_dragging;
 use pointer_clicks::started_decidedly_dragging;
 use pointer_events::CODES;
 use pointer_events::PLACES;
 use pointer_place::Place;
 use pointer_state::press::Press;
+use press_loop::press_pass;
 ghost use Rattle.event_loop.specs.Lists.{listed-events, pointer-list};
 ghost use Rattle.input_state.specs.View.{PointerPassed};
 

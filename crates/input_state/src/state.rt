@@ -24,11 +24,11 @@ use event_loop::SUMS;
 use event_loop::WHEEL;
 use key_state::keys::Keys;
 use key_state::keys::keys_pass;
-use pass_loops::wheel::wheel_pass;
 use pointer_events::CODES;
 use pointer_events::PLACES;
 use pointer_place::Place;
 use pointer_state::press::Press;
+use wheel_loop::wheel_pass;
 ghost use Rattle.input_state.specs.View.{Fresh, Acted, lent};
 
 pub struct InputState {

@@ -1,3 +1,2 @@
-pub mod Touch
 pub mod Survey
 pub mod Laws

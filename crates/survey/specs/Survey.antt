@@ -21,7 +21,6 @@ use Rattle.event_loop.specs.Lists.{touch-list, listed, listed-events, Listed}
 use Rattle.survey.specs.declared.reading.MaybePassRefusal.{MaybePassRefusal}
 use Rattle.survey.specs.declared.reading.MaybePassRefusal.the-variants.{None as no-refusal, Some as some-refusal}
 use Rattle.survey.specs.declared.reading.Reading.{Reading}
-use Rattle.survey.specs.declared.crowd.Surveyed.{Surveyed}
 
 -- the answer as an Option
 unfoldable pub option : MaybePassRefusal → Option PassRefusal
@@ -78,8 +77,3 @@ pub record Read (ws ps : List ℕ) (r : Reading) : Type 0 where
   pub lists : feed-refusal ws ≡ none → Listed ws ps (r .counts)
   pub crowd : (vs : List TouchState) →
       fits-survey max-events (items ws) vs ≡ crowd-then ws (listed ps touch-list (getD (r .counts) touch-list 0)) (λ us. feed-refusal ws) vs
-
--- What the touch events in their list tell, with `later` refused after them: the first refusal, and if there is none the devices after them.
-pub record Crowded (ws ps : List ℕ) (n : ℕ) (later : Option PassRefusal) (vs : List TouchState) (r : Surveyed) : Type 0 where
-  pub refusal : option (r .refusal) ≡ crowd-then ws (listed ps touch-list n) (λ us. later) vs
-  pub devices : option (r .refusal) ≡ none → view (r .devices) ≡ fits-events (listed-events ws ps touch-list n) vs

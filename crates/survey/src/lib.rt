@@ -1,4 +1,2 @@
-// A feed is looked through before a pass changes anything: the first refusal, or the devices after its touch events.
-pub mod crowd;
+// A feed is looked through before a pass changes anything: what its words alone refuse, and the lists of its events.
 pub mod reading;
-pub mod touch;

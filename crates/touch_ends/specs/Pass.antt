@@ -9,7 +9,7 @@ use Rattle.model.specs.Touch.{TouchState, end-touches}
 use Rattle.event_loop.specs.Lists.{touch-list, listed, listed-events}
 use Rattle.touch_state.specs.View.{view}
 use Rattle.survey.specs.Survey.{option, fits-events, crowd-then}
-use Rattle.survey.specs.declared.crowd.Surveyed.{Surveyed}
+use Rattle.touch_crowd.specs.declared.crowd.Surveyed.{Surveyed}
 
 pub record TouchPassed (ws ps : List ℕ) (n : ℕ) (later : Option PassRefusal) (time : Float) (pos : MaybePos2) (vs : List TouchState) (r : Surveyed) : Type 0 where
   pub refusal : option (r .refusal) ≡ crowd-then ws (listed ps touch-list n) (λ us. later) vs

@@ -2,9 +2,9 @@
 use crate::ends::end_devices;
 use emath::pos2::MaybePos2;
 use event_loop::LISTED;
-use survey::crowd::Surveyed;
-use survey::crowd::crowd;
 use survey::reading::MaybePassRefusal;
+use touch_crowd::crowd::Surveyed;
+use touch_crowd::crowd::crowd;
 use touch_state::devices::Devices;
 ghost use Rattle.survey.specs.Survey.{option};
 ghost use Rattle.touch_state.specs.View.{view};

@@ -1,0 +1,82 @@
+-- Events of the kinds that are not read leave it as it is; and its loop along its list. Assumes nothing.
+use mathlib.Core.Path.{_≡_, refl}
+use mathlib.Core.Bool.{false, _||_}
+use mathlib.Core.List.{List, [], _∷_}
+use lib.Ieee.{Float}
+use Rattle.data.specs.Numbers.{kind-number}
+use Rattle.model.specs.Types.{Event, Key, ModifiersChanged, PointerMoved, MouseMoved, Button, PointerGone, Zoom, Rotate, Touch, MouseWheel, WindowFocused, Other}
+use Rattle.model.specs.Pointer.{Place, start-place, place-event, place-events, place-pass, clear-history-after}
+use Rattle.event_loop.specs.Lists.{pointer-list, own}
+use Rattle.event_loop.specs.Loop.{Loop, Any}
+use Rattle.event_loop.proofs.Loops.{loop, own-law, any-loop, own-any-law}
+use Rattle.event_loop.proofs.OfKind.{not-read}
+
+-- ---- the pointer's place: kinds 3 to 6; whether it is gone: kind 6
+pub place-idle : (e : Event) (s : Place) → (kind-number e ≡ 3 → ⊥) → (kind-number e ≡ 4 → ⊥) → (kind-number e ≡ 5 → ⊥) → (kind-number e ≡ 6 → ⊥) → place-event e s ≡ s
+unfolding place-event
+place-idle (Key k b) s h3 h4 h5 h6 = refl
+place-idle (ModifiersChanged m) s h3 h4 h5 h6 = refl
+place-idle (PointerMoved v) s h3 h4 h5 h6 = absurd (h3 refl)
+place-idle (MouseMoved v) s h3 h4 h5 h6 = absurd (h4 refl)
+place-idle (Button v b c m) s h3 h4 h5 h6 = absurd (h5 refl)
+place-idle PointerGone s h3 h4 h5 h6 = absurd (h6 refl)
+place-idle (Zoom x) s h3 h4 h5 h6 = refl
+place-idle (Rotate x) s h3 h4 h5 h6 = refl
+place-idle (Touch d i ph v f) s h3 h4 h5 h6 = refl
+place-idle (MouseWheel u v ph g m) s h3 h4 h5 h6 = refl
+place-idle (WindowFocused b) s h3 h4 h5 h6 = refl
+place-idle Other s h3 h4 h5 h6 = refl
+
+pub place-loop : Loop place-events place-event
+unfolding place-events
+place-loop = loop place-events place-event (λ s. refl) (λ e es s. refl)
+
+pub place-own : (es : List Event) (s : Place) → place-events (own pointer-list es) s ≡ place-events es s
+unfolding place-events
+place-own es s =
+    own-law place-events place-event (λ s. refl) (λ e es s. refl) pointer-list
+    (λ e s h. place-idle e s (not-read pointer-list e 3 h refl) (not-read pointer-list e 4 h refl) (not-read pointer-list e 5 h refl) (not-read pointer-list e 6 h refl)) es s
+
+-- ---- whether the pointer is gone: kind 6
+pub gone-first : (e : Event) (es : List Event) → clear-history-after (e ∷ es) ≡ (clear-history-after (e ∷ []) || clear-history-after es)
+unfolding clear-history-after
+gone-first (Key k b) es = refl
+gone-first (ModifiersChanged m) es = refl
+gone-first (PointerMoved v) es = refl
+gone-first (MouseMoved v) es = refl
+gone-first (Button v b c m) es = refl
+gone-first PointerGone es = refl
+gone-first (Zoom x) es = refl
+gone-first (Rotate x) es = refl
+gone-first (Touch d i ph v f) es = refl
+gone-first (MouseWheel u v ph g m) es = refl
+gone-first (WindowFocused b) es = refl
+gone-first Other es = refl
+
+pub gone-idle : (e : Event) → (kind-number e ≡ 6 → ⊥) → clear-history-after (e ∷ []) ≡ false
+unfolding clear-history-after
+gone-idle (Key k b) h = refl
+gone-idle (ModifiersChanged m) h = refl
+gone-idle (PointerMoved v) h = refl
+gone-idle (MouseMoved v) h = refl
+gone-idle (Button v b c m) h = refl
+gone-idle PointerGone h = absurd (h refl)
+gone-idle (Zoom x) h = refl
+gone-idle (Rotate x) h = refl
+gone-idle (Touch d i ph v f) h = refl
+gone-idle (MouseWheel u v ph g m) h = refl
+gone-idle (WindowFocused b) h = refl
+gone-idle Other h = refl
+
+pub gone-loop : Any clear-history-after
+unfolding clear-history-after
+gone-loop = any-loop clear-history-after refl gone-first
+
+pub gone-own : (es : List Event) → clear-history-after (own pointer-list es) ≡ clear-history-after es
+unfolding clear-history-after
+gone-own es = own-any-law clear-history-after refl gone-first pointer-list (λ e h. gone-idle e (not-read pointer-list e 6 h refl)) es
+
+-- ---- its part of a pass, of its own events alone
+pub place-pass-own : (time : Float) (es : List Event) (p : Place) → place-pass time (own pointer-list es) p ≡ place-pass time es p
+unfolding place-pass
+place-pass-own time es p = rw (gone-own es, place-own es (start-place p))

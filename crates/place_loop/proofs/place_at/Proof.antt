@@ -1,0 +1,134 @@
+-- `place::place_at` meets its contract. Assumes nothing.
+use mathlib.Core.Path.{sym, _∙_}
+use native.Mathlib.Omega.{arith}
+use borrow.Author.Needs.{needs}
+use Rattle.model.specs.Pointer.{place-event}
+use Rattle.event_loop.proofs.OfKind.{not-of-kind, is-other}
+use Rattle.place_loop.proofs.Loops.{place-idle}
+use Rattle.place_loop.proofs.place_at.Statement.{statement}
+use Rattle.place_loop.proofs.place_at.Tie as tie
+
+kind-at-requires : tie.Need-kind-at-requires
+kind-at-requires c κs = search needs
+
+moved-at-requires : tie.Need-moved-at-requires
+moved-at-requires c κs = search needs
+
+enum-known-pos : tie.Need-enum-known-pos
+enum-known-pos c = search needs
+
+returns : tie.Need-returns
+unfolding place-event
+returns c times positions =
+    let k = sym (c .before .before .before .kind-at .ensures) ∙ c .before .before .match .keys1 in
+    rw (is-other _ _ 2 _ k (c .before .moved-at .ensures k) (c .match2 .keys2) tt)
+
+moved-place-requires : tie.Need-moved-place-requires
+moved-place-requires c κs = search needs
+
+motion-at-requires : tie.Need-motion-at-requires
+motion-at-requires c κs = search needs
+
+enum-known-delta : tie.Need-enum-known-delta
+enum-known-delta c = search needs
+
+returns-2 : tie.Need-returns-2
+unfolding place-event
+returns-2 c times positions =
+    let k = sym (c .before .before .before .kind-at .ensures) ∙ c .before .before .match .keys2 in
+    rw (is-other _ _ 3 _ k (c .before .motion-at .ensures k) (c .match3 .keys2) tt)
+
+motion-place-requires : tie.Need-motion-place-requires
+motion-place-requires c κs = search needs
+
+button-at-requires : tie.Need-button-at-requires
+button-at-requires c κs = search needs
+
+enum-known-pos-2 : tie.Need-enum-known-pos-2
+enum-known-pos-2 c = search needs
+
+returns-3 : tie.Need-returns-3
+unfolding place-event
+returns-3 c times positions =
+    let k = sym (c .before .before .before .kind-at .ensures) ∙ c .before .before .match .keys3 in
+    rw (is-other _ _ 4 _ k (c .before .button-at .ensures k) (c .match4 .keys2) tt)
+
+button-place-requires : tie.Need-button-place-requires
+button-place-requires c κs = search needs
+
+gone-at-requires : tie.Need-gone-at-requires
+gone-at-requires c κs = search needs
+
+enum-told : tie.Need-enum-told
+enum-told c = search needs
+
+returns-4 : tie.Need-returns-4
+unfolding place-event
+returns-4 c times positions =
+    let k = sym (c .before .before .before .kind-at .ensures) ∙ c .before .before .match .keys4 in
+    rw (is-other _ _ 5 _ k (c .before .gone-at .ensures k) (c .match5 .keys2) tt)
+
+gone-place-requires : tie.Need-gone-place-requires
+gone-place-requires c κs = search needs
+
+returns-5 : tie.Need-returns-5
+returns-5 c times positions =
+    let e = c .before .before in
+    let k = sym (e .before .before .before .before .kind-at .ensures) ∙ e .before .before .before .match .keys1 in
+    rw (← e .before .before .moved-at .ensures k, e .pos .given .1) (c .moved-place .ensures times positions)
+
+returns-6 : tie.Need-returns-6
+returns-6 c times positions =
+    let e = c .before .before in
+    let k = sym (e .before .before .before .before .kind-at .ensures) ∙ e .before .before .before .match .keys2 in
+    rw (← e .before .before .motion-at .ensures k, e .delta .given .1) (c .motion-place .ensures times positions)
+
+returns-7 : tie.Need-returns-7
+returns-7 c times positions =
+    let e = c .before .before in
+    let k = sym (e .before .before .before .before .kind-at .ensures) ∙ e .before .before .before .match .keys3 in
+    rw (← e .before .before .button-at .ensures k, e .pos2 .given .1) (c .button-place .ensures times positions _ _)
+
+returns-8 : tie.Need-returns-8
+returns-8 c times positions =
+    let e = c .before in
+    let k = sym (e .before .before .before .before .kind-at .ensures) ∙ e .before .before .before .match .keys4 in
+    rw (← e .before .before .gone-at .ensures k, e .enum-told .given .1) (c .gone-place .ensures times positions)
+
+returns-9 : tie.Need-returns-9
+returns-9 c times positions =
+    let k = c .before .kind-at .ensures in
+    let r = c .match .rest in
+    sym
+    (place-idle _ _
+    (not-of-kind _ _ 3 (λ e. r .0 .0 .0 .1 (k ∙ e)) (λ e. omega arith))
+    (not-of-kind _ _ 4 (λ e. r .0 .0 .1 (k ∙ e)) (λ e. omega arith))
+    (not-of-kind _ _ 5 (λ e. r .0 .1 (k ∙ e)) (λ e. omega arith))
+    (not-of-kind _ _ 6 (λ e. r .1 (k ∙ e)) (λ e. omega arith)))
+
+pub place-at-spec : {M : Type 1} → statement M
+place-at-spec =
+    tie.close
+    (tie.spec
+    kind-at-requires
+    moved-at-requires
+    enum-known-pos
+    returns
+    moved-place-requires
+    motion-at-requires
+    enum-known-delta
+    returns-2
+    motion-place-requires
+    button-at-requires
+    enum-known-pos-2
+    returns-3
+    button-place-requires
+    gone-at-requires
+    enum-told
+    returns-4
+    gone-place-requires
+    returns-5
+    returns-6
+    returns-7
+    returns-8
+    returns-9)

@@ -1,0 +1,2 @@
+mod TouchOf
+mod Apart
