@@ -2,9 +2,9 @@
 use mathlib.Core.Path.{_≡_, refl, sym, ap, _∙_}
 use mathlib.Core.Bool.{Bool, true, false, _||_, cond}
 use mathlib.Core.List.{List, [], _∷_, _++_, map, map-append}
-use Prim.Native.Nat.{ℕ, zero, suc, _+_, _*_, _≤_, _<_}
+use Prim.Native.Nat.{ℕ, zero, suc, _+_, _-_, _*_, _≤_, _<_}
 use native.Mathlib.Omega.{arith}
-use native.Mathlib.Numerals.{add-one}
+use native.Mathlib.Numerals.{add-one, unary-clauses}
 use lib.ListN.{getD, set, length, drop, length-append, length-map, List·getD-append}
 use lib.Seq.{getD-set-same, getD-set-other, getD-at, drop-cons, drop-length}
 use lib.Dec.{ltb}
@@ -90,11 +90,20 @@ module _ (any : List Event → Bool) (any-none : any [] ≡ false) (any-first : 
   any-last [] e = rw any-none
   any-last (d ∷ es) e = any-first d (es ++ (e ∷ [])) ∙ rw (any-last es e, any-first d es) (or-assoc (any (d ∷ [])) (any es) (any (e ∷ [])))
 
+  any-more : (ws ps : List ℕ) (l n k : ℕ) → any (listed-events ws ps l n) ≡ true → any (listed-events ws ps l (n + k)) ≡ true
+  any-more ws ps l n zero h = simp unary-clauses h
+  any-more ws ps l n (suc k) h =
+      let e : n + suc k ≡ n + k + 1 = omega arith in
+      rw e (ap any (one-more ws ps l (n + k)) ∙ any-last (listed-events ws ps l (n + k)) _ ∙ rw (any-more ws ps l n k h))
+
   pub any-loop : Any any
   any-loop =
       record {
         begins = λ ws ps l. ap any (none ws ps l) ∙ any-none;
         goes-on = λ ws ps l n. ap any (one-more ws ps l n) ∙ any-last (listed-events ws ps l n) _;
+        stays = λ ws ps l n m h t.
+            let e : m ≡ n + (m - n) = omega arith in
+            rw e (any-more ws ps l n (m - n) t);
       }
 
   pub own-any-law : (l : ℕ) → OwnAnyLaw l any

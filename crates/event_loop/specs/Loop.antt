@@ -1,8 +1,8 @@
 -- The laws of loops along a list, over the state and the step.
 use mathlib.Core.Path.{_≡_}
-use mathlib.Core.Bool.{Bool, false, _||_}
+use mathlib.Core.Bool.{Bool, true, false, _||_}
 use mathlib.Core.List.{List, [], _∷_}
-use Prim.Native.Nat.{ℕ, _+_, _*_}
+use Prim.Native.Nat.{ℕ, _+_, _*_, _≤_}
 use lib.ListN.{getD}
 use Rattle.data.specs.Limits.{max-events}
 use Rattle.feed.specs.Types.{Event}
@@ -20,6 +20,8 @@ pub record Any (any : List Event → Bool) : Type 0 where
   pub begins : (ws ps : List ℕ) (l : ℕ) → any (listed-events ws ps l 0) ≡ false
   pub goes-on : (ws ps : List ℕ) (l n : ℕ) →
       any (listed-events ws ps l (n + 1)) ≡ (any (listed-events ws ps l n) || any (shaped-at ws (getD ps (l * max-events + n) 0) ∷ []))
+  -- once there is one
+  pub stays : (ws ps : List ℕ) (l n m : ℕ) → n ≤ m → any (listed-events ws ps l n) ≡ true → any (listed-events ws ps l m) ≡ true
 
 -- Of a component that events of other lists leave as it is, all events make what its own events make.
 abbrev pub OwnLaw : {S : Type 0} → ℕ → (List Event → S → S) → (Event → S → S) → Type 0

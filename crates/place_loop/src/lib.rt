@@ -87,15 +87,15 @@ fn gone_at(feed: &[u32], at: usize) -> bool
 fn gone(feed: &[u32], lists: &[u16; LISTED], count: u8) -> bool
     ensures { λ r. ⌜ r ≡ clear-history-after (listed-events (now (feed .entry)) (now (lists .entry)) pointer-list count) ⌝ }
 {
-    let mut found = false;
     let mut i: u8 = 0;
     while i < count {
         let at = listed(lists, POINTER, i);
-        let here = gone_at(feed, at);
-        found = found | here;
+        if gone_at(feed, at) {
+            return true;
+        }
         i += 1;
     }
-    found
+    false
 }
 
 // The pointer's place after a pass, of the first `count` events in the pointer's list.

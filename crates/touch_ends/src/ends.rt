@@ -52,15 +52,15 @@ fn adds_at(device_id: u64, feed: &[u32], at: usize) -> bool
 fn added_or_removed_touches(device_id: u64, feed: &[u32], lists: &[u16; LISTED], count: u8) -> bool
     ensures { λ r. ⌜ r ≡ added-or-removed-touches «device_id» (listed-events (now (feed .entry)) (now (lists .entry)) touch-list count) ⌝ }
 {
-    let mut found = false;
     let mut i: u8 = 0;
     while i < count {
         let at = listed(lists, TOUCHES, i);
-        let adds = adds_at(device_id, feed, at);
-        found = found | adds;
+        if adds_at(device_id, feed, at) {
+            return true;
+        }
         i += 1;
     }
-    found
+    false
 }
 
 fn mark_device(d: Device, feed: &[u32], lists: &[u16; LISTED], count: u8) -> Device

@@ -1,6 +1,7 @@
 -- `ends::added_or_removed_touches` meets its contract. Assumes nothing.
-use Prim.Native.Nat.{_-_, _≤_}
+use Prim.Native.Nat.{_+_, _-_, _≤_}
 use mathlib.Core.Path.{_≡_, sym, _∙_}
+use mathlib.Core.Bool.{false}
 use native.Mathlib.Omega.{arith}
 use borrow.Author.Needs.{needs}
 use Rattle.model.specs.Touch.{added-or-removed-touches}
@@ -10,19 +11,25 @@ use Rattle.touch_ends.proofs.ends.added_or_removed_touches.Statement.{s
 use Rattle.touch_ends.proofs.ends.added_or_removed_touches.Tie as tie
 
 abbrev Inv-loop : tie.InvT-loop
-Inv-loop device-id feed lists count found₀ i₀ found i = (i ≤ count) × (found ≡ added-or-removed-touches device-id (listed-events feed lists touch-list i))
+Inv-loop device-id feed lists count i₀ i = (i ≤ count) × (added-or-removed-touches device-id (listed-events feed lists touch-list i) ≡ false)
 
 abbrev μ-loop : tie.MeasureT-loop
-μ-loop device-id feed lists count found₀ i₀ found i = count - i
+μ-loop device-id feed lists count i₀ i = count - i
 
 loop-holds : tie.Need-loop-holds Inv-loop μ-loop
-loop-holds c = (omega arith, sym (adds-loop _ .begins _ _ _))
+loop-holds c = (omega arith, adds-loop _ .begins _ _ _)
 
 listed-requires : tie.Need-listed-requires Inv-loop μ-loop
 listed-requires c κs = search needs
 
 adds-at-requires : tie.Need-adds-at-requires Inv-loop μ-loop
 adds-at-requires c κs = search needs
+
+returns : tie.Need-returns Inv-loop μ-loop
+returns c =
+    let l = c .before .before .before .before .before .loop in
+    let here = sym (c .before .adds-at .ensures) ∙ c .if1 .taken in
+    sym (adds-loop _ .stays _ _ _ (l .i + 1) _ (omega arith) (adds-loop _ .goes-on _ _ _ _ ∙ rw (l .inv .1) (rw (c .before .before .listed .ensures) at here)))
 
 add-i : tie.Need-add-i Inv-loop μ-loop
 add-i c = search needs
@@ -32,14 +39,15 @@ loop-less c = search needs
 
 loop-again : tie.Need-loop-again Inv-loop μ-loop
 loop-again c =
-    let l = c .before .before .before .before .loop in
-    (omega arith, rw (c .adds-at .ensures, c .before .listed .ensures, l .inv .1) (sym (adds-loop _ .goes-on _ _ _ _)))
+    let l = c .before .before .before .before .before .loop in
+    let here = sym (c .before .adds-at .ensures) ∙ c .if1 .left in
+    (omega arith, adds-loop _ .goes-on _ _ _ _ ∙ rw (l .inv .1) (rw (c .before .before .listed .ensures) at here))
 
-returns : tie.Need-returns Inv-loop μ-loop
-returns c =
+returns-2 : tie.Need-returns-2 Inv-loop μ-loop
+returns-2 c =
     let l = c .before .loop in
     let e : l .i ≡ c .before .before .before .args .count = omega arith in
-    rw e at (l .inv .1)
+    sym (rw e at (l .inv .1))
 
 pub added-or-removed-touches-spec : {M : Type 1} → statement M
 added-or-removed-touches-spec =
@@ -50,7 +58,8 @@ added-or-removed-touches-spec =
     loop-holds
     listed-requires
     adds-at-requires
+    returns
     add-i
     loop-less
     loop-again
-    returns)
+    returns-2)
