@@ -1,6 +1,5 @@
 // egui's input data as plain values. Each Option is an enum of its own.
 pub mod bits;
-pub mod domain;
 pub mod event;
 pub mod layers;
 pub mod limits;

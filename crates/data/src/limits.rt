@@ -1,4 +1,4 @@
-// 01's limits. specs/Limits.antt has the same under the same names.
+// 01's limits on counts. specs/Limits.antt has the same under the same names.
 
 pub const MAX_EVENTS: usize = 64;
 
@@ -23,19 +23,3 @@ pub const UNIT_COUNT: u32 = 3;
 pub const MAX_ORDER: u32 = 4;
 
 pub const MAX_TALLY: u32 = 4294967295;
-
-pub const MAX_COORDINATE: f32 = 65536.0;
-
-pub const MIN_COORDINATE: f32 = -65536.0;
-
-pub const MAX_ZOOM: f32 = 1024.0;
-
-pub const MAX_RADIANS: f32 = 64.0;
-
-pub const MIN_RADIANS: f32 = -64.0;
-
-pub const MAX_SCALE: f32 = 1024.0;
-
-pub const MAX_TIME: f64 = 4294967296.0;
-
-pub const MAX_DURATION: f64 = 3600.0;

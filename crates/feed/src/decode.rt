@@ -2,8 +2,8 @@
 use crate::shape::MaybeEvent;
 use crate::shape::shape_at;
 use crate::split::following;
-use data::domain::event_ok;
 use data::event::Event;
+use domain::event_ok;
 ghost use mathlib.Core.Path.{_≡_};
 ghost use Rattle.feed.specs.Decode.{check-floats, found-at, event-at};
 

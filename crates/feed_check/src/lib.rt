@@ -1,12 +1,12 @@
 // Whether the words at a place are an event of the domain, and whose list it goes to: what `event_at` answers, without the event.
 // `low` is the first word's low 28 bits, `next` the place after the last word.
-use data::domain::coordinate_ok;
-use data::domain::force_ok;
-use data::domain::radians_ok;
-use data::domain::zoom_ok;
 use data::limits::BUTTON_COUNT;
 use data::limits::KEY_COUNT;
 use data::limits::UNIT_COUNT;
+use domain::coordinate_ok;
+use domain::force_ok;
+use domain::radians_ok;
+use domain::zoom_ok;
 use event_loop::KEYS;
 use event_loop::POINTER;
 use event_loop::SUMS;

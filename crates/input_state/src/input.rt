@@ -1,12 +1,12 @@
 // What a pass is given beside its feed, and the refusals that it decides alone.
-use data::domain::options_ok;
-use data::domain::rect_ok;
-use data::domain::scale_ok;
-use data::domain::time_ok;
-use data::domain::unit_interval_ok;
 use data::options::InputOptions;
 use data::pointer::MaybeF64;
 use data::refusal::PassRefusal;
+use domain::options_ok;
+use domain::rect_ok;
+use domain::scale_ok;
+use domain::time_ok;
+use domain::unit_interval_ok;
 use emath::rect::Rect;
 use survey::reading::MaybePassRefusal;
 ghost use mathlib.Core.Path.{_≡_};

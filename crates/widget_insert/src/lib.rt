@@ -1,10 +1,10 @@
 // One insertion: what it decides, and the set after it. The lent slice is not touched here.
-use data::domain::rect_ok;
 use data::limits::MAX_ORDER;
 use data::refusal::InsertRefusal;
 use data::sense::bitor;
 use data::sense::sense_ok;
 use data::widget::WidgetRect;
+use domain::rect_ok;
 use widget_append::Decision;
 use widget_append::Inserted;
 use widget_append::insert_new;

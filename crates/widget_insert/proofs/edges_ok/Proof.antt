@@ -3,7 +3,7 @@ use Rattle.model.specs.Widgets.{edges-ok}
 use borrow.Author.Needs.{needs}
 use Rattle.widget_insert.proofs.edges_ok.Statement.{statement}
 use Rattle.widget_insert.proofs.edges_ok.Tie as tie
-use Rattle.data.proofs.domain.rect_ok.Reads as rect-ok-reads
+use Rattle.domain.proofs.rect_ok.Reads as rect-ok-reads
 
 rect-ok-requires : tie.Need-rect-ok-requires
 rect-ok-requires c κs = search needs
