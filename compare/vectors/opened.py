@@ -9,7 +9,7 @@ import pathlib, re
 
 ROOT = pathlib.Path(__file__).resolve().parents[2] / "crates"
 # what the model computes with, beside the kit's floats
-READ = {"ieee": ["Narrow", "Sqrt"], "emath": None, "data": None, "feed": None, "model": None}
+READ = {"ieee_narrow": ["Narrow"], "ieee_sqrt": ["Sqrt"], "emath": None, "data": None, "feed": None, "model": None}
 FLOATS = "add sub mul div lt le eq ne fits neg round sum ofInt ofBits toBits size"
 
 

@@ -1,6 +1,6 @@
 -- Written by compare/vectors/opened.py: the definitions that a theorem evaluates. One that says `unfolding opened` computes with all of them.
-use Rattle.ieee.specs.Narrow as ieee-Narrow
-use Rattle.ieee.specs.Sqrt as ieee-Sqrt
+use Rattle.ieee_narrow.specs.Narrow as ieee_narrow-Narrow
+use Rattle.ieee_sqrt.specs.Sqrt as ieee_sqrt-Sqrt
 use Rattle.emath.specs.History as emath-History
 use Rattle.emath.specs.Vec as emath-Vec
 use Rattle.data.specs.Limits as data-Limits
@@ -28,13 +28,13 @@ use Rattle.edges.specs.Steps as edges-Steps
 use Rattle.edges.specs.Words as edges-Words
 use lib.Ieee as Ieee
 
-unfoldable pub ieee-narrow : Type 1
-unfolding ieee-Narrow.narrow
-ieee-narrow = Type 0
+unfoldable pub ieee_narrow-narrow : Type 1
+unfolding ieee_narrow-Narrow.narrow
+ieee_narrow-narrow = Type 0
 
-unfoldable pub ieee-sqrt : Type 1
-unfolding ieee-Sqrt.digit ieee-Sqrt.root ieee-Sqrt.isqrt ieee-Sqrt.twice ieee-Sqrt.rooted ieee-Sqrt.sqrt
-ieee-sqrt = Type 0
+unfoldable pub ieee_sqrt-sqrt : Type 1
+unfolding ieee_sqrt-Sqrt.digit ieee_sqrt-Sqrt.root ieee_sqrt-Sqrt.isqrt ieee_sqrt-Sqrt.twice ieee_sqrt-Sqrt.rooted ieee_sqrt-Sqrt.sqrt
+ieee_sqrt-sqrt = Type 0
 
 unfoldable pub emath-history : Type 1
 unfolding emath-History.max-age emath-History.drop-old emath-History.flush emath-History.add emath-History.last emath-History.duration emath-History.velocity
@@ -137,5 +137,5 @@ unfolding edges-Words.same edges-Words.float-words edges-Words.present edges-Wor
 edges-words = Type 0
 
 unfoldable pub opened : Type 1
-unfolding ieee-narrow ieee-sqrt emath-history emath-vec data-limits data-modifiers data-sense feed-decode feed-encode feed-feed feed-laws feed-shape feed-split model-calls model-interact model-numbers model-options model-pass model-pointer model-questions model-touch model-wheel model-widgets edges-cases edges-needed edges-steps edges-words Ieee.add Ieee.sub Ieee.mul Ieee.div Ieee.lt Ieee.le Ieee.eq Ieee.ne Ieee.fits Ieee.neg Ieee.round Ieee.sum Ieee.ofInt Ieee.ofBits Ieee.toBits Ieee.size
+unfolding ieee_narrow-narrow ieee_sqrt-sqrt emath-history emath-vec data-limits data-modifiers data-sense feed-decode feed-encode feed-feed feed-laws feed-shape feed-split model-calls model-interact model-numbers model-options model-pass model-pointer model-questions model-touch model-wheel model-widgets edges-cases edges-needed edges-steps edges-words Ieee.add Ieee.sub Ieee.mul Ieee.div Ieee.lt Ieee.le Ieee.eq Ieee.ne Ieee.fits Ieee.neg Ieee.round Ieee.sum Ieee.ofInt Ieee.ofBits Ieee.toBits Ieee.size
 opened = Type 0

@@ -5,7 +5,7 @@ use mathlib.Core.List.{List, [], _∷_, _++_}
 use lib.Dec.{ltb}
 use lib.ListN.{length, drop}
 use lib.Ieee.{Float, binary32, binary64, sub, lt, ofBits}
-use Rattle.ieee.specs.Narrow.{narrow}
+use Rattle.ieee_narrow.specs.Narrow.{narrow}
 use Rattle.emath.specs.Types.{Pos2, MaybeVec2, no-vec, some-vec}
 use Rattle.emath.specs.Vec.{+0, pos-sub, vec-div}
 

@@ -2,7 +2,7 @@
 use mathlib.Core.Bool.{Bool, _||_, cond, false}
 use lib.IntN.{pos}
 use lib.Ieee.{Float, nan, inf, fin, binary32, add, sub, mul, div, lt, ne}
-use Rattle.ieee.specs.Sqrt.{sqrt}
+use Rattle.ieee_sqrt.specs.Sqrt.{sqrt}
 use Rattle.emath.specs.Types.{Pos2, Vec2, Rect}
 
 abbrev pub +0 : Float

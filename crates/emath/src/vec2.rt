@@ -93,7 +93,7 @@ impl Vec2 {
     pub fn length(self) -> f32
         ensures { λ r. ⌜ r ≡ length self ⌝ }
     {
-        ieee::sqrt::sqrt32(self.length_sq())
+        ieee_sqrt::sqrt32(self.length_sq())
     }
 
     pub fn normalized(self) -> Vec2

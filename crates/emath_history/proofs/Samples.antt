@@ -9,7 +9,7 @@ use lib.Dec.{ltb}
 use lib.ListN.{length, drop, getD, set, length-append, length-set}
 use lib.Seq.{getD-set-same, getD-set-other}
 use lib.Ieee.{Float, nan, binary32, binary64, sub, lt, ofBits}
-use Rattle.ieee.specs.Narrow.{narrow}
+use Rattle.ieee_narrow.specs.Narrow.{narrow}
 use borrow.Author.Tests.{lt-ltb, le-ltb, ltb-true, ltb-false}
 use Rattle.emath_history.specs.Types.{Pos2, History, no-vec, some-vec}
 use Rattle.emath.specs.Vec.{pos-sub, vec-div}

@@ -90,7 +90,7 @@ impl History {
         }
         let first = self.start % MAX_LEN;
         let last = (first + (n - 1)) % MAX_LEN;
-        ieee::narrow::narrow(times[last] - times[first])
+        ieee_narrow::narrow(times[last] - times[first])
     }
 
     pub fn velocity(self, times: &[f64; MAX_LEN], positions: &[f32; PARTS]) -> MaybeVec2

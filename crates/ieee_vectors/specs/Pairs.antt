@@ -5,8 +5,8 @@ use mathlib.Core.List.{List}
 use lib.Dec.{eqb, ltb}
 use lib.ListN.{getD}
 use lib.Ieee.{binary32, binary64, toBits, ofBits}
-use Rattle.ieee.specs.Narrow.{narrow}
-use Rattle.ieee.specs.Sqrt.{sqrt}
+use Rattle.ieee_narrow.specs.Narrow.{narrow}
+use Rattle.ieee_sqrt.specs.Sqrt.{sqrt}
 
 -- the little-endian word of 64 bits at a place
 abbrev pub word : List ℕ → ℕ → ℕ

@@ -37,12 +37,12 @@ fn computed(kind: u64, x: u64) -> u64
     ensures { λ r. ⌜ r ≡ answer kind x ⌝ }
 {
     if kind == 0 {
-        return ieee::bits::to_bits32(ieee::narrow::narrow(ieee::bits::from_bits64(x))) as u64;
+        return ieee::bits::to_bits32(ieee_narrow::narrow(ieee::bits::from_bits64(x))) as u64;
     }
     if kind == 1 {
-        return ieee::bits::to_bits32(ieee::sqrt::sqrt32(value32(x))) as u64;
+        return ieee::bits::to_bits32(ieee_sqrt::sqrt32(value32(x))) as u64;
     }
-    ieee::bits::to_bits64(ieee::sqrt::sqrt64(ieee::bits::from_bits64(x)))
+    ieee::bits::to_bits64(ieee_sqrt::sqrt64(ieee::bits::from_bits64(x)))
 }
 
 fn expected(kind: u64, y: u64) -> u64

@@ -29,7 +29,7 @@ pub fn fresh_clock() -> Clock
 pub fn clock_pass(c: Clock, i: PassInput, time: f64) -> Clock
     ensures { λ r. ⌜ ((ws : List ℕ) → clock r ≡ clock-pass (input ws i) time (clock c)) ⌝ }
 {
-    let dt = ieee::narrow::narrow(time - c.time);
+    let dt = ieee_narrow::narrow(time - c.time);
     if i.requested_repaint {
         return Clock {
             time: time,

@@ -6,7 +6,7 @@ use mathlib.Core.List.{List, [], _∷_}
 use lib.ListN.{length}
 use lib.Dec.{eqb}
 use lib.Ieee.{Float, binary32, binary64, add, sub, mul, lt}
-use Rattle.ieee.specs.Narrow.{narrow}
+use Rattle.ieee_narrow.specs.Narrow.{narrow}
 use Rattle.emath.specs.Vec.{vec-zero, pos-zero}
 use Rattle.data.specs.Modifiers.{no-modifiers, matches-any}
 use Rattle.data.specs.Limits.{max-events, time-ok, unit-interval-ok, scale-ok, rect-ok, options-ok}

@@ -6,7 +6,7 @@ use mathlib.Core.Option.{Option, none, some}
 use mathlib.Core.List.{List, [], _∷_}
 use lib.Dec.{ltb, eqb}
 use lib.Ieee.{Float, binary32, binary64, sub, div, lt}
-use Rattle.ieee.specs.Narrow.{narrow}
+use Rattle.ieee_narrow.specs.Narrow.{narrow}
 use Rattle.emath.specs.Vec.{vec-zero, vec-ne, pos-sub, vec-abs, max-elem}
 use Rattle.data.specs.Modifiers.{matches-any}
 use Rattle.data.specs.Numbers.{button-number}

@@ -43,7 +43,7 @@ pub fn press_start_time(h: Held) -> MaybeF64
 pub fn time_since_last_click(p: ClickPast, time: f64) -> f32
     ensures { λ r. ⌜ of-past ask.time-since-last-click time p (number r) ⌝ }
 {
-    ieee::narrow::narrow(time - p.last_click_time)
+    ieee_narrow::narrow(time - p.last_click_time)
 }
 
 pub fn any_pressed(h: Held, codes: &[u32; CODES]) -> bool

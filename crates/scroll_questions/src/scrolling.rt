@@ -19,5 +19,5 @@ pub fn scroll_source(w: WheelState) -> MaybeMouseWheelSource
 pub fn time_since_last_scroll(w: WheelState, time: f64) -> f32
     ensures { λ r. ⌜ of-wheel-at ask.time-since-last-scroll w time (number r) ⌝ }
 {
-    ieee::narrow::narrow(time - w.last_wheel_event)
+    ieee_narrow::narrow(time - w.last_wheel_event)
 }

@@ -7,8 +7,8 @@ use mathlib.Core.List.{List}
 use lib.Dec.{T}
 use lib.Ieee.{Float, binary32, binary64, sub, le}
 use lib.Ieee.Scale.{finite}
-use Rattle.ieee.specs.Narrow.{narrow}
-use Rattle.ieee.proofs.Order.{le-trans, le-refl}
+use Rattle.ieee_narrow.specs.Narrow.{narrow}
+use Rattle.ieee_laws.proofs.Order.{le-trans, le-refl}
 use Rattle.model.specs.Types.{InputOptions, ButtonsDown, Primary, Event}
 use Rattle.model.specs.Pointer.{Held, ClickPast, Press, any, is-click, any-down, button-down, press-too-long, could-any-button-be-click, is-decidedly-dragging, is-long-press, clear-events, press-events, press-pass}
 use Rattle.model.specs.Touch.{TouchState, touch-pass, multi-touch, any-touches, find-device, info-at, any-touches-at}

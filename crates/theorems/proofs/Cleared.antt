@@ -7,7 +7,7 @@ use mathlib.Core.List.{List, [], _∷_, _++_, map}
 use lib.Dec.{T}
 use lib.Ieee.{Float, le}
 use lib.Ieee.Scale.{finite}
-use Rattle.ieee.proofs.Order.{le-refl}
+use Rattle.ieee_laws.proofs.Order.{le-refl}
 use Rattle.model.specs.Types.{Vec2, Rect, Pos2, Modifiers, InputOptions, no-pos, some-pos, no-time, PointerButton, PointerEvent, Moved, Pressed, Released}
 use Rattle.model.specs.Types.{Event, Key, ModifiersChanged, PointerMoved, MouseMoved, Button, PointerGone, Zoom, Rotate, Touch, MouseWheel, WindowFocused, Other}
 use Rattle.model.specs.Pointer.{Place, with-place, place-event, place-events, clear-history-after, start-place, finish-place, end-place, place-pass}

@@ -8,8 +8,8 @@ use lib.Dec.{T}
 use lib.Ieee.{Float, binary64, sub, le, ofBits}
 use lib.Ieee.Fits.{and-r}
 use lib.Ieee.Scale.{finite}
-use Rattle.ieee.proofs.Order.{le-trans, le-refl}
-use Rattle.ieee.proofs.Monotone.{add-up}
+use Rattle.ieee_laws.proofs.Order.{le-trans, le-refl}
+use Rattle.ieee_laws.proofs.Monotone.{add-up}
 use Rattle.data.specs.Limits.{max-events, max-duration, length-ok, unit-interval-ok, duration-ok, options-ok}
 use Rattle.feed.specs.Decode.{Decoded, good, malformed, outside-domain, Item, items}
 use Rattle.model.specs.Types.{Rect, InputOptions, PassRefusal, NoPlace, InteractRefusal}

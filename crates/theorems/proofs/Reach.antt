@@ -8,8 +8,8 @@ use lib.Dec.{T, not-T}
 use lib.Ieee.{Float, binary32, binary64, add, lt, le, fits, ofBits}
 use lib.Ieee.Fits.{and-l, and-r}
 use lib.Ieee.Scale.{finite}
-use Rattle.ieee.proofs.Order.{le-trans, le-refl, le-not-lt, not-lt-le}
-use Rattle.ieee.proofs.Monotone.{add-up}
+use Rattle.ieee_laws.proofs.Order.{le-trans, le-refl, le-not-lt, not-lt-le}
+use Rattle.ieee_laws.proofs.Monotone.{add-up}
 use Rattle.data.specs.Limits.{max-events, zero32, one32, within32, unit-interval-ok}
 use Rattle.feed.specs.Decode.{items}
 use Rattle.model.specs.Numbers.{+0}

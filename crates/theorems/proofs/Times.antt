@@ -5,7 +5,7 @@ use lib.Dec.{T}
 use lib.Ieee.{Float, nan, inf, fin, binary64, le, fits, ofBits}
 use lib.Ieee.Fits.{and-l, and-r}
 use lib.Ieee.Scale.{finite}
-use Rattle.ieee.proofs.Order.{le-trans}
+use Rattle.ieee_laws.proofs.Order.{le-trans}
 use Rattle.data.specs.Limits.{zero64, max-time, within64, time-ok}
 use Rattle.model.specs.Numbers.{+0}
 use Rattle.theorems.specs.Reach.{NotAfter, never, by}

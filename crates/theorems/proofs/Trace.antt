@@ -5,8 +5,8 @@ use mathlib.Core.List.{List, [], _∷_, _++_}
 use lib.Dec.{T}
 use lib.Ieee.{Float, nan, inf, fin, binary64, sub, lt, le}
 use lib.Ieee.Scale.{finite}
-use Rattle.ieee.proofs.Order.{le-trans, le-not-lt}
-use Rattle.ieee.proofs.Differences.{sub-spans}
+use Rattle.ieee_laws.proofs.Order.{le-trans, le-not-lt}
+use Rattle.ieee_laws.proofs.Differences.{sub-spans}
 use Rattle.model.specs.Numbers.{neg-infinity}
 use Rattle.model.specs.Types.{Pos2, Modifiers, InputOptions, PointerButton, Event, PointerMoved, Button, no-click, some-click, PointerEvent, Moved, Pressed, Released}
 use Rattle.model.specs.Pointer.{Held, ClickPast, Press, any, is-release, is-click, any-down, could-any-button-be-click, is-decidedly-dragging, count-of, click-count, too-far}

@@ -4,9 +4,9 @@ use mathlib.Core.Bool.{Bool, true, false}
 use lib.Dec.{T}
 use lib.IntN.{pos}
 use lib.Ieee.{Float, fin, binary32, le, lt, ofBits}
-use Rattle.ieee.specs.Sqrt.{sqrt}
-use Rattle.ieee.proofs.Monotone.{sqrt-mono}
-use Rattle.ieee.proofs.Order.{le-not-lt}
+use Rattle.ieee_sqrt.specs.Sqrt.{sqrt}
+use Rattle.ieee_laws.proofs.Monotone.{sqrt-mono}
+use Rattle.ieee_laws.proofs.Order.{le-not-lt}
 use Rattle.model.specs.Numbers.{eight}
 
 abbrev pub sixty-four : Float

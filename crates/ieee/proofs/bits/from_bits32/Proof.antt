@@ -2,8 +2,7 @@
 use mathlib.Core.Path.{sym, _∙_}
 use borrow.Author.Needs.{needs}
 use lib.Ieee.{binary32}
-use Rattle.ieee.proofs.Decode.{nan-pattern, pattern-no-nan}
-use Rattle.ieee.proofs.Special.{zero-by-zero}
+use Rattle.ieee.proofs.Decode.{nan-pattern, pattern-no-nan, zero-by-zero}
 use Rattle.ieee.proofs.bits.from_bits32.Statement.{statement}
 use Rattle.ieee.proofs.bits.from_bits32.Tie as tie
 

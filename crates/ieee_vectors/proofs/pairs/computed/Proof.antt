@@ -6,8 +6,8 @@ use borrow.Author.Needs.{needs}
 use lib.Dec.{eqb, eqb→eq, not-T}
 use lib.Ieee.{binary32, binary64, toBits, ofBits}
 use lib.Ieee.Bits.{is-false}
-use Rattle.ieee.specs.Narrow.{narrow}
-use Rattle.ieee.specs.Sqrt.{sqrt}
+use Rattle.ieee_narrow.specs.Narrow.{narrow}
+use Rattle.ieee_sqrt.specs.Sqrt.{sqrt}
 use Rattle.ieee_vectors.specs.Pairs.{answer}
 use Rattle.ieee_vectors.proofs.pairs.computed.Statement.{statement}
 use Rattle.ieee_vectors.proofs.pairs.computed.Tie as tie

@@ -1,5 +1,0 @@
-pub mod Narrow
-pub mod Sqrt
-pub mod Nearest
-pub mod Recurrence
-pub mod Patterns

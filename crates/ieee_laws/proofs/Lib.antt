@@ -1,0 +1,12 @@
+-- Narrowing and the root give the nearest value of the format, and they, sums, products and differences keep the order. Other crates may cite those marked pub.
+mod Units
+mod RoundOrder
+mod RootOrder
+mod Kept
+mod Overflow
+pub mod NearestNarrow
+pub mod NearestRoot
+pub mod Order
+pub mod Exact
+pub mod Monotone
+pub mod Differences

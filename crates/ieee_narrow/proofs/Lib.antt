@@ -1,0 +1,2 @@
+-- Laws of narrowing that belong to no one function.
+mod Narrowing
