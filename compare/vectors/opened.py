@@ -35,7 +35,9 @@ def opened(crate, read, others):
 
 
 KIT = (["use lib.Ieee as Ieee"], [f"Ieee.{n}" for n in FLOATS.split()])
-opened("theorems", {**READ, "theorems": None}, KIT)
-opened("edges", {**READ, "edges": None}, KIT)
+MODEL = (["use Rattle.model.proofs.Opened as Model"], ["Model.opened"])
+opened("model", READ, KIT)
+opened("theorems", {"theorems": None}, MODEL)
+opened("edges", {"edges": None}, MODEL)
 if (ROOT / "model_calls").exists():
     opened("model_calls", {"model_calls": None}, (["use Rattle.edges.proofs.Opened as Edges"], ["Edges.opened"]))

@@ -1,0 +1,2 @@
+-- The definitions that an evaluated theorem opens.
+pub mod Opened
