@@ -3,7 +3,7 @@ use crate::sums::long;
 use crate::sums::mix;
 use hit_lists::Hit;
 use hit_lists::MaybeHit;
-use id_lists::MaybeId;
+use id_set::MaybeId;
 use interaction::interact::interact;
 use interaction_state::state::Answer;
 use interaction_state::state::Interacted;

@@ -14,8 +14,8 @@ use Rattle.theorems.specs.Balance.{one-if-is, starts, stops, last-dragged, all-
 use Rattle.theorems.specs.Clearing.{Clears, Fair, Same, When, is-passed, has-click, twice}
 use Rattle.survey.specs.Survey.{option}
 use Rattle.hit_lists.specs.declared.MaybeHit.{MaybeHit}
-use Rattle.hit_lists.specs.Hits.{input}
-use Rattle.id_lists.specs.Ids.{option-of}
+use Rattle.hit_refusals.specs.Refusals.{input}
+use Rattle.id_set.specs.Ids.{option-of}
 use Rattle.widget_index.specs.declared.table.WidgetRects.{WidgetRects}
 use Rattle.widget_rect.specs.WellFormed.{WellFormed}
 use Rattle.interaction_state.specs.declared.state.Interacted.{Interacted}

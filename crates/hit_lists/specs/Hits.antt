@@ -1,13 +1,12 @@
--- What the words of a hit list, and the enums, stand for in the model.
+-- What the words of a hit list, and a hit that may be there, stand for in the model.
 use Prim.Native.Nat.{ℕ, suc, _*_, _/_}
 use mathlib.Core.Bool.{Bool, cond, _&&_}
 use mathlib.Core.Option.{Option, none, some}
 use mathlib.Core.List.{List, [], _∷_}
 use lib.Dec.{ltb, eqb}
 use lib.ListN.{length, getD}
-use Rattle.model.specs.Types.{WidgetRect, InteractRefusal}
 use Rattle.model.specs.Interact as Model
-use Rattle.hit_lists.specs.Types.{MaybeHit, no-hit, some-hit, MaybeInteractRefusal, no-refusal, some-refusal}
+use Rattle.hit_lists.specs.Types.{MaybeHit, no-hit, some-hit}
 
 abbrev pub hit-of : ℕ → ℕ → Model.Hit
 hit-of id sense = record { id = id; sense = sense }
@@ -30,27 +29,3 @@ seek-from id n (h ∷ hs) = cond (eqb id (h .id)) n (seek-from id (suc n) hs)
 unfoldable pub view : MaybeHit → Option Model.Hit
 view no-hit = none
 view (some-hit h) = some (hit-of (h .id) (h .sense))
-
-unfoldable pub refusal-of : MaybeInteractRefusal → Option InteractRefusal
-refusal-of no-refusal = none
-refusal-of (some-refusal r) = some r
-
--- what the calls of this crate are given, as the model's: a table of widgets by a lookup, close and contains_pointer as words, and the buffers' lengths
-unfoldable pub input : (ℕ → Option WidgetRect) → List ℕ → List ℕ → MaybeHit → MaybeHit → ℕ → ℕ → Model.InteractInput
-input widgets close within click drag hovered contains =
-    record {
-      widgets = widgets;
-      close = hits-of close;
-      contains-pointer = hits-of within;
-      click = view click;
-      drag = view drag;
-      hovered-places = hovered;
-      contains-places = contains;
-    }
-
--- no refusal depends on the widgets
-abbrev pub unknown : ℕ → Option WidgetRect
-unknown id = none
-
-abbrev pub buffers-refusal : ℕ → ℕ → Option InteractRefusal
-buffers-refusal hovered contains = Model.buffers-refusal (input unknown [] [] no-hit no-hit hovered contains)

@@ -2,5 +2,3 @@
 pub use Rattle.hit_lists.specs.declared.Hit.{Hit}
 pub use Rattle.hit_lists.specs.declared.MaybeHit.{MaybeHit}
 pub use Rattle.hit_lists.specs.declared.MaybeHit.the-variants.{None as no-hit, Some as some-hit}
-pub use Rattle.hit_lists.specs.declared.MaybeInteractRefusal.{MaybeInteractRefusal}
-pub use Rattle.hit_lists.specs.declared.MaybeInteractRefusal.the-variants.{None as no-refusal, Some as some-refusal}

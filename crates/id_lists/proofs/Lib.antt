@@ -1,4 +1,1 @@
-pub mod Insert
-pub mod Shift
-pub mod Written
 pub mod Walks

@@ -1,17 +1,38 @@
 -- Putting the ids of a hit list into a buffer, an entry at a time. Assumes nothing.
 use Prim.Native.Nat.{ℕ, suc, _+_, _*_, _/_, _<_, _≤_}
 use mathlib.Core.Path.{_≡_, refl, sym, ap, _∙_}
-use mathlib.Core.Bool.{Bool}
+use mathlib.Core.Bool.{Bool, true, false, not, _&&_, _||_}
 use mathlib.Core.Option.{Option}
 use mathlib.Core.List.{List, [], _∷_}
 use native.Mathlib.Omega.{arith}
+use lib.Dec.{leb}
 use lib.ListN.{length, getD, take}
-use Rattle.model.specs.Interact.{Hit, insert-id, insert-some, insert-hits, insert-on-top}
+use Rattle.data.specs.Sense.{senses-click, senses-drag}
+use Rattle.model.specs.Interact.{Hit, insert-id, insert-some, insert-hits, insert-on-top, order}
 use Rattle.hit_lists.specs.Hits.{hits-of, hit-of}
 use Rattle.hit_lists.proofs.Walk.{rest, at, next, done}
-use Rattle.id_lists.specs.Ids.{Written, on-top, insert-if}
-use Rattle.id_lists.proofs.Insert.{one-more, some-more, if-more}
-use Rattle.id_lists.proofs.Written.{list, again, then-by}
+use Rattle.id_set.specs.Ids.{Written}
+use Rattle.id_set.proofs.Insert.{one-more, some-more}
+use Rattle.id_set.proofs.Written.{list, again, then-by}
+use Rattle.id_lists.specs.Ids.{on-top, insert-if}
+
+-- ---- lengths: an id more at the most
+
+pub if-more : (keep : Bool) (d : ℕ) (s : List ℕ) → (length s ≤ length (insert-if keep d s)) × (length (insert-if keep d s) ≤ suc (length s))
+if-more true d s = one-more d s
+if-more false d s = (omega arith, omega arith)
+
+pub hits-more : (hs : List Hit) (s : List ℕ) → length s ≤ length (insert-hits hs s)
+unfolding insert-hits
+hits-more [] s = omega arith
+hits-more (h ∷ hs) s = omega (arith, hits-more hs (insert-id (h .id) s), one-more (h .id) s .0)
+
+pub top-more : (top : ℕ) (close hs : List Hit) (s : List ℕ) → length s ≤ length (insert-on-top top close hs s)
+unfolding insert-on-top
+top-more top close [] s = omega arith
+top-more top close (h ∷ hs) s =
+    let keep = not (senses-click (h .sense) || senses-drag (h .sense)) && leb top (order (h .id) close) in
+    omega (arith, top-more top close hs (insert-if keep (h .id) s), if-more keep (h .id) s .0)
 
 -- a step that puts an id more at the most
 pub record Grows (f : List ℕ → List ℕ) : Type 0 where

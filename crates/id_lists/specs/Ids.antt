@@ -1,34 +1,15 @@
--- What is written to an id buffer. Lists of ids are the model's.
-use Prim.Native.Nat.{ℕ, _<_, _≤_, max}
-use mathlib.Core.Path.{_≡_}
+-- The id sets of an interact. Lists of ids are the model's.
+use Prim.Native.Nat.{ℕ, max}
 use mathlib.Core.Bool.{Bool, not, _&&_, _||_, cond}
-use mathlib.Core.Option.{Option, none, some}
-use mathlib.Core.List.{List, [], _++_}
-use lib.Dec.{leb, ltb, eqb}
-use lib.ListN.{length, getD, drop}
+use mathlib.Core.List.{List, []}
+use lib.Dec.{leb}
 use Rattle.data.specs.Sense.{senses-click, senses-drag}
 use Rattle.model.specs.Interact.{Hit, hit-id, insert-id, insert-some, insert-on-top, order, order-of, contains-pointer-of, hovered-of}
 use Rattle.hit_lists.specs.declared.MaybeHit.{MaybeHit}
-use Rattle.hit_lists.specs.Hits.{hits-of, view, input, unknown}
-use Rattle.id_lists.specs.Types.{MaybeId, no-id, some-id}
-
-unfoldable pub option-of : MaybeId → Option ℕ
-option-of no-id = none
-option-of (some-id d) = some d
-
--- 01: "Id buffer places beyond the list written keep their contents": a buffer, the list's length, and the buffer after it
-pub record Written (ids before : List ℕ) (count : ℕ) (after : List ℕ) : Type 0 where
-  pub counted : count ≡ length ids
-  pub contents : after ≡ ids ++ drop count before
-
--- the first place whose id is not below d
-pub record Place (d : ℕ) (ids : List ℕ) (at : ℕ) : Type 0 where
-  pub within : at ≤ length ids
-  pub below : (k : ℕ) → k < at → getD ids k 0 < d
-  pub not-below : at < length ids → d ≤ getD ids at 0
-
-unfoldable pub stands-at : ℕ → List ℕ → ℕ → Bool
-stands-at d ids at = ltb at (length ids) && eqb (getD ids at 0) d
+use Rattle.hit_lists.specs.Hits.{hits-of, view}
+use Rattle.hit_refusals.specs.Refusals.{input, unknown}
+use Rattle.id_set.specs.declared.MaybeId.{MaybeId}
+use Rattle.id_set.specs.Ids.{option-of}
 
 -- the test that `insert-on-top` makes of an entry
 unfoldable pub on-top : ℕ → List Hit → Hit → Bool

@@ -21,7 +21,8 @@ use Rattle.place_loop.proofs.Loops.{place-pass-own}
 use Rattle.press_loop.proofs.Loops.{press-pass-own}
 use Rattle.wheel_loop.proofs.Loops.{wheel-pass-own}
 use Rattle.key_state.specs.View.{begun}
-use Rattle.key_state.proofs.Idle.{zoom-own, rotation-own, key-own}
+use Rattle.key_state.proofs.Idle.{key-own}
+use Rattle.zoom_and_rotation.proofs.Idle.{zoom-own, rotation-own}
 use Rattle.touch_ends.proofs.Marks.{ended-own}
 use Rattle.input_state.specs.declared.input.PassInput.{PassInput}
 use Rattle.input_state.specs.View.{begin-by}

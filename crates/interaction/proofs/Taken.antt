@@ -15,14 +15,17 @@ use Rattle.model.specs.Pass.{Panel, or-else}
 use Rattle.model.specs.Interact as Model
 use Rattle.model.specs.Interact.{InteractInput, is-some, one-if, if-changed, walked, interaction-after, snapshot, tallied, interact-by, refused, answered, with-interaction}
 use Rattle.model.specs.Interact.{seen, input-refusal, buffers-refusal, hits-refusal, hit-refusal, hovered-of, contains-pointer-of}
-use Rattle.hit_lists.specs.Hits.{hits-of, input, unknown, view}
-use Rattle.hit_lists.proofs.Walk.{not-too-many}
-use Rattle.id_lists.specs.Ids.{option-of, Written, hovered-ids, contains-ids}
-use Rattle.id_lists.proofs.Written.{list, beyond}
+use Rattle.hit_lists.specs.Hits.{hits-of, view}
+use Rattle.hit_refusals.specs.Refusals.{input, unknown}
+use Rattle.hit_refusals.proofs.Entries.{not-too-many}
+use Rattle.id_set.specs.Ids.{option-of, Written}
+use Rattle.id_lists.specs.Ids.{hovered-ids, contains-ids}
+use Rattle.id_set.proofs.Written.{list, beyond}
 use lib.Ieee.{Float}
-use Rattle.interaction_state.specs.Lookup.{lookup, Looks}
+use Rattle.interaction_state.specs.Lookup.{lookup}
 use Rattle.interaction.specs.Types.{WidgetRects, MaybeHit, MaybeId, Interaction, Seen, Going, Outcome, Answer}
-use Rattle.interaction_state.specs.View.{interaction-of, going-of, seen-of, snapshot-of, kept-after}
+use Rattle.interaction_state.specs.View.{interaction-of, snapshot-of, kept-after}
+use Rattle.interaction_events.specs.View.{going-of, seen-of, Looks}
 use Rattle.interaction.specs.Post.{Answers, Answered}
 
 -- ---- the answer before anything is written

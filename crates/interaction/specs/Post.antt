@@ -6,7 +6,8 @@ use lib.ListN.{drop}
 use Rattle.model.specs.Types.{InteractRefusal}
 use Rattle.model.specs.Pass as Pass
 use Rattle.model.specs.Interact as Model
-use Rattle.id_lists.specs.Ids.{option-of, Written, hovered-ids, contains-ids}
+use Rattle.id_set.specs.Ids.{option-of, Written}
+use Rattle.id_lists.specs.Ids.{hovered-ids, contains-ids}
 use Rattle.interaction.specs.Types.{MaybeHit, Interaction, Seen, Outcome, Answer, Interacted, Refused, Taken}
 use Rattle.interaction_state.specs.View.{interaction-of, snapshot-of}
 

@@ -1,3 +1,2 @@
 pub mod Looked
-pub mod Walk
 pub mod Dragged

@@ -9,14 +9,10 @@ use lib.Dec.{eqb}
 use lib.Ieee.{Float}
 use borrow.Author.Tests.{eqb-true}
 use Rattle.model.specs.Types.{WidgetRect}
-use Rattle.model.specs.Pass.{Interaction, no-interaction}
-use Rattle.model.specs.Interact.{Going, is-some, get, widget-id, kept-if, long-touch-on}
+use Rattle.model.specs.Interact.{widget-id}
 use Rattle.widget_index.specs.Layout.{id-at, link-at}
 use Rattle.widget_index.specs.Table.{chain, head, find, widget-at}
-use Rattle.id_lists.specs.Ids.{option-of}
-use Rattle.interaction_state.specs.Types as declared
 use Rattle.interaction_state.specs.Types.{WidgetRects, Found}
-use Rattle.interaction_state.specs.View.{interaction-of}
 use Rattle.interaction_state.specs.Lookup.{at-entry, lookup, found-of}
 
 -- along the links, only the id itself is found
@@ -67,36 +63,7 @@ module _ (d : ℕ) where
   known-is none o h = let z : _≡_ {A = ℕ} 0 1 = cc in absurd (omega arith)
   known-is (some w) o h = ap some (o w refl)
 
-  kept-is : (m : Option WidgetRect) → Of d m → kept-if (is-some m) (some d) ≡ widget-id m
-  unfolding kept-if is-some widget-id
-  kept-is none o = refl
-  kept-is (some w) o = ap some (sym (o w refl))
-
 pub unknown-is : (m : Option WidgetRect) → found-of m .known ≡ false → widget-id m ≡ none
 unfolding found-of widget-id
 unknown-is none h = refl
 unknown-is (some w) h = let z : _≡_ {A = ℕ} 0 1 = cc in absurd (omega arith)
-
-pub known-kept : (set : WidgetRects) (words numbers : List ℕ) (edges : List Float) (o : Option ℕ)
-    → kept-if (is-some (get o (lookup set words numbers edges))) o ≡ widget-id (get o (lookup set words numbers edges))
-unfolding get kept-if is-some widget-id
-known-kept set words numbers edges none = refl
-known-kept set words numbers edges (some d) = kept-is d (lookup set words numbers edges d) (looked-up set words numbers edges d)
-
--- a long touch on it
-pub touches : (s : Interaction) (m : Option WidgetRect) → is-some (widget-id m) ≡ true
-    → long-touch-on s m ≡ record { interaction = no-interaction; clicked = widget-id m; long-touched = widget-id m }
-unfolding long-touch-on is-some widget-id
-touches s none h = let z : _≡_ {A = ℕ} 0 1 = cc in absurd (omega arith)
-touches s (some w) h = refl
-
-pub touches-none : (s : Interaction) (m : Option WidgetRect) → is-some (widget-id m) ≡ false
-    → long-touch-on s m ≡ record { interaction = s; clicked = none; long-touched = none }
-unfolding long-touch-on is-some widget-id
-touches-none s none h = refl
-touches-none s (some w) h = let z : _≡_ {A = ℕ} 0 1 = cc in absurd (omega arith)
-
--- the id that might be clicked, of the viewed state
-pub click-id-of : (s : declared.Interaction) → interaction-of s .potential-click-id ≡ option-of (s .«potential_click_id»)
-unfolding interaction-of
-click-id-of s = refl

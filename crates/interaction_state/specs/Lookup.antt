@@ -1,15 +1,12 @@
 -- The widget set as the model's lookup, by its index. In a well-formed set it is the model's `get`.
 use Prim.Native.Nat.{ℕ, zero, suc}
-use mathlib.Core.Path.{_≡_}
 use mathlib.Core.Bool.{true, false}
 use mathlib.Core.Option.{Option, none, some}
 use mathlib.Core.List.{List}
 use lib.Ieee.{Float}
 use Rattle.model.specs.Types.{WidgetRect}
-use Rattle.model.specs.Interact.{InteractInput}
-use Rattle.hit_lists.specs.Hits.{view}
 use Rattle.widget_index.specs.Table.{find, widget-at}
-use Rattle.interaction_state.specs.Types.{WidgetRects, MaybeHit, Found}
+use Rattle.interaction_state.specs.Types.{WidgetRects, Found}
 
 -- the record of an entry; 0 is none
 unfoldable pub at-entry : List ℕ → List ℕ → List Float → ℕ → Option WidgetRect
@@ -23,10 +20,3 @@ lookup set words numbers edges d = at-entry words numbers edges (find set words 
 unfoldable pub found-of : Option WidgetRect → Found
 found-of none = record { known = false; enabled = false; sense = 0 }
 found-of (some w) = record { known = true; enabled = w .enabled; sense = w .sense }
-
--- An input of the model whose widgets are those of the set, whatever its rectangles, and whose hits are these.
-pub record Looks (x : InteractInput) (set : WidgetRects) (words numbers : List ℕ) (click drag : MaybeHit) : Type 0 where
-  pub edges : List Float
-  pub widgets : x .widgets ≡ lookup set words numbers edges
-  pub click-hit : x .click ≡ view click
-  pub drag-hit : x .drag ≡ view drag

@@ -3,11 +3,10 @@ use Prim.Native.Nat.{ℕ}
 use mathlib.Core.Bool.{_&&_}
 use mathlib.Core.List.{List}
 use lib.ListN.{take}
-use Rattle.model.specs.Types.{PointerEvent}
 use Rattle.model.specs.Pass as Pass
 use Rattle.model.specs.Interact as Model
-use Rattle.id_lists.specs.Ids.{option-of}
-use Rattle.interaction_state.specs.Types.{Interaction, Seen, Going, InteractionSnapshot}
+use Rattle.id_set.specs.Ids.{option-of}
+use Rattle.interaction_state.specs.Types.{Interaction, Seen, InteractionSnapshot}
 
 unfoldable pub interaction-of : Interaction → Pass.Interaction
 interaction-of s =
@@ -15,21 +14,6 @@ interaction-of s =
       potential-click-id = option-of (s .«potential_click_id»);
       potential-drag-id = option-of (s .«potential_drag_id»);
       dragged = option-of (s .dragged);
-    }
-
-unfoldable pub going-of : Going → Model.Going
-going-of g = record { interaction = interaction-of (g .interaction); clicked = option-of (g .clicked); long-touched = option-of (g .«long_touched») }
-
-unfoldable pub seen-of : Seen → List PointerEvent → Model.Seen
-seen-of v events =
-    record {
-      escape-pressed = v .«escape_pressed»;
-      is-long-touch = v .«is_long_touch»;
-      pointer-events = events;
-      is-decidedly-dragging = v .«is_decidedly_dragging»;
-      could-any-button-be-click = v .«could_any_button_be_click»;
-      any-down = v .«any_down»;
-      has-pointer = v .«has_pointer»;
     }
 
 -- with the two buffers that the id sets were written to

@@ -1,5 +1,4 @@
-// InteractionState of egui's interaction.rs: what a pass's pointer events and hits make of it.
+// InteractionState of egui's interaction.rs: its values, what is asked of the widget set, and whom an interact leaves dragged.
 pub mod drag;
-pub mod events;
 pub mod lookup;
 pub mod state;

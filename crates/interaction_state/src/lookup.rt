@@ -1,5 +1,5 @@
 // What an interact asks of the widget set: is an id's widget known, is it enabled, what does it sense.
-use id_lists::MaybeId;
+use id_set::MaybeId;
 use widget_index::index::find;
 use widget_index::table::Numbers;
 use widget_index::table::TRAITS;
@@ -8,7 +8,7 @@ use widget_index::table::Words;
 ghost use mathlib.Core.Path.{_≡_};
 ghost use mathlib.Core.List.{List};
 ghost use lib.Ieee.{Float};
-ghost use Rattle.id_lists.specs.Ids.{option-of};
+ghost use Rattle.id_set.specs.Ids.{option-of};
 ghost use Rattle.model.specs.Interact.{get, widget-id};
 ghost use Rattle.interaction_state.specs.Lookup.{lookup, found-of};
 

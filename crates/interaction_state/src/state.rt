@@ -1,8 +1,8 @@
 // What an interact is given and what it leaves, as small values.
 use data::refusal::InteractRefusal;
-use id_lists::MaybeId;
+use id_set::MaybeId;
 ghost use mathlib.Core.Path.{_≡_};
-ghost use Rattle.id_lists.specs.Ids.{option-of};
+ghost use Rattle.id_set.specs.Ids.{option-of};
 ghost use Rattle.model.specs.Pass.{or-else};
 ghost use Rattle.model.specs.Interact.{kept-if, same-id, if-changed};
 

@@ -8,7 +8,7 @@ use Rattle.model.specs.Touch.{any-touches}
 use Rattle.model.specs.Interact.{seen, long-press, could-click, has-pos}
 use Rattle.model.specs.Questions.{bool}
 use Rattle.interaction_state.specs.declared.state.Seen.{Seen}
-use Rattle.interaction_state.specs.View.{seen-of}
+use Rattle.interaction_events.specs.View.{seen-of}
 
 pub same-bool : {a b : Bool} → bool a ≡ bool b → a ≡ b
 same-bool h = cc

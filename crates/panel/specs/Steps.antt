@@ -16,14 +16,15 @@ use Rattle.touch_state.specs.View.{view}
 use Rattle.key_state.specs.declared.keys.Keys.{Keys}
 use Rattle.key_state.specs.View.{keys}
 use Rattle.hit_lists.specs.declared.MaybeHit.{MaybeHit}
-use Rattle.hit_lists.specs.Hits.{input}
+use Rattle.hit_refusals.specs.Refusals.{input}
 use Rattle.widget_index.specs.declared.table.WidgetRects.{WidgetRects}
 use Rattle.widget_index.specs.Table as Table
 use Rattle.widget_rect.specs.WellFormed.{WellFormed}
 use Rattle.interaction_state.specs.declared.state.Interaction.{Interaction}
 use Rattle.interaction_state.specs.declared.state.Interacted.{Interacted}
 use Rattle.interaction_state.specs.declared.state.Seen.{Seen}
-use Rattle.interaction_state.specs.View.{interaction-of, seen-of}
+use Rattle.interaction_state.specs.View.{interaction-of}
+use Rattle.interaction_events.specs.View.{seen-of}
 use Rattle.interaction_state.specs.Lookup.{lookup}
 use Rattle.interaction.specs.Post as Post
 use Rattle.input_state.specs.declared.clock.Clock.{Clock}

@@ -1,8 +1,8 @@
 // What the interacts have left.
 use crate::state::Panel;
-use id_lists::MaybeId;
+use id_set::MaybeId;
 use interaction_state::state::Interaction;
-ghost use Rattle.id_lists.specs.Ids.{option-of};
+ghost use Rattle.id_set.specs.Ids.{option-of};
 ghost use Rattle.model.specs.Questions.{settled, count, widget};
 ghost use Rattle.model.specs.Questions as ask;
 ghost use Rattle.panel.specs.Answers.{of-interaction, of-tally};

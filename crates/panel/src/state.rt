@@ -1,5 +1,5 @@
 // The panel between two calls.
-use id_lists::MaybeId;
+use id_set::MaybeId;
 use input_state::state::InputState;
 use interaction_state::state::Interaction;
 use touch_state::devices::Devices;

@@ -6,7 +6,7 @@ use data::pointer::ButtonsDown;
 use emath_history::history::History;
 use emath_history::history::MAX_LEN;
 use emath_history::history::PARTS;
-use id_lists::MaybeId;
+use id_set::MaybeId;
 use interaction_state::state::Interaction;
 use pointer_clicks::ClickPast;
 use pointer_clicks::Held;

@@ -1,10 +1,9 @@
 -- `id_lists::contains_pointer` meets its contract. Assumes nothing.
 use native.Mathlib.Omega.{arith}
 use Rattle.model.specs.Interact.{insert-hits, contains-pointer-of}
-use Rattle.hit_lists.specs.Hits.{input}
-use Rattle.id_lists.proofs.Insert.{hits-more}
-use Rattle.id_lists.proofs.Written.{then-by}
-use Rattle.id_lists.proofs.Walks.{after-two}
+use Rattle.hit_refusals.specs.Refusals.{input}
+use Rattle.id_set.proofs.Written.{then-by}
+use Rattle.id_lists.proofs.Walks.{hits-more, after-two}
 use borrow.Author.Needs.{needs}
 use Rattle.id_lists.proofs.contains_pointer.Statement.{statement}
 use Rattle.id_lists.proofs.contains_pointer.Tie as tie

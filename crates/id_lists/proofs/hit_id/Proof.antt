@@ -1,7 +1,7 @@
 -- `id_lists::hit_id` meets its contract. Assumes nothing.
 use Rattle.model.specs.Interact.{hit-id}
 use Rattle.hit_lists.specs.Hits.{view}
-use Rattle.id_lists.specs.Ids.{option-of}
+use Rattle.id_set.specs.Ids.{option-of}
 use borrow.Author.Needs.{needs}
 use Rattle.id_lists.proofs.hit_id.Statement.{statement}
 use Rattle.id_lists.proofs.hit_id.Tie as tie

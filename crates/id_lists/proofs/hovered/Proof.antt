@@ -1,7 +1,7 @@
 -- `id_lists::hovered` meets its contract. Assumes nothing.
 use native.Mathlib.Omega.{arith}
 use Rattle.model.specs.Interact.{hovered-of}
-use Rattle.hit_lists.specs.Hits.{input}
+use Rattle.hit_refusals.specs.Refusals.{input}
 use borrow.Author.Needs.{needs}
 use Rattle.id_lists.proofs.hovered.Statement.{statement}
 use Rattle.id_lists.proofs.hovered.Tie as tie

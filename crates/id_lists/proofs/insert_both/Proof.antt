@@ -3,9 +3,9 @@ use mathlib.Core.Path.{sym, _∙_, ap}
 use mathlib.Core.List.{[]}
 use native.Mathlib.Omega.{arith}
 use Rattle.model.specs.Interact.{insert-some}
-use Rattle.id_lists.specs.Ids.{option-of}
-use Rattle.id_lists.proofs.Insert.{some-more}
-use Rattle.id_lists.proofs.Written.{then-by}
+use Rattle.id_set.specs.Ids.{option-of}
+use Rattle.id_set.proofs.Insert.{some-more}
+use Rattle.id_set.proofs.Written.{then-by}
 use Rattle.id_lists.proofs.Walks.{after-some}
 use borrow.Author.Needs.{needs}
 use Rattle.id_lists.proofs.insert_both.Statement.{statement}
@@ -13,7 +13,7 @@ use Rattle.id_lists.proofs.insert_both.Tie as tie
 use Rattle.id_lists.proofs.insert_both.Reads as reads
 use Rattle.id_lists.proofs.insert_both.Lts as lts
 use Rattle.id_lists.proofs.hit_id.Reads as hit-id-reads
-use Rattle.id_lists.proofs.insert_some.Reads as insert-some-reads
+use Rattle.id_set.proofs.insert_some.Reads as insert-some-reads
 
 hit-id-requires : tie.Need-hit-id-requires
 hit-id-requires c κs = search needs

@@ -3,16 +3,16 @@ use mathlib.Core.Path.{sym, _∙_, ap}
 use mathlib.Core.List.{[]}
 use native.Mathlib.Omega.{arith}
 use Rattle.model.specs.Interact.{insert-some}
-use Rattle.id_lists.specs.Ids.{option-of}
-use Rattle.id_lists.proofs.Insert.{some-more}
-use Rattle.id_lists.proofs.Written.{then-by}
+use Rattle.id_set.specs.Ids.{option-of}
+use Rattle.id_set.proofs.Insert.{some-more}
+use Rattle.id_set.proofs.Written.{then-by}
 use Rattle.id_lists.proofs.Walks.{after-some, after-two}
 use borrow.Author.Needs.{needs}
 use Rattle.id_lists.proofs.insert_busy.Statement.{statement}
 use Rattle.id_lists.proofs.insert_busy.Tie as tie
 use Rattle.id_lists.proofs.insert_busy.Reads as reads
 use Rattle.id_lists.proofs.insert_busy.Lts as lts
-use Rattle.id_lists.proofs.insert_some.Reads as insert-some-reads
+use Rattle.id_set.proofs.insert_some.Reads as insert-some-reads
 
 insert-some-requires : tie.Need-insert-some-requires
 insert-some-requires c κs = search needs

@@ -6,15 +6,15 @@ use lib.ListN.{length, take}
 use Rattle.model.specs.Interact.{insert-id, insert-hits}
 use Rattle.hit_lists.specs.Hits.{hits-of}
 use Rattle.hit_lists.proofs.Walk.{rest, entries}
-use Rattle.id_lists.specs.Ids.{Written}
-use Rattle.id_lists.proofs.Written.{kept}
+use Rattle.id_set.specs.Ids.{Written}
+use Rattle.id_set.proofs.Written.{kept}
 use Rattle.id_lists.proofs.Walks.{id-grows, stepped, step-list, step-bound, hits-next, hits-done}
 use borrow.Author.Needs.{needs}
 use Rattle.id_lists.proofs.insert_hits.Statement.{statement}
 use Rattle.id_lists.proofs.insert_hits.Tie as tie
 use Rattle.id_lists.proofs.insert_hits.Reads as reads
 use Rattle.id_lists.proofs.insert_hits.Lts as lts
-use Rattle.id_lists.proofs.insert_id.Reads as insert-id-reads
+use Rattle.id_set.proofs.insert_id.Reads as insert-id-reads
 
 abbrev Inv-loop : tie.InvT-loop
 Inv-loop words ids₀ count n r₀ i₀ ids r i = (n ≡ length words / 2) × (i ≤ n) × (count + n ≤ length ids₀) × (r ≤ count + i) × (length ids ≡ length ids₀) × Written (take r ids) ids₀ r ids × (insert-hits (rest words i) (take r ids) ≡ insert-hits (hits-of words) (take count ids₀))

@@ -1,9 +1,8 @@
 -- `id_lists::insert_hovered` meets its contract. Assumes nothing.
 use native.Mathlib.Omega.{arith}
 use Rattle.model.specs.Interact.{insert-on-top}
-use Rattle.id_lists.proofs.Insert.{top-more}
-use Rattle.id_lists.proofs.Written.{then-by}
-use Rattle.id_lists.proofs.Walks.{after-two}
+use Rattle.id_set.proofs.Written.{then-by}
+use Rattle.id_lists.proofs.Walks.{top-more, after-two}
 use borrow.Author.Needs.{needs}
 use Rattle.id_lists.proofs.insert_hovered.Statement.{statement}
 use Rattle.id_lists.proofs.insert_hovered.Tie as tie

@@ -1,12 +1,12 @@
 -- `id_lists::insert_if` meets its contract. Assumes nothing.
 use native.Mathlib.Omega.{arith}
-use Rattle.id_lists.proofs.Written.{kept}
+use Rattle.id_set.proofs.Written.{kept}
 use borrow.Author.Needs.{needs}
 use Rattle.id_lists.proofs.insert_if.Statement.{statement}
 use Rattle.id_lists.proofs.insert_if.Tie as tie
 use Rattle.id_lists.proofs.insert_if.Reads as reads
 use Rattle.id_lists.proofs.insert_if.Lts as lts
-use Rattle.id_lists.proofs.insert_id.Reads as insert-id-reads
+use Rattle.id_set.proofs.insert_id.Reads as insert-id-reads
 
 insert-id-requires : tie.Need-insert-id-requires
 insert-id-requires c κs = search needs

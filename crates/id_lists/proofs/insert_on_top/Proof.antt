@@ -6,8 +6,9 @@ use lib.ListN.{length, getD, take}
 use Rattle.model.specs.Interact.{insert-on-top}
 use Rattle.hit_lists.specs.Hits.{hits-of}
 use Rattle.hit_lists.proofs.Walk.{rest, entries}
-use Rattle.id_lists.specs.Ids.{Written, on-top, insert-if}
-use Rattle.id_lists.proofs.Written.{kept}
+use Rattle.id_set.specs.Ids.{Written}
+use Rattle.id_lists.specs.Ids.{on-top, insert-if}
+use Rattle.id_set.proofs.Written.{kept}
 use Rattle.id_lists.proofs.Walks.{if-grows, stepped, step-list, step-bound, top-next, top-done}
 use borrow.Author.Needs.{needs}
 use Rattle.id_lists.proofs.insert_on_top.Statement.{statement}

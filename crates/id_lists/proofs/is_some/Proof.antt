@@ -1,6 +1,6 @@
 -- `id_lists::is_some` meets its contract. Assumes nothing.
 use Rattle.model.specs.Interact.{is-some}
-use Rattle.id_lists.specs.Ids.{option-of}
+use Rattle.id_set.specs.Ids.{option-of}
 use borrow.Author.Needs.{needs}
 use Rattle.id_lists.proofs.is_some.Statement.{statement}
 use Rattle.id_lists.proofs.is_some.Tie as tie

@@ -1,11 +1,11 @@
 -- `crate::interact::interact` meets its contract. Assumes nothing.
 use mathlib.Core.Path.{refl, sym, _∙_, ap}
-use Rattle.hit_lists.specs.Hits.{refusal-of}
+use Rattle.hit_refusals.specs.Refusals.{refusal-of}
 use Rattle.interaction.proofs.Taken.{refused-by, accepted, sized}
 use borrow.Author.Needs.{needs}
 use Rattle.interaction.proofs.interact.interact.Statement.{statement}
 use Rattle.interaction.proofs.interact.interact.Tie as tie
-use Rattle.hit_lists.proofs.input_refusal.Reads as input-refusal-reads
+use Rattle.hit_refusals.proofs.input_refusal.Reads as input-refusal-reads
 use Rattle.interaction.proofs.interact.unless_full.Reads as unless-full-reads
 
 input-refusal-requires : tie.Need-input-refusal-requires

@@ -5,7 +5,7 @@ use borrow.Author.Needs.{needs}
 use Rattle.interaction.proofs.interact.outcome.Statement.{statement}
 use Rattle.interaction.proofs.interact.outcome.Tie as tie
 use Rattle.interaction_state.proofs.drag.interaction_after.Reads as interaction-after-reads
-use Rattle.interaction_state.proofs.events.walked.Reads as walked-reads
+use Rattle.interaction_events.proofs.walked.Reads as walked-reads
 use Rattle.interaction_state.proofs.state.if_changed.Reads as if-changed-reads
 
 walked-requires : tie.Need-walked-requires

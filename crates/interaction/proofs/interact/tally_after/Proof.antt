@@ -5,7 +5,7 @@ use lib.Dec.{leb}
 use native.Mathlib.Omega.{arith}
 use borrow.Author.Tests.{leb-false}
 use Rattle.model.specs.Interact.{is-some, one-if}
-use Rattle.id_lists.specs.Ids.{option-of}
+use Rattle.id_set.specs.Ids.{option-of}
 use borrow.Author.Needs.{needs}
 use Rattle.interaction.proofs.interact.tally_after.Statement.{statement}
 use Rattle.interaction.proofs.interact.tally_after.Tie as tie

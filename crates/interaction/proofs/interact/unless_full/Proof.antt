@@ -1,6 +1,6 @@
 -- `crate::interact::unless_full` meets its contract. Assumes nothing.
 use mathlib.Core.Path.{refl, sym, _∙_}
-use Rattle.id_lists.proofs.Written.{beyond}
+use Rattle.id_set.proofs.Written.{beyond}
 use Rattle.interaction.proofs.Taken.{refuses, taken, looks, within-is}
 use borrow.Author.Needs.{needs}
 use Rattle.interaction.proofs.interact.unless_full.Statement.{statement}

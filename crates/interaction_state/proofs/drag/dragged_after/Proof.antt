@@ -5,7 +5,7 @@ use mathlib.Core.Path.{sym, _∙_, ap}
 use mathlib.Core.Option.{Option}
 use Rattle.model.specs.Types.{WidgetRect}
 use Rattle.model.specs.Interact.{get, new-drag, dragged-after}
-use Rattle.id_lists.specs.Ids.{option-of}
+use Rattle.id_set.specs.Ids.{option-of}
 use Rattle.interaction_state.specs.View.{interaction-of}
 use borrow.Author.Needs.{needs}
 use Rattle.interaction_state.proofs.drag.dragged_after.Statement.{statement}

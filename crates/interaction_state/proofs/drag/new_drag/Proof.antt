@@ -2,7 +2,7 @@
 use mathlib.Core.Path.{sym, _∙_, ap}
 use borrow.Author.Tests.{not-true, not-false}
 use Rattle.model.specs.Interact.{get, new-drag}
-use Rattle.id_lists.specs.Ids.{option-of}
+use Rattle.id_set.specs.Ids.{option-of}
 use Rattle.interaction_state.specs.Types.{Found}
 use Rattle.interaction_state.proofs.Looked.{looked-up}
 use Rattle.interaction_state.proofs.Dragged.{unknown-drag, known-drag}

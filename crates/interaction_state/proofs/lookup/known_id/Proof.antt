@@ -1,7 +1,7 @@
 -- `crate::lookup::known_id` meets its contract. Assumes nothing.
 use Rattle.model.specs.Interact.{get, widget-id}
 use mathlib.Core.Path.{sym, _∙_, ap}
-use Rattle.id_lists.specs.Ids.{option-of}
+use Rattle.id_set.specs.Ids.{option-of}
 use Rattle.interaction_state.specs.Types.{Found}
 use Rattle.interaction_state.specs.Lookup.{found-of}
 use Rattle.interaction_state.proofs.Looked.{looked-up, known-is, unknown-is}

@@ -1,6 +1,6 @@
 -- `crate::state::if_changed` meets its contract. Assumes nothing.
 use Rattle.model.specs.Interact.{if-changed}
-use Rattle.id_lists.specs.Ids.{option-of}
+use Rattle.id_set.specs.Ids.{option-of}
 use borrow.Author.Needs.{needs}
 use Rattle.interaction_state.proofs.state.if_changed.Statement.{statement}
 use Rattle.interaction_state.proofs.state.if_changed.Tie as tie

@@ -1,6 +1,6 @@
 -- `crate::state::is_none` meets its contract. Assumes nothing.
 use Rattle.model.specs.Interact.{same-id}
-use Rattle.id_lists.specs.Ids.{option-of}
+use Rattle.id_set.specs.Ids.{option-of}
 use borrow.Author.Needs.{needs}
 use Rattle.interaction_state.proofs.state.is_none.Statement.{statement}
 use Rattle.interaction_state.proofs.state.is_none.Tie as tie

@@ -1,6 +1,6 @@
 -- `crate::state::kept_if` meets its contract. Assumes nothing.
 use Rattle.model.specs.Interact.{kept-if}
-use Rattle.id_lists.specs.Ids.{option-of}
+use Rattle.id_set.specs.Ids.{option-of}
 use borrow.Author.Needs.{needs}
 use Rattle.interaction_state.proofs.state.kept_if.Statement.{statement}
 use Rattle.interaction_state.proofs.state.kept_if.Tie as tie

@@ -1,6 +1,6 @@
 -- `crate::state::or_else` meets its contract. Assumes nothing.
 use Rattle.model.specs.Pass.{or-else}
-use Rattle.id_lists.specs.Ids.{option-of}
+use Rattle.id_set.specs.Ids.{option-of}
 use borrow.Author.Needs.{needs}
 use Rattle.interaction_state.proofs.state.or_else.Statement.{statement}
 use Rattle.interaction_state.proofs.state.or_else.Tie as tie

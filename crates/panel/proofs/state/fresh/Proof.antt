@@ -1,6 +1,6 @@
 -- The input's fresh state, no device, and nothing dragged. Assumes nothing.
 use Rattle.model.specs.Pass.{fresh, no-interaction}
-use Rattle.id_lists.specs.Ids.{option-of}
+use Rattle.id_set.specs.Ids.{option-of}
 use Rattle.interaction_state.specs.View.{interaction-of}
 use Rattle.panel.proofs.Start.{none-viewed}
 use borrow.Author.Needs.{needs}

@@ -1,0 +1,2 @@
+-- Laws of the entries that are refused. Assumes nothing.
+pub mod Entries

@@ -1,0 +1,3 @@
+-- Laws of the walk through a pass's events. Assumes nothing.
+pub mod Looked
+pub mod Walk

@@ -1,0 +1,39 @@
+-- `zoom_and_rotation::zoom_at` meets its contract: each way to a return is the case of the definition that its tests pick. Assumes nothing.
+use native.Mathlib.Omega.{arith}
+use Rattle.model.specs.Pass.{zoom-event}
+use Rattle.zoom_and_rotation.proofs.Idle.{zoom-idle}
+use Rattle.event_loop.proofs.OfKind.{not-of-kind, is-other}
+use mathlib.Core.Path.{sym, _∙_}
+use borrow.Author.Needs.{needs}
+use Rattle.zoom_and_rotation.proofs.zoom_at.Statement.{statement}
+use Rattle.zoom_and_rotation.proofs.zoom_at.Tie as tie
+
+kind-at-requires : tie.Need-kind-at-requires
+kind-at-requires c κs = search needs
+
+zoom-at-requires : tie.Need-zoom-at-requires
+zoom-at-requires c κs = search needs
+
+enum-known-e : tie.Need-enum-known-e
+enum-known-e c = search needs
+
+returns : tie.Need-returns
+unfolding zoom-event
+returns c =
+    let k = sym (c .before .before .before .kind-at .ensures) ∙ c .before .before .if1 .taken in
+    rw (is-other _ _ 6 _ k (c .before .zoom-at .ensures k) (c .match .keys2) tt)
+
+returns-2 : tie.Need-returns-2
+unfolding zoom-event
+returns-2 c =
+    let r = c .before .before .before in
+    let k = sym (r .before .before .kind-at .ensures) ∙ r .before .if1 .taken in
+    rw (← r .zoom-at .ensures k, c .before .e .given .1)
+
+returns-3 : tie.Need-returns-3
+returns-3 c = sym (zoom-idle _ _ (not-of-kind _ _ 7 (λ e. c .if1 .left (c .before .kind-at .ensures ∙ e)) (λ e. omega arith)))
+
+pub zoom-at-spec : {M : Type 1} → statement M
+zoom-at-spec =
+    tie.close
+    (tie.spec kind-at-requires zoom-at-requires enum-known-e returns returns-2 returns-3)
