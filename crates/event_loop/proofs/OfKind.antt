@@ -14,8 +14,8 @@ use borrow.Author.Tests.{eqb-true, eqb-false, ltb-true, ltb-false}
 use Rattle.data.specs.Numbers.{kind-number}
 use Rattle.data.proofs.event.Event.{the-type}
 use Rattle.feed.specs.Types.{Event, Key, ModifiersChanged, PointerMoved, MouseMoved, Button, PointerGone, Zoom, Rotate, Touch, MouseWheel, WindowFocused, Other}
-use Rattle.feed.specs.declared.shape.MaybeEvent.{MaybeEvent}
-use Rattle.feed.specs.declared.shape.MaybeEvent.the-variants.{None as no-event, Some as some-event}
+use Rattle.feed.specs.declared.found.MaybeEvent.{MaybeEvent}
+use Rattle.feed.specs.declared.found.MaybeEvent.the-variants.{None as no-event, Some as some-event}
 use Rattle.feed.specs.Encode.{fields-ok}
 use Rattle.feed.specs.Split.{kind, low-bits, following}
 use Rattle.feed.specs.Shape.{clean, field-below, key-shape, modifiers-shape, moved-shape, motion-shape, button-shape, zoom-shape, rotate-shape, touch-shape, wheel-shape, focus-shape, shape-by-kind, shape}

@@ -3,8 +3,8 @@ use Prim.Native.Nat.{ℕ}
 use mathlib.Core.List.{List, map}
 use lib.ListN.{drop}
 use Rattle.feed.specs.Types.{Event, Other}
-use Rattle.feed.specs.declared.shape.MaybeEvent.{MaybeEvent}
-use Rattle.feed.specs.declared.shape.MaybeEvent.the-variants.{None as no-event, Some as some-event}
+use Rattle.feed.specs.declared.found.MaybeEvent.{MaybeEvent}
+use Rattle.feed.specs.declared.found.MaybeEvent.the-variants.{None as no-event, Some as some-event}
 use Rattle.feed.specs.Split.{Piece, pieces, pieces-from}
 use Rattle.feed.specs.Shape.{shape}
 use Rattle.feed.specs.Decode.{piece-at}

@@ -1,3 +1,4 @@
+-- The laws of the feed, and what its readers' proofs rest on.
 pub mod Nan
 pub mod Lengths
 pub mod Words

@@ -16,7 +16,7 @@ pub use Rattle.data.specs.declared.event.Event.{Event}
 pub use Rattle.data.specs.declared.event.Event.the-variants.{Key, ModifiersChanged, PointerMoved, MouseMoved, PointerButton as Button, PointerGone, Zoom, Rotate, Touch, MouseWheel, WindowFocused, Other}
 pub use Rattle.data.specs.declared.refusal.PassRefusal.{PassRefusal}
 pub use Rattle.data.specs.declared.refusal.PassRefusal.the-variants.{Malformed, OutsideDomain, TimeBelow, TooManyEvents, NoPlace}
-pub use Rattle.feed.specs.declared.shape.MaybeEvent.{MaybeEvent}
-pub use Rattle.feed.specs.declared.shape.MaybeEvent.the-variants.{None as no-event, Some as some-event}
-pub use Rattle.feed.specs.declared.decode.EventAt.{EventAt}
-pub use Rattle.feed.specs.declared.decode.EventAt.the-variants as found
+pub use Rattle.feed.specs.declared.found.MaybeEvent.{MaybeEvent}
+pub use Rattle.feed.specs.declared.found.MaybeEvent.the-variants.{None as no-event, Some as some-event}
+pub use Rattle.feed.specs.declared.found.EventAt.{EventAt}
+pub use Rattle.feed.specs.declared.found.EventAt.the-variants as found

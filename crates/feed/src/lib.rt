@@ -1,5 +1,4 @@
-// 01's feed: 32-bit words, an event each few of them.
-pub mod decode;
+// 01's feed: 32-bit words, an event each few of them. What its words say, their lengths and their fields.
 pub mod fields;
-pub mod shape;
+pub mod found;
 pub mod split;

@@ -6,8 +6,8 @@ use native.Mathlib.Omega.{arith}
 use lib.ListN.{getD}
 use Rattle.feed.specs.Types.{Event}
 use Rattle.feed.specs.Split.{kind}
-use Rattle.feed.specs.declared.decode.EventAt.{EventAt}
-use Rattle.feed.specs.declared.decode.EventAt.the-variants as found
+use Rattle.feed.specs.declared.found.EventAt.{EventAt}
+use Rattle.feed.specs.declared.found.EventAt.the-variants as found
 use Rattle.feed.specs.Decode.{event-at}
 use Rattle.event_loop.specs.Lists.{list-of}
 use Rattle.feed_check.specs.declared.Verdict.the-variants.{Good, Malformed, OutsideDomain}

@@ -6,8 +6,8 @@ use native.Mathlib.Omega.{arith}
 use lib.Dec.{ltb}
 use Rattle.data.specs.Limits.{force-ok, maybe-force-ok, event-ok}
 use Rattle.feed.specs.Types.{Event}
-use Rattle.feed.specs.declared.shape.MaybeEvent.{MaybeEvent}
-use Rattle.feed.specs.declared.shape.MaybeEvent.the-variants.{None as no-event, Some as some-event}
+use Rattle.feed.specs.declared.found.MaybeEvent.{MaybeEvent}
+use Rattle.feed.specs.declared.found.MaybeEvent.the-variants.{None as no-event, Some as some-event}
 use Rattle.feed.specs.Shape.{float-of, force-of, clean, field-below}
 use Rattle.feed.specs.Decode.{good, outside-domain, check-floats, found-at}
 use Rattle.feed_check.specs.declared.Verdict.{Verdict}

@@ -3,8 +3,8 @@ use Prim.Native.Nat.{ℕ}
 use mathlib.Core.Bool.{Bool, cond}
 use mathlib.Core.List.{List}
 use lib.ListN.{getD}
-use Rattle.feed.specs.declared.decode.EventAt.{EventAt}
-use Rattle.feed.specs.declared.decode.EventAt.the-variants as found
+use Rattle.feed.specs.declared.found.EventAt.{EventAt}
+use Rattle.feed.specs.declared.found.EventAt.the-variants as found
 use Rattle.feed.specs.Split.{kind}
 use Rattle.feed.specs.Decode.{event-at}
 use Rattle.event_loop.specs.Lists.{list-of}

@@ -4,8 +4,8 @@ use crate::record::feed_words;
 use crate::record::word;
 use data::event::Event;
 use data::modifiers::Modifiers;
-use feed::decode::EventAt;
-use feed::decode::event_at;
+use feed::found::EventAt;
+use feed_decode::decode::event_at;
 use feed_encode::encode;
 ghost use Prim.Native.Nat.{_≤_};
 

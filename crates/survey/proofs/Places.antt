@@ -11,9 +11,9 @@ use lib.Seq.{getD-set-same, getD-set-other, drop-cons}
 use borrow.Author.Tests.{eqb-true, eqb-false, ltb-true, ltb-false}
 use Rattle.data.specs.Limits.{max-events, event-ok}
 use Rattle.data.specs.Numbers.{kind-number}
-use Rattle.feed.specs.declared.shape.MaybeEvent.{MaybeEvent}
-use Rattle.feed.specs.declared.shape.MaybeEvent.the-variants.{None as no-event, Some as some-event}
-use Rattle.feed.specs.declared.decode.EventAt.the-variants as found
+use Rattle.feed.specs.declared.found.MaybeEvent.{MaybeEvent}
+use Rattle.feed.specs.declared.found.MaybeEvent.the-variants.{None as no-event, Some as some-event}
+use Rattle.feed.specs.declared.found.EventAt.the-variants as found
 use Rattle.feed.specs.Split.{kind, piece-length}
 use Rattle.feed.specs.Shape.{shape}
 use Rattle.feed.specs.Decode.{Decoded, good, malformed, outside-domain, items, items-after, decode, check-floats, piece-at, found-at, event-at}

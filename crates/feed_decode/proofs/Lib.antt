@@ -1,0 +1,2 @@
+-- The shape by kind, for the reader of events.
+mod ByKind

@@ -1,0 +1,3 @@
+// The event at a place of a feed, or its refusal.
+pub mod decode;
+pub mod kinds;

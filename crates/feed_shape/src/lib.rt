@@ -1,0 +1,2 @@
+// The event that a feed's words say, for each kind.
+pub mod shape;
