@@ -9,7 +9,7 @@ use lib.Ieee.{Float}
 use Rattle.data.specs.Limits.{max-events}
 use Rattle.feed.specs.Decode.{items}
 use Rattle.feed.specs.Feed.{events-of}
-use Rattle.model.specs.Types.{PassRefusal}
+use Rattle.model.specs.Types.{PassRefusal, MaybePos2}
 use Rattle.model.specs.Touch.{TouchState, touch-events, touch-pass, end-touches}
 use Rattle.model.specs.Pass.{Panel, Interaction, or-else, own-refusal, time-of, time-or, fresh, pass-events, begin-pass, pass-refusal, pass-by, pass}
 use Rattle.model.specs.Pass as Pass
@@ -23,15 +23,20 @@ use Rattle.survey.proofs.Places.{survey-is, none-refused, devices-are}
 use Rattle.survey.specs.Laws.{InOrder}
 use Rattle.survey.proofs.Formed.{survey-law, events-law, end-law}
 use Rattle.survey.proofs.Accepted.{accepted}
+use Rattle.touch_ends.proofs.Marks.{ended-own}
 use Rattle.input_state.specs.declared.input.PassInput.{PassInput}
 use Rattle.input_state.specs.declared.state.InputState.{InputState}
 use Rattle.input_state.specs.View.{Lent, panel, time-given, input, begin-by, Acted}
 use Rattle.input_pass.specs.Begun.{outcome, refusal-of, Looked, Begun}
 use Rattle.input_pass.specs.declared.begin.Begun.{Begun as Answer}
-use Rattle.input_state.proofs.Whole.{ended-all}
 
 pub some-none : {X : Type 0} {r : PassRefusal} → some r ≡ none → X
 some-none e = let z : _≡_ {A = ℕ} 0 1 = cc in absurd (omega arith)
+
+-- the list of the touch events holds all that the devices' end reads
+ended-all : (ws ps counts : List ℕ) → Listed ws ps counts → (time : Float) (p : MaybePos2) (vs : List TouchState) →
+    map (end-touches time p (listed-events ws ps touch-list (getD counts touch-list 0))) vs ≡ map (end-touches time p (shaped-events ws)) vs
+ended-all ws ps counts ls time p vs = rw (ls touch-list (omega arith)) (ended-own time p (shaped-events ws) vs)
 
 -- ---- before the events: its own numbers, what reading tells, and the touch events
 module _ (i : PassInput) (ws ps : List ℕ) (old : Float) (r : Reading) (vs : List TouchState) (looked : Looked i ws ps old r) where

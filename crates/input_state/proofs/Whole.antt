@@ -8,14 +8,14 @@ use lib.ListN.{getD, length}
 use lib.Ieee.{Float}
 use Rattle.data.specs.Limits.{max-events}
 use Rattle.model.specs.Numbers.{+0, one}
-use Rattle.model.specs.Types.{MaybePos2, Rect, InputOptions, WheelState, Event}
+use Rattle.model.specs.Types.{Rect, InputOptions, WheelState, Event}
 use Rattle.model.specs.Pointer.{Place, place-pass, Press, press-pass, is-decidedly-dragging}
 use Rattle.model.specs.Touch.{TouchState, end-touches}
 use Rattle.model.specs.Wheel.{wheel-default, wheel-pass}
 use Rattle.model.specs.Pass.{Panel, time-of, rect-or, clock-pass, screen-pass, is-empty, key-events, keys-pass, sums-of, decidedly-dragging, fresh, fresh-place, fresh-press}
 use Rattle.model.specs.Pass as Pass
 use Rattle.event_loop.specs.Shaped.{shaped-events}
-use Rattle.event_loop.specs.Lists.{pointer-list, keys-list, sums-list, touch-list, wheel-list, list-count, listed-events, Listed}
+use Rattle.event_loop.specs.Lists.{pointer-list, keys-list, sums-list, wheel-list, list-count, listed-events, Listed}
 use Rattle.event_loop.proofs.Loops.{own-fewer}
 use Rattle.place_loop.proofs.Loops.{place-pass-own}
 use Rattle.press_loop.proofs.Loops.{press-pass-own}
@@ -23,7 +23,6 @@ use Rattle.wheel_loop.proofs.Loops.{wheel-pass-own}
 use Rattle.key_state.specs.View.{begun}
 use Rattle.key_state.proofs.Idle.{key-own}
 use Rattle.zoom_and_rotation.proofs.Idle.{zoom-own, rotation-own}
-use Rattle.touch_ends.proofs.Marks.{ended-own}
 use Rattle.input_state.specs.declared.input.PassInput.{PassInput}
 use Rattle.input_state.specs.View.{begin-by}
 
@@ -100,6 +99,3 @@ module _ (ws ps counts : List ℕ) (ls : Listed ws ps counts) where
   pub sums-all : (o : InputOptions) (w : WheelState) → sums-of o (events sums-list) w ≡ sums-of o es w
   unfolding sums-of
   sums-all o w = rw (ls sums-list (omega arith), zoom-own es one, rotation-own es +0)
-
-  pub ended-all : (time : Float) (p : MaybePos2) (vs : List TouchState) → map (end-touches time p (events touch-list)) vs ≡ map (end-touches time p es) vs
-  ended-all time p vs = rw (ls touch-list (omega arith)) (ended-own time p es vs)
