@@ -86,7 +86,7 @@ def count(cmd, n, per, make, less):
     return one(make) - (one(less) if less else 0)
 def seconds(cmd, data):
     best = 1e9
-    for _ in range(5):
+    for _ in range(20):
         t = time.perf_counter()
         answer(cmd, data)
         best = min(best, time.perf_counter() - t)
