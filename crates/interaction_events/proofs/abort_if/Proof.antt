@@ -1,4 +1,4 @@
--- `crate::events::abort_if` meets its contract. Assumes nothing.
+-- `abort_if` meets its contract. Assumes nothing.
 use mathlib.Core.Path.{refl}
 use Rattle.model.specs.Interact.{abort-if}
 use Rattle.id_set.specs.Ids.{option-of}

@@ -1,4 +1,4 @@
--- `crate::events::clicked` meets its contract. Assumes nothing.
+-- `clicked` meets its contract. Assumes nothing.
 use Rattle.model.specs.Interact.{has-click, pointer-event}
 use Rattle.interaction_events.specs.View.{going-of}
 use Rattle.interaction_events.proofs.Looked.{click-id-of}

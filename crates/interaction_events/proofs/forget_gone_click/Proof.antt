@@ -1,4 +1,4 @@
--- `crate::events::forget_gone_click` meets its contract. Assumes nothing.
+-- `forget_gone_click` meets its contract. Assumes nothing.
 use mathlib.Core.Path.{sym, _∙_}
 use Rattle.model.specs.Interact.{forget-gone-click}
 use Rattle.interaction_state.specs.View.{interaction-of}

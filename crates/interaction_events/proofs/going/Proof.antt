@@ -1,4 +1,4 @@
--- `crate::events::going` meets its contract. Assumes nothing.
+-- `going` meets its contract. Assumes nothing.
 use mathlib.Core.Path.{refl}
 use Rattle.model.specs.Interact.{long-touch-if}
 use Rattle.id_set.specs.Ids.{option-of}

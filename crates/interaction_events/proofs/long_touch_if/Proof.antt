@@ -1,4 +1,4 @@
--- `crate::events::long_touch_if` meets its contract. Assumes nothing.
+-- `long_touch_if` meets its contract. Assumes nothing.
 use mathlib.Core.Option.{none}
 use mathlib.Core.Path.{sym, _∙_, ap}
 use borrow.Author.Tests.{not-true, not-false}

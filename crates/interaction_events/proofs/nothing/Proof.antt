@@ -1,4 +1,4 @@
--- `crate::events::nothing` meets its contract. Assumes nothing.
+-- `nothing` meets its contract. Assumes nothing.
 use mathlib.Core.Path.{refl}
 use Rattle.model.specs.Pass.{no-interaction}
 use Rattle.id_set.specs.Ids.{option-of}

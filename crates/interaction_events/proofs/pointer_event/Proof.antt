@@ -1,4 +1,4 @@
--- `crate::events::pointer_event` meets its contract. Assumes nothing.
+-- `pointer_event` meets its contract. Assumes nothing.
 use mathlib.Core.Path.{sym, _∙_}
 use Rattle.model.specs.Interact.{pointer-event}
 use Rattle.interaction_events.proofs.Walk.{is-moved, is-pressed, is-released, is-clicked, dragging-release}

@@ -1,4 +1,4 @@
--- `crate::events::pointer_events` meets its contract. Assumes nothing.
+-- `pointer_events` meets its contract. Assumes nothing.
 use Prim.Native.Nat.{_≤_, _-_, min}
 use mathlib.Core.Path.{_≡_, refl, sym, _∙_}
 use mathlib.Core.List.{List}

@@ -1,4 +1,4 @@
--- `crate::events::pressed` meets its contract. Assumes nothing.
+-- `pressed` meets its contract. Assumes nothing.
 use Rattle.model.specs.Interact.{pointer-event}
 use Rattle.interaction_state.specs.View.{interaction-of}
 use Rattle.interaction_events.specs.View.{going-of}

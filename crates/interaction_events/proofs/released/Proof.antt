@@ -1,4 +1,4 @@
--- `crate::events::released` meets its contract. Assumes nothing.
+-- `released` meets its contract. Assumes nothing.
 use Rattle.model.specs.Interact.{has-click, pointer-event}
 use Rattle.interaction_events.specs.View.{going-of}
 use borrow.Author.Needs.{needs}

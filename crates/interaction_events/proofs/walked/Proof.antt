@@ -1,4 +1,4 @@
--- `crate::events::walked` meets its contract. Assumes nothing.
+-- `walked` meets its contract. Assumes nothing.
 use Rattle.interaction_events.specs.View.{seen-of}
 use Rattle.interaction_events.proofs.Walk.{composed}
 use borrow.Author.Needs.{needs}

@@ -1,4 +1,4 @@
--- `place/place_pass` meets its contract: each way to a return is the case of the definition that its tests pick. Assumes nothing.
+-- `place_pass` meets its contract: each way to a return is the case of the definition that its tests pick. Assumes nothing.
 use Rattle.model.specs.Pointer.{place-pass}
 use mathlib.Core.Path.{_∙_}
 use borrow.Author.Needs.{needs}

@@ -1,4 +1,4 @@
--- `wheel::wheel_events` meets its contract. Assumes nothing.
+-- `wheel_events` meets its contract. Assumes nothing.
 use Prim.Native.Nat.{_-_, _≤_}
 use mathlib.Core.Path.{_≡_, sym, _∙_}
 use native.Mathlib.Omega.{arith}

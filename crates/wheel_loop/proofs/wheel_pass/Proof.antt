@@ -1,4 +1,4 @@
--- `wheel/wheel_pass` meets its contract: each way to a return is the case of the definition that its tests pick. Assumes nothing.
+-- `wheel_pass` meets its contract: each way to a return is the case of the definition that its tests pick. Assumes nothing.
 use Rattle.model.specs.Wheel.{wheel-pass}
 use borrow.Author.Needs.{needs}
 use Rattle.wheel_loop.proofs.wheel_pass.Statement.{statement}
