@@ -26,6 +26,7 @@ unfoldable pub seek-from : ℕ → ℕ → List Model.Hit → ℕ
 seek-from id n [] = n
 seek-from id n (h ∷ hs) = cond (eqb id (h .id)) n (seek-from id (suc n) hs)
 
+-- Option<Hit>
 unfoldable pub view : MaybeHit → Option Model.Hit
 view no-hit = none
 view (some-hit h) = some (hit-of (h .id) (h .sense))

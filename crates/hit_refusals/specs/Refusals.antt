@@ -7,6 +7,7 @@ use Rattle.model.specs.Interact as Model
 use Rattle.hit_lists.specs.Hits.{hits-of, view}
 use Rattle.hit_refusals.specs.Types.{MaybeHit, no-hit, MaybeInteractRefusal, no-refusal, some-refusal}
 
+-- the answer as an Option
 unfoldable pub refusal-of : MaybeInteractRefusal → Option InteractRefusal
 refusal-of no-refusal = none
 refusal-of (some-refusal r) = some r
@@ -28,5 +29,6 @@ input widgets close within click drag hovered contains =
 abbrev pub unknown : ℕ → Option WidgetRect
 unknown id = none
 
+-- 01's 8, of the buffers' lengths alone
 abbrev pub buffers-refusal : ℕ → ℕ → Option InteractRefusal
 buffers-refusal hovered contains = Model.buffers-refusal (input unknown [] [] no-hit no-hit hovered contains)

@@ -8,6 +8,7 @@ use lib.Dec.{ltb, eqb}
 use lib.ListN.{length, getD, drop}
 use Rattle.id_set.specs.Types.{MaybeId, no-id, some-id}
 
+-- Option<Id>
 unfoldable pub option-of : MaybeId → Option ℕ
 option-of no-id = none
 option-of (some-id d) = some d
@@ -23,5 +24,6 @@ pub record Place (d : ℕ) (ids : List ℕ) (at : ℕ) : Type 0 where
   pub below : (k : ℕ) → k < at → getD ids k 0 < d
   pub not-below : at < length ids → d ≤ getD ids at 0
 
+-- whether the id d is in the list at a place
 unfoldable pub stands-at : ℕ → List ℕ → ℕ → Bool
 stands-at d ids at = ltb at (length ids) && eqb (getD ids at 0) d

@@ -15,9 +15,11 @@ use Rattle.interaction_state.specs.declared.state.Going.{Going}
 use Rattle.interaction_state.specs.View.{interaction-of}
 use Rattle.interaction_state.specs.Lookup.{lookup}
 
+-- InteractionState's ids and what was clicked or long-touched so far
 unfoldable pub going-of : Going → Model.Going
 going-of g = record { interaction = interaction-of (g .interaction); clicked = option-of (g .clicked); long-touched = option-of (g .«long_touched») }
 
+-- what an interact is told of the input, with the pass's pointer events
 unfoldable pub seen-of : Seen → List PointerEvent → Model.Seen
 seen-of v events =
     record {

@@ -8,6 +8,7 @@ use Rattle.model.specs.Interact as Model
 use Rattle.id_set.specs.Ids.{option-of}
 use Rattle.interaction_state.specs.Types.{Interaction, Seen, InteractionSnapshot}
 
+-- egui's InteractionState
 unfoldable pub interaction-of : Interaction → Pass.Interaction
 interaction-of s =
     record {
