@@ -1,24 +1,26 @@
 // The words and floats of a record. A NaN of either side stands for any other.
 use emath::pos2::Pos2;
 use emath::vec2::Vec2;
-ghost use Prim.Native.Nat.{_<_};
+ghost use mathlib.Core.Path.{_≡_};
+ghost use Prim.Native.Nat.{_*_, _%_, _<_};
+ghost use Rattle.emath_vectors.specs.Words.{word-at};
 
 fn low(x: u8) -> u32
+    ensures { λ r. ⌜ r ≡ x ⌝ }
     ensures { λ r. ⌜ r < 256 ⌝ }
 {
     x as u32
 }
 
+// Word i of the sixteen, the low byte first.
 pub fn word(b: &[u8; 64], i: usize) -> u32
-    requires { ⌜ i < 16 ⌝ }
+    ensures { λ r. ⌜ r ≡ word-at (now (b .entry)) (i % 16 * 4) ⌝ }
 {
-    let j = i * 4;
+    let j = i % 16 * 4;
     low(b[j]) + low(b[j + 1]) * 0x100 + low(b[j + 2]) * 0x1_0000 + low(b[j + 3]) * 0x100_0000
 }
 
-pub fn f32_at(b: &[u8; 64], i: usize) -> f32
-    requires { ⌜ i < 16 ⌝ }
-{
+pub fn f32_at(b: &[u8; 64], i: usize) -> f32 {
     let w = word(b, i);
     if w % 0x8000_0000 > 0x7f80_0000 {
         return 0.0 / 0.0;
@@ -27,31 +29,25 @@ pub fn f32_at(b: &[u8; 64], i: usize) -> f32
 }
 
 // Two words, the low one first.
-pub fn f64_at(b: &[u8; 64], i: usize) -> f64
-    requires { ⌜ i < 15 ⌝ }
-{
-    let w = word(b, i) as u64 + word(b, i + 1) as u64 * 0x1_0000_0000;
+pub fn f64_at(b: &[u8; 64], i: usize) -> f64 {
+    let w = word(b, i) as u64 + word(b, i % 16 + 1) as u64 * 0x1_0000_0000;
     if w % 0x8000_0000_0000_0000 > 0x7ff0_0000_0000_0000 {
         return 0.0 / 0.0;
     }
     f64::from_bits(w)
 }
 
-pub fn vec_at(b: &[u8; 64], i: usize) -> Vec2
-    requires { ⌜ i < 15 ⌝ }
-{
+pub fn vec_at(b: &[u8; 64], i: usize) -> Vec2 {
     Vec2 {
         x: f32_at(b, i),
-        y: f32_at(b, i + 1),
+        y: f32_at(b, i % 16 + 1),
     }
 }
 
-pub fn pos_at(b: &[u8; 64], i: usize) -> Pos2
-    requires { ⌜ i < 15 ⌝ }
-{
+pub fn pos_at(b: &[u8; 64], i: usize) -> Pos2 {
     Pos2 {
         x: f32_at(b, i),
-        y: f32_at(b, i + 1),
+        y: f32_at(b, i % 16 + 1),
     }
 }
 
