@@ -1,8 +1,11 @@
 // The words and floats of a record. A NaN of either side stands for any other.
 use emath::pos2::Pos2;
 use emath::vec2::Vec2;
+use ieee::bits::from_bits32;
+use ieee::bits::from_bits64;
 ghost use mathlib.Core.Path.{_≡_};
-ghost use Prim.Native.Nat.{_*_, _%_, _<_};
+ghost use Prim.Native.Nat.{_+_, _*_, _%_, _<_};
+ghost use lib.Ieee.{binary32, binary64, ofBits};
 ghost use Rattle.emath_vectors.specs.Words.{word-at};
 
 fn low(x: u8) -> u32
@@ -20,31 +23,34 @@ pub fn word(b: &[u8; 64], i: usize) -> u32
     low(b[j]) + low(b[j + 1]) * 0x100 + low(b[j + 2]) * 0x1_0000 + low(b[j + 3]) * 0x100_0000
 }
 
-pub fn f32_at(b: &[u8; 64], i: usize) -> f32 {
-    let w = word(b, i);
-    if w % 0x8000_0000 > 0x7f80_0000 {
-        return 0.0 / 0.0;
-    }
-    f32::from_bits(w)
+pub fn f32_at(b: &[u8; 64], i: usize) -> f32
+    ensures { λ r. ⌜ r ≡ ofBits binary32 (word-at (now (b .entry)) (i % 16 * 4)) ⌝ }
+{
+    from_bits32(word(b, i))
 }
 
 // Two words, the low one first.
-pub fn f64_at(b: &[u8; 64], i: usize) -> f64 {
+pub fn f64_at(b: &[u8; 64], i: usize) -> f64
+    ensures { λ r. ⌜ r ≡ ofBits binary64 (word-at (now (b .entry)) (i % 16 * 4) + word-at (now (b .entry)) ((i % 16 + 1) % 16 * 4) * 0x1_0000_0000) ⌝ }
+{
     let w = word(b, i) as u64 + word(b, i % 16 + 1) as u64 * 0x1_0000_0000;
-    if w % 0x8000_0000_0000_0000 > 0x7ff0_0000_0000_0000 {
-        return 0.0 / 0.0;
-    }
-    f64::from_bits(w)
+    from_bits64(w)
 }
 
-pub fn vec_at(b: &[u8; 64], i: usize) -> Vec2 {
+pub fn vec_at(b: &[u8; 64], i: usize) -> Vec2
+    ensures { λ r. ⌜ r .x ≡ ofBits binary32 (word-at (now (b .entry)) (i % 16 * 4)) ⌝ }
+    ensures { λ r. ⌜ r .y ≡ ofBits binary32 (word-at (now (b .entry)) ((i % 16 + 1) % 16 * 4)) ⌝ }
+{
     Vec2 {
         x: f32_at(b, i),
         y: f32_at(b, i % 16 + 1),
     }
 }
 
-pub fn pos_at(b: &[u8; 64], i: usize) -> Pos2 {
+pub fn pos_at(b: &[u8; 64], i: usize) -> Pos2
+    ensures { λ r. ⌜ r .x ≡ ofBits binary32 (word-at (now (b .entry)) (i % 16 * 4)) ⌝ }
+    ensures { λ r. ⌜ r .y ≡ ofBits binary32 (word-at (now (b .entry)) ((i % 16 + 1) % 16 * 4)) ⌝ }
+{
     Pos2 {
         x: f32_at(b, i),
         y: f32_at(b, i % 16 + 1),

@@ -1,6 +1,4 @@
--- A NaN's pattern is not taken. Assumes nothing.
-use lib.Ieee.{binary64}
-use Rattle.emath_vectors.proofs.Nan.{pattern-no-nan}
+-- `record::f64_at` meets its contract. Assumes nothing.
 use borrow.Author.Needs.{needs}
 use Rattle.emath_vectors.proofs.record.f64_at.Statement.{statement}
 use Rattle.emath_vectors.proofs.record.f64_at.Tie as tie
@@ -26,14 +24,11 @@ mul-w c = search needs
 add-w : tie.Need-add-w
 add-w c = search needs
 
+from-bits64-requires : tie.Need-from-bits64-requires
+from-bits64-requires c κs = search needs
+
 returns : tie.Need-returns
-returns c = search needs
-
-float-from-bits-result : tie.Need-float-from-bits-result
-float-from-bits-result c = pattern-no-nan binary64 _ (c .if1 .left)
-
-returns-2 : tie.Need-returns-2
-returns-2 c = search needs
+returns c = rw (c .from-bits64 .ensures, c .before .word2 .ensures, c .before .before .word .ensures)
 
 pub f64-at-spec : {M : Type 1} → statement M
 f64-at-spec =
@@ -46,6 +41,5 @@ f64-at-spec =
     cast-w-2
     mul-w
     add-w
-    returns
-    float-from-bits-result
-    returns-2)
+    from-bits64-requires
+    returns)
