@@ -3,9 +3,12 @@ use emath::pos2::Pos2;
 use emath::vec2::Vec2;
 use ieee::bits::from_bits32;
 use ieee::bits::from_bits64;
+use ieee::bits::to_bits32;
 ghost use mathlib.Core.Path.{_≡_};
 ghost use Prim.Native.Nat.{_+_, _*_, _%_, _<_};
-ghost use lib.Ieee.{binary32, binary64, ofBits};
+ghost use mathlib.Core.Bool.{_&&_};
+ghost use lib.Dec.{eqb};
+ghost use lib.Ieee.{binary32, binary64, ofBits, toBits};
 ghost use Rattle.emath_vectors.specs.Words.{word-at};
 
 fn low(x: u8) -> u32
@@ -58,20 +61,14 @@ pub fn pos_at(b: &[u8; 64], i: usize) -> Pos2
 }
 
 // Bit for bit, but that one NaN is like another.
-pub fn same(x: f32, y: f32) -> bool {
-    if x != x {
-        return y != y;
-    }
-    if y != y {
-        return false;
-    }
-    f32::to_bits(x) == f32::to_bits(y)
+pub fn same(x: f32, y: f32) -> bool
+    ensures { λ r. ⌜ r ≡ eqb (toBits binary32 x) (toBits binary32 y) ⌝ }
+{
+    to_bits32(x) == to_bits32(y)
 }
 
-pub fn same_vec(v: Vec2, w: Vec2) -> bool {
-    if same(v.x, w.x) {
-        same(v.y, w.y)
-    } else {
-        false
-    }
+pub fn same_vec(v: Vec2, w: Vec2) -> bool
+    ensures { λ r. ⌜ r ≡ (eqb (toBits binary32 (v .x)) (toBits binary32 (w .x)) && eqb (toBits binary32 (v .y)) (toBits binary32 (w .y))) ⌝ }
+{
+    same(v.x, w.x) & same(v.y, w.y)
 }
