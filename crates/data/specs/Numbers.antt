@@ -1,6 +1,9 @@
 -- 01's number of each case of each enum: "a definition states this paper's number and values for each of the enum's cases".
 use Prim.Native.Nat.{ℕ}
+use mathlib.Core.List.{List, [], _∷_}
 use mathlib.Core.Option.{Option, none, some}
+use lib.Ieee.{Float}
+use Rattle.data.specs.Types.{Pos2, Click, MaybeClick, no-click, some-click}
 use Rattle.data.specs.Types.{PointerButton, Primary, Secondary, Middle, Extra1, Extra2, TouchPhase, Start, Move, End, Cancel}
 use Rattle.data.specs.Types.{MouseWheelUnit, Point, Line, Page, MouseWheelSource, Unknown, Wheel, Trackpad, Momentum}
 use Rattle.data.specs.Types.{Status, Static, Smoothing, InTouch, PinchType, Horizontal, Vertical, Proportional}
@@ -56,11 +59,33 @@ abbrev pub rotation-number : Rotation → ℕ
 rotation-number (Radians sum) = 0
 rotation-number (Headings previous current) = 1
 
+-- the sum, or the previous heading and the current one
+abbrev pub rotation-values : Rotation → List Float
+rotation-values (Radians sum) = sum ∷ []
+rotation-values (Headings previous current) = previous .x ∷ previous .y ∷ current .x ∷ current .y ∷ []
+
 -- the order of input_state/mod.rs
 abbrev pub pointer-event-number : PointerEvent → ℕ
 pointer-event-number (Moved pos) = 0
 pointer-event-number (Pressed pos button) = 1
 pointer-event-number (Released click button) = 2
+
+-- its values: the position of a move or a press; the button of a press or a release; and "a release carries a click or none"
+abbrev pub pointer-event-position : PointerEvent → Option Pos2
+pointer-event-position (Moved pos) = some pos
+pointer-event-position (Pressed pos button) = some pos
+pointer-event-position (Released click button) = none
+
+abbrev pub pointer-event-button : PointerEvent → Option ℕ
+pointer-event-button (Moved pos) = none
+pointer-event-button (Pressed pos button) = some (button-number button)
+pointer-event-button (Released click button) = some (button-number button)
+
+abbrev pub pointer-event-click : PointerEvent → Option Click
+pointer-event-click (Moved pos) = none
+pointer-event-click (Pressed pos button) = none
+pointer-event-click (Released no-click button) = none
+pointer-event-click (Released (some-click click) button) = some click
 
 -- the kind, of "The feed"
 abbrev pub kind-number : Event → ℕ
@@ -77,6 +102,11 @@ kind-number (MouseWheel unit delta phase source m) = 10
 kind-number (WindowFocused focused) = 11
 kind-number Other = 12
 
+-- what a row of "Answers of a refused call" returns: its number, and an index in the rows that return one
+pub record Row : Type 0 where
+  pub number : ℕ
+  pub index : Option ℕ
+
 -- "Pass: 2 for its own numbers, 3, then event by event 4, 1, 2, 5"
 abbrev pub pass-refusal-number : PassRefusal → ℕ
 pass-refusal-number (Malformed index) = 1
@@ -92,6 +122,9 @@ pass-refusal-index (OutsideDomain index) = some index
 pass-refusal-index TimeBelow = none
 pass-refusal-index (TooManyEvents index) = some index
 pass-refusal-index (NoPlace index) = some index
+
+abbrev pub pass-row : PassRefusal → Row
+pass-row q = record { number = pass-refusal-number q; index = pass-refusal-index q }
 
 -- "Insert: 1, 9, 2, 7, 6, 8"
 abbrev pub insert-refusal-number : InsertRefusal → ℕ
@@ -111,6 +144,9 @@ insert-refusal-index insertion.OtherLayer = none
 insert-refusal-index insertion.ShortSlice = none
 insert-refusal-index insertion.ZeroId = none
 
+abbrev pub insert-row : InsertRefusal → Row
+insert-row q = record { number = insert-refusal-number q; index = insert-refusal-index q }
+
 -- "Interact: 8, then by list close, contains_pointer, click, drag: 4, 1, 9 by entry; last 10"
 abbrev pub interact-refusal-number : InteractRefusal → ℕ
 interact-refusal-number (interaction.Malformed index) = 1
@@ -126,3 +162,6 @@ interact-refusal-index (interaction.TooManyHits index) = some index
 interact-refusal-index interaction.ShortBuffer = none
 interact-refusal-index interaction.ZeroId = none
 interact-refusal-index interaction.TallyFull = none
+
+abbrev pub interact-row : InteractRefusal → Row
+interact-row q = record { number = interact-refusal-number q; index = interact-refusal-index q }

@@ -3,7 +3,7 @@ use crate::modifiers::Modifiers;
 use emath::pos2::Pos2;
 ghost use mathlib.Core.Path.{_≡_};
 ghost use Prim.Native.Nat.{_≤_};
-ghost use Rattle.data.specs.Numbers.{button-number};
+ghost use Rattle.data.specs.Numbers.{button-number, pointer-event-number};
 
 pub enum PointerButton {
     Primary,
@@ -54,6 +54,19 @@ pub enum PointerEvent {
     Moved(Pos2),
     Pressed(Pos2, PointerButton),
     Released(MaybeClick, PointerButton),
+}
+
+impl PointerEvent {
+    // Its place in the enum.
+    pub fn number(self) -> u32
+        ensures { λ r. ⌜ (r ≡ pointer-event-number self) × (r ≤ 2) ⌝ }
+    {
+        match self {
+            PointerEvent::Moved(_) => 0,
+            PointerEvent::Pressed(_, _) => 1,
+            PointerEvent::Released(_, _) => 2,
+        }
+    }
 }
 
 // Option<f64>: a time

@@ -3,7 +3,7 @@ use emath::pos2::Pos2;
 use emath::vec2::Vec2;
 ghost use mathlib.Core.Path.{_≡_};
 ghost use Prim.Native.Nat.{_≤_};
-ghost use Rattle.data.specs.Numbers.{phase-number, pinch-number};
+ghost use Rattle.data.specs.Numbers.{phase-number, pinch-number, rotation-number};
 
 pub enum TouchPhase {
     Start,
@@ -91,6 +91,18 @@ pub enum MaybeGestureState {
 pub enum Rotation {
     Radians(f32),
     Headings(Vec2, Vec2),
+}
+
+impl Rotation {
+    // Its place in the enum.
+    pub fn number(self) -> u32
+        ensures { λ r. ⌜ (r ≡ rotation-number self) × (r ≤ 1) ⌝ }
+    {
+        match self {
+            Rotation::Radians(_) => 0,
+            Rotation::Headings(_, _) => 1,
+        }
+    }
 }
 
 // `previous_heading` and `heading` stand for egui's `rotation_delta`.
