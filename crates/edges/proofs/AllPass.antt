@@ -1,5 +1,5 @@
 use mathlib.Core.Path.{refl}
-use Rattle.edges.specs.Cases.{AllPass}
+use Rattle.edges.specs.Table.{AllPass}
 use Rattle.edges.proofs.Opened.{opened}
 
 pub all-pass : AllPass

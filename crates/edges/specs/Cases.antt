@@ -1,21 +1,20 @@
 -- 01, "Edges": the lines marked P and the two after them, as one table. Definitions only.
 use Prim.Native.Nat.{ℕ, _+_, _*_}
-use mathlib.Core.Path.{_≡_}
 use mathlib.Core.Bool.{Bool, true, false, cond}
 use mathlib.Core.List.{List, [], _∷_, _++_}
-use mathlib.Core.Option.{none, some}
+use mathlib.Core.Option.{Option, none, some}
 use lib.Dec.{eqb}
 use lib.ListN.{replicate}
 use lib.Ieee.{Float, nan, binary64, round}
 use Rattle.data.specs.Modifiers.{no-modifiers}
 use Rattle.model.specs.Options.{default-options}
-use Rattle.model.specs.Types.{Pos2, Vec2, InputOptions, WidgetRect, Primary, Point, Unknown, Trackpad, Start, Move, no-force, no-click, some-click}
+use Rattle.model.specs.Types.{Pos2, Vec2, Rect, InputOptions, WidgetRect, Primary, Point, Unknown, Trackpad, Start, Move, no-force, no-click, some-click}
 use Rattle.model.specs.Types.{PointerEvent, Moved, Pressed, Released, Event, PointerMoved, Button, Touch, MouseWheel}
 use Rattle.model.specs.Pass.{PassInput, fresh}
 use Rattle.model.specs.Widgets.{no-widgets}
 use Rattle.model.specs.Interact.{InteractInput}
 use Rattle.model.specs.Questions.{bool, vector, zoom, zoom-2d, events, any-click, pointer-events, smooth-scroll-delta, is-scrolling, zoom-delta, zoom-delta-2d, translation-delta}
-use Rattle.edges.specs.Steps.{Step, passes, answers, unprocessed, interacts, inserts, stands-at, State, feed-of, check-all}
+use Rattle.edges.specs.Steps.{Step, passes, answers, unprocessed, interacts, inserts, stands-at, State, feed-of}
 
 -- ---- how a case is written
 
@@ -52,20 +51,24 @@ click-duration x = options (default-options .«max_click_dist») x (default-opti
 unfoldable pub delay : Float → InputOptions
 delay x = options (default-options .«max_click_dist») (default-options .«max_click_duration») x
 
--- a pass at a time, with the smoothing factor 0.5
-unfoldable pub pass-at : Float → InputOptions → List Event → PassInput
-pass-at t o es =
+-- a pass by what it is given: a time, a screen rectangle, the smoothing factor, options, words
+unfoldable pub given : Option Float → Option Rect → Float → InputOptions → List ℕ → PassInput
+given t rect factor o ws =
     record {
-      time = some t;
-      screen-rect = some (record { min = pos 0 0; max = pos 640 480 });
+      time = t;
+      screen-rect = rect;
       predicted-dt = dec 0 625;
-      smoothing-factor = dec 0 5000;
+      smoothing-factor = factor;
       pixels-per-point = dec 1 0;
       focused = true;
       requested-repaint = false;
       options = o;
-      feed = feed-of es;
+      feed = ws;
     }
+
+-- a pass at a time, with the smoothing factor 0.5
+unfoldable pub pass-at : Float → InputOptions → List Event → PassInput
+pass-at t o es = given (some t) (some (record { min = pos 0 0; max = pos 640 480 })) (dec 0 5000) o (feed-of es)
 
 unfoldable pub at : Float → InputOptions → List Event → Step
 at t o es = passes (pass-at t o es)
@@ -240,7 +243,3 @@ cases =
     moved-by-distance ∷ clicked-by-distance ∷ delay-over ∷ within-delay ∷ within-duration ∷ duration-over
     ∷ smoothed ∷ smooth-by-itself ∷ finger-rests ∷ finger-gone ∷ smoothing-lasts ∷ smoothing-ends
     ∷ pinched ∷ proportional ∷ moved-to-top ∷ dragged-on ∷ coincident ∷ lone-release ∷ second-release ∷ []
-
--- proofs/AllPass.antt: by evaluation
-abbrev pub AllPass : Type 0
-AllPass = check-all start cases ≡ true

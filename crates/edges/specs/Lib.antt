@@ -1,4 +1,7 @@
 pub mod Words
 pub mod Steps
 pub mod Cases
+pub mod PassEdges
+pub mod InteractEdges
+pub mod Table
 pub mod Needed

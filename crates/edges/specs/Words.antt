@@ -1,4 +1,4 @@
--- The words of a reply and of a snapshot: what is compared. A float is its bit pattern, and a not-a-number is always the same one. Definitions only.
+-- The words of a reply, of a snapshot and of a widget's record: what is compared. A float is its bit pattern, and a not-a-number is always the same one. Definitions only.
 use Prim.Native.Nat.{ℕ, _+_, _*_}
 use mathlib.Core.Bool.{Bool, true, false, _&&_}
 use mathlib.Core.List.{List, [], _∷_, _++_}
@@ -10,7 +10,7 @@ use Rattle.data.specs.Bits.{bit-number}
 use Rattle.data.specs.Modifiers.{modifiers-number}
 use Rattle.data.specs.Numbers.{button-number, source-number}
 use Rattle.feed.specs.Encode.{id-words, pos-words, vec-words, float-word}
-use Rattle.model.specs.Types.{Rect, MaybePos2, no-pos, some-pos, MaybeVec2, no-vec, some-vec, MaybeF64, no-time, some-time}
+use Rattle.model.specs.Types.{WidgetRect, Rect, MaybePos2, no-pos, some-pos, MaybeVec2, no-vec, some-vec, MaybeF64, no-time, some-time}
 use Rattle.model.specs.Types.{no-click, some-click, PointerEvent, Moved, Pressed, Released, MaybeMouseWheelSource, no-source, some-source}
 use Rattle.model.specs.Types.{Rotation, Radians, Headings, MultiTouchInfo, MaybeMultiTouchInfo, no-info, some-info}
 use Rattle.model.specs.Interact.{InteractionSnapshot}
@@ -118,3 +118,12 @@ snapshot-words a =
     ++ (maybe-id-words (a .dragged)
     ++ (maybe-id-words (a .drag-stopped)
     ++ (length (a .hovered) ∷ ids-words (a .hovered) ++ (length (a .contains-pointer) ∷ ids-words (a .contains-pointer)))))))
+
+unfoldable pub widget-words : WidgetRect → List ℕ
+widget-words w =
+    w .id ∷ w .«parent_id» ∷ w .«layer_id» .order ∷ w .«layer_id» .id ∷ w .sense ∷ bit-number (w .enabled) ∷ bit-number (w .visible)
+    ∷ rect-words (w .rect) ++ rect-words (w .«interact_rect»)
+
+unfoldable pub widgets-words : List WidgetRect → List ℕ
+widgets-words [] = []
+widgets-words (w ∷ ws) = widget-words w ++ widgets-words ws
