@@ -131,7 +131,8 @@ other-layers-stay =
     lends (replicate 2 (Cases.widget 99 0)) ∷ inserts false (in-layer 21 (layer 2 1)) (21 ∷ 99 ∷ []) ∷ inserts false (in-layer 22 (layer 2 1)) (21 ∷ 22 ∷ [])
     ∷ lends (replicate 3 (Cases.widget 99 0)) ∷ inserts false (in-layer 11 (layer 1 1)) (11 ∷ 99 ∷ 99 ∷ []) ∷ inserts false (in-layer 12 (layer 1 1)) (11 ∷ 12 ∷ 99 ∷ [])
     ∷ inserts false (in-layer 13 (layer 1 1)) (11 ∷ 12 ∷ 13 ∷ []) ∷ inserts true (in-layer 12 (layer 1 1)) (11 ∷ 13 ∷ 12 ∷ [])
-    ∷ stands-at 11 0 ∷ stands-at 13 1 ∷ stands-at 12 2 ∷ stands-at 21 0 ∷ stands-at 22 1 ∷ []
+    ∷ stands-at 11 0 ∷ stands-at 13 1 ∷ stands-at 12 2
+    ∷ inserts true (in-layer 11 (layer 1 1)) (13 ∷ 12 ∷ 11 ∷ []) ∷ stands-at 13 0 ∷ stands-at 12 1 ∷ stands-at 11 2 ∷ stands-at 21 0 ∷ stands-at 22 1 ∷ []
 
 unfoldable pub of-insertion : List (List Step)
 of-insertion = records-refused ∷ thirty-third-layer ∷ full-set ∷ insert-order ∷ short-slices ∷ known-again ∷ other-layers-stay ∷ []
