@@ -35,3 +35,32 @@ pub fn on_wheel_event(
         latest_modifiers,
     );
 }
+
+// From a wheel by value to one that is lent for the event, and back: its callers hold no reference.
+pub fn stepped(
+    w: WheelState,
+    viewport_rect: Rect,
+    options: InputOptions,
+    time: f64,
+    unit: MouseWheelUnit,
+    delta: Vec2,
+    phase: TouchPhase,
+    source: MouseWheelSource,
+    latest_modifiers: Modifiers,
+) -> WheelState
+    ensures { λ r. ⌜ r ≡ on-wheel-event «viewport_rect» options time unit delta phase source «latest_modifiers» w ⌝ }
+{
+    let mut v = w;
+    on_wheel_event(
+        &mut v,
+        viewport_rect,
+        options,
+        time,
+        unit,
+        delta,
+        phase,
+        source,
+        latest_modifiers,
+    );
+    v
+}

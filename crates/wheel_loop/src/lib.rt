@@ -12,7 +12,7 @@ ghost use Rattle.model.specs.Wheel.{wheel-event, wheel-events, wheel-pass};
 ghost use Rattle.event_loop.specs.Shaped.{shaped-at};
 ghost use Rattle.event_loop.specs.Lists.{listed-events, wheel-list};
 
-// Kind 10 is read, and goes straight to its step.
+// Kind 10 is read, and the wheel is lent for its step.
 fn wheel_at(
     w: WheelState,
     viewport_rect: Rect,
@@ -28,7 +28,7 @@ fn wheel_at(
         let Event::MouseWheel(unit, delta, phase, source, modifiers) = e else {
             return w;
         };
-        return wheel_event::on_wheel_event(
+        return wheel_event::lent::stepped(
             w,
             viewport_rect,
             options,

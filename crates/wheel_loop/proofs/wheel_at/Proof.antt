@@ -23,15 +23,15 @@ returns c =
     let k = sym (c .before .before .before .kind-at .ensures) ∙ c .before .before .if1 .taken in
     rw (is-other _ _ 9 _ k (c .before .wheel-at .ensures k) (c .match .keys2) tt)
 
-on-wheel-event-requires : tie.Need-on-wheel-event-requires
-on-wheel-event-requires c κs = search needs
+stepped-requires : tie.Need-stepped-requires
+stepped-requires c κs = search needs
 
 returns-2 : tie.Need-returns-2
 unfolding wheel-event
 returns-2 c =
     let e = c .before .before in
     let k = sym (e .before .before .before .before .kind-at .ensures) ∙ e .before .before .before .if1 .taken in
-    rw (← e .before .before .wheel-at .ensures k, e .e .given .1) (c .on-wheel-event .ensures)
+    rw (← e .before .before .wheel-at .ensures k, e .e .given .1) (c .stepped .ensures)
 
 returns-3 : tie.Need-returns-3
 returns-3 c = sym (wheel-idle _ _ _ _ _ (not-of-kind _ _ 10 (λ e. c .if1 .left (c .before .kind-at .ensures ∙ e)) (λ e. omega arith)))
@@ -44,6 +44,6 @@ wheel-at-spec =
     wheel-at-requires
     enum-known-e
     returns
-    on-wheel-event-requires
+    stepped-requires
     returns-2
     returns-3)
