@@ -105,7 +105,7 @@ unfolding model-Questions.shown model-Questions.zoom-reply model-Questions.zoom-
 model-questions = Type 0
 
 unfoldable pub model-touch : Type 1
-unfolding model-Touch.insert-touch model-Touch.move-touch model-Touch.remove-touch model-Touch.holds model-Touch.on-touch model-Touch.new-device model-Touch.touch-device model-Touch.at-device model-Touch.find-device model-Touch.is-start model-Touch.no-place model-Touch.force-or-zero model-Touch.sum-force model-Touch.sum-pos model-Touch.sum-distance model-Touch.sum-abs-distance2 model-Touch.recip model-Touch.averages model-Touch.center model-Touch.calc-dynamic-state model-Touch.classify-by model-Touch.classify model-Touch.update-gesture model-Touch.forget-previous-if model-Touch.adds-or-removes model-Touch.added-or-removed-touches model-Touch.touch-event model-Touch.touch-events model-Touch.end-touches model-Touch.touch-pass model-Touch.state-previous model-Touch.zoom-quotient model-Touch.zoom-delta-2d model-Touch.info-from model-Touch.info-of model-Touch.info model-Touch.info-at model-Touch.first-of model-Touch.multi-touch model-Touch.some-touch model-Touch.any-touches model-Touch.any-touches-at model-Touch.has-touch-screen
+unfolding model-Touch.insert-touch model-Touch.move-touch model-Touch.remove-touch model-Touch.holds model-Touch.on-touch model-Touch.new-device model-Touch.touch-device model-Touch.at-device model-Touch.find-device model-Touch.is-start model-Touch.no-place model-Touch.force-or-zero model-Touch.sum-force model-Touch.sum-pos model-Touch.sum-distance model-Touch.sum-abs-distance2 model-Touch.recip model-Touch.averages model-Touch.center model-Touch.calc-dynamic-state model-Touch.classify-by model-Touch.classify model-Touch.update-gesture model-Touch.forget-previous-if model-Touch.adds-or-removes model-Touch.added-or-removed-touches model-Touch.touch-event model-Touch.touch-events model-Touch.end-device model-Touch.end-touches model-Touch.touch-pass model-Touch.state-previous model-Touch.zoom-quotient model-Touch.zoom-delta-2d model-Touch.info-from model-Touch.info-of model-Touch.info model-Touch.info-at model-Touch.first-of model-Touch.multi-touch model-Touch.some-touch model-Touch.any-touches model-Touch.any-touches-at model-Touch.has-touch-screen
 model-touch = Type 0
 
 unfoldable pub model-wheel : Type 1

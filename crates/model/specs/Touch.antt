@@ -1,5 +1,5 @@
 -- touch_state.rs: touch devices, ascending by id, each with its touches, ascending by id, and its gesture. Definitions only.
-use Prim.Native.Nat.{ℕ, zero, suc}
+use Prim.Native.Nat.{ℕ, zero, suc, _≤_, _<_}
 use mathlib.Core.Bool.{Bool, true, false, not, _&&_, _||_, cond}
 use mathlib.Core.Option.{Option, none, some}
 use mathlib.Core.List.{List, [], _∷_, _++_, map}
@@ -77,6 +77,39 @@ is-start Cancel = false
 unfoldable pub no-place : TouchPhase → ℕ → ℕ → Option TouchState → Bool
 no-place ph i n none = leb max-devices n
 no-place ph i n (some v) = is-start ph && not (holds i (v .active-touches)) && leb max-touches (length (v .active-touches))
+
+-- ---- devices in order: so they are in every panel reached (theorems `Reach`), and a pass keeps them so
+
+-- every id is above n
+abbrev pub Above : {A : Type 0} → (A → ℕ) → ℕ → List A → Type 0
+Above id n [] = Unit {0}
+Above id n (x ∷ xs) = (n < id x) × Above id n xs
+
+-- ids ascend, without repeats
+abbrev pub Ascending : {A : Type 0} → (A → ℕ) → List A → Type 0
+Ascending id [] = Unit {0}
+Ascending id (x ∷ xs) = Above id (id x) xs × Ascending id xs
+
+abbrev pub device-id-of : TouchState → ℕ
+device-id-of v = v .device-id
+
+abbrev pub touch-id-of : ActiveTouch → ℕ
+touch-id-of t = t .id
+
+-- of a device: its touches ascend; 01: "10 touches held per device"
+pub record TouchesWithin (v : TouchState) : Type 0 where
+  pub ascend : Ascending touch-id-of (v .active-touches)
+  pub limit : length (v .active-touches) ≤ max-touches
+
+abbrev pub AllTouchesWithin : List TouchState → Type 0
+AllTouchesWithin [] = Unit {0}
+AllTouchesWithin (v ∷ vs) = TouchesWithin v × AllTouchesWithin vs
+
+-- of the devices: "Touches go by ascending id", and so do devices; "4 devices ever"
+pub record InOrder (vs : List TouchState) : Type 0 where
+  pub ascend : Ascending device-id-of vs
+  pub limit : length vs ≤ max-devices
+  pub touches : AllTouchesWithin vs
 
 -- ---- the averages of a gesture: `calc_dynamic_state`
 
@@ -197,16 +230,20 @@ unfoldable pub touch-events : List Event → List TouchState → List TouchState
 touch-events [] vs = vs
 touch-events (e ∷ es) vs = touch-events es (touch-event e vs)
 
--- `begin_pass` after its loop over the events
-unfoldable pub end-touches : Float → MaybePos2 → List Event → TouchState → TouchState
-end-touches time p es v =
+-- `begin_pass` after its loop over the events: were touches added or removed in it?
+unfoldable pub end-device : Float → MaybePos2 → Bool → TouchState → TouchState
+end-device time p added-or-removed v =
     record {
       device-id = v .device-id;
       active-touches = v .active-touches;
       gesture-state =
-          forget-previous-if (added-or-removed-touches (v .device-id) es)
+          forget-previous-if added-or-removed
           (update-gesture time (classify (v .active-touches)) (calc-dynamic-state (v .active-touches)) p (v .gesture-state));
     }
+
+-- of the pass's events
+unfoldable pub end-touches : Float → MaybePos2 → List Event → TouchState → TouchState
+end-touches time p es v = end-device time p (added-or-removed-touches (v .device-id) es) v
 
 -- the devices' part of a pass: egui's `begin_pass` of every device
 unfoldable pub touch-pass : Float → MaybePos2 → List Event → List TouchState → List TouchState

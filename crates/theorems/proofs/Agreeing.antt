@@ -16,7 +16,8 @@ use Rattle.model.specs.Pass.{Panel, PassInput, Interaction, begin-pass, clock-p
 use Rattle.model.specs.Interact.{InteractInput, InteractionSnapshot, seen, snapshot, interaction-after, with-interaction, one-if, long-press, could-click, has-pos}
 use Rattle.model.specs.Questions.{Question, settled, time-since-last-click, has-touch-screen, tally, shown, reply, ask}
 use Rattle.theorems.specs.Clearing.{FirstIsPress, Unless, first-button, button-came, may-differ}
-use Rattle.theorems.proofs.Devices.{Ascend, live, touch-pass-ascending, touch-pass-live, info-live, any-touches-at-live, multi-touch-live, any-touches-live}
+use Rattle.model.proofs.InOrder.{Ascend, touch-pass-ascending}
+use Rattle.theorems.proofs.Devices.{live, touch-pass-live, info-live, any-touches-at-live, multi-touch-live, any-touches-live}
 use Rattle.theorems.proofs.Times.{time-in-range}
 use Rattle.theorems.proofs.Trace.{Trace, unpressed, pressed, clicked, equal, pair, Kept, steps, first, could-same, decidedly-same, last-same, click-flag, next-pass}
 use Rattle.theorems.proofs.Taken.{Taken, Answered}

@@ -19,7 +19,8 @@ use Rattle.model.specs.Interact.{InteractInput, InteractionSnapshot, Seen, seen
 use Rattle.theorems.specs.Reach.{NotAfter, Reached}
 use Rattle.theorems.specs.Clearing.{TouchEnd, end-event, EndsAll, Rest, rest-events, FirstIsPress, button-event, first-button, button-came}
 use Rattle.theorems.proofs.Pointer.{PointerView, a-move, a-press, a-release, nothing, pointer-view}
-use Rattle.theorems.proofs.Devices.{Ascend, live, touch-pass-ascending, touch-pass-live}
+use Rattle.model.proofs.InOrder.{Ascend, touch-pass-ascending}
+use Rattle.theorems.proofs.Devices.{live, touch-pass-live}
 use Rattle.theorems.proofs.Times.{time-in-range}
 use Rattle.theorems.proofs.Taken.{Taken, Answered}
 use Rattle.theorems.proofs.Reach.{pass-reaches}
@@ -147,8 +148,8 @@ module _ (c : PassInput) (tc : Float) (rect : Rect) (r : Rest) where
               (nothing-left (seen (cleared-panel c tc rect r w (p .interaction))) x (p .interaction) ends) i;
           no-press = ap (any is-press) events-of-releases ∙ releases-no-press (c .options) now r (p .press);
           last-click = subst (λ (z : Float). NotAfter z (w .past .last-click-time)) time-is (subst (λ (z : Panel). NotAfter (z .clock .time) (z .press .past .last-click-time)) (t .is) (reached₁ .last-click));
-          ascend = subst (λ (z : Panel). Ascend (z .touch-states)) (t .is) (reached₁ .devices-ascend);
-          none-live = rw feed (touches-cleared now (p .place .interact-pos) es r (p .touch-states) (reached .devices-ascend) ended);
+          ascend = subst (λ (z : Panel). Ascend (z .touch-states)) (t .is) (reached₁ .devices .ascend);
+          none-live = rw feed (touches-cleared now (p .place .interact-pos) es r (p .touch-states) (reached .devices .ascend) ended);
         }
       where
         w : Undecided

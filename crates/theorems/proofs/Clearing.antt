@@ -21,7 +21,7 @@ use Rattle.model.specs.Calls.{Call, passes, interacts, Outcome, refused-pass, r
 use Rattle.theorems.specs.Reach.{Reached}
 use Rattle.theorems.specs.Clearing.{Rest, Clears, Takes, FirstIsPress, Unless, first-button, button-came, is-refused, Fair, done, both-refused, both-passed, both-answered}
 use Rattle.theorems.specs.Clearing.{is-no-place, SameAnswer, same-pass-refusal, same-interact-refusal, both-taken, same-snapshot, Same, is-passed, has-click, When, Alike, may-differ, twice, Clearing}
-use Rattle.theorems.proofs.Ids.{impossible}
+use Rattle.model.proofs.Ids.{impossible}
 use Rattle.theorems.proofs.Times.{InRange, in-range, time-in-range}
 use Rattle.theorems.proofs.Taken.{passed-is, answered-is, CallView, pass-refused, pass-taken, interact-refused, interact-taken, call-view}
 use Rattle.theorems.proofs.Reach.{pass-later, pass-reaches, interact-reaches, reach}

@@ -14,13 +14,14 @@ use Rattle.model.specs.Numbers.{+0, one}
 use Rattle.model.specs.Types.{Vec2, Rect, InputOptions, MaybePos2, no-pos, some-pos, MaybeVec2, no-vec, some-vec, no-time, PointerEvent, WheelState, End, ActiveTouch, Event, WindowFocused}
 use Rattle.model.specs.Pointer.{Place, unwrap-or-default, zero-motion, add-motion, with-place, place-event, place-events, clear-history-after, start-place, delta-of, finish-place, end-place, place-pass}
 use Rattle.model.specs.Pointer.{ClickPast, Press, no-buttons, set-down, release-button, release, press-event, press-events, clear-events, press-pass}
-use Rattle.model.specs.Touch.{TouchState, remove-touch, on-touch, new-device, touch-device, at-device, some-touch, calc-dynamic-state, update-gesture, forget-previous-if, touch-event, touch-events, end-touches, touch-pass}
+use Rattle.model.specs.Touch.{TouchState, remove-touch, on-touch, new-device, touch-device, at-device, some-touch, calc-dynamic-state, update-gesture, forget-previous-if, touch-event, touch-events, end-device, end-touches, touch-pass}
 use Rattle.model.specs.Wheel.{on-phase, on-wheel-event, wheel-event, wheel-events, stopped-wheel, after-events, clear-smooth, wheel-pass}
 use Rattle.model.specs.Pass.{Panel, PassInput, Keys, Interaction, fresh, pass-events, key-event, key-events, is-empty, keys-pass, zoom-event, zoom-of, rotation-event, rotation-of, sums-of, time-or, time-of, rect-or, clock-pass, screen-pass, begin-pass}
 use Rattle.theorems.specs.Clearing.{TouchEnd, end-event, is-ended, EndsTouches, EndsAll, Rest, rest-events}
-use Rattle.theorems.proofs.Ids.{eqb-no, eqb-yes, less, equal, more, order, above-down}
-use Rattle.theorems.specs.Reach.{device-id-of}
-use Rattle.theorems.proofs.Devices.{Ascend, AboveAll, at-less, at-same, at-more, event-ascending, has-gesture, is-live, live, live-no}
+use Rattle.model.proofs.Ids.{eqb-no, eqb-yes, less, equal, more, order, above-down}
+use Rattle.model.specs.Touch.{device-id-of}
+use Rattle.model.proofs.InOrder.{Ascend, AboveAll, at-less, at-same, at-more, event-ascending}
+use Rattle.theorems.proofs.Devices.{has-gesture, is-live, live, live-no}
 
 -- ---- the Ends change nothing but touches
 abbrev pub ends-then : List TouchEnd → List Event → List Event
@@ -308,7 +309,7 @@ ends-leave-none [] r vs a h = none-left vs h
 ends-leave-none (e ∷ es) r vs a h = ends-leave-none es r (touch-event (end-event e) vs) (event-ascending (end-event e) vs a) (ends-step e es vs a h)
 
 gesture-ends : (time : Float) (p : MaybePos2) (ev : List Event) (v : TouchState) → v .active-touches ≡ [] → is-live (end-touches time p ev v) ≡ false
-unfolding is-live end-touches calc-dynamic-state update-gesture forget-previous-if some-touch has-gesture
+unfolding is-live end-touches end-device calc-dynamic-state update-gesture forget-previous-if some-touch has-gesture
 gesture-ends time p ev v e = rw e
 
 none-live : (time : Float) (p : MaybePos2) (ev : List Event) (vs : List TouchState) → NoTouches vs → live (map (end-touches time p ev) vs) ≡ []

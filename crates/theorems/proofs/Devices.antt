@@ -1,96 +1,18 @@
 -- Touch devices: those that hold no touch and no gesture answer nothing, so two panels that know different ones, but hold the same touches, answer alike.
 -- Assumes nothing.
 use Prim.Native.Nat.{ℕ, _<_}
-use native.Mathlib.Omega.{arith}
 use mathlib.Core.Path.{_≡_, refl, sym, ap, _∙_}
 use mathlib.Core.Bool.{Bool, true, false, _||_, cond, true≢false}
 use mathlib.Core.Option.{Option, none, some}
 use mathlib.Core.List.{List, [], _∷_, map}
 use lib.Dec.{T, eqb, eqb→eq}
 use lib.Ieee.{Float}
-use Rattle.model.specs.Types.{Pos2, MaybePos2, MaybeF32, TouchPhase, ActiveTouch, MaybeGestureState, no-gesture, some-gesture, no-info}
-use Rattle.model.specs.Types.{Event, Key, ModifiersChanged, PointerMoved, MouseMoved, Button, PointerGone, Zoom, Rotate, Touch, MouseWheel, WindowFocused, Other}
-use Rattle.model.specs.Touch.{TouchState, new-device, touch-device, at-device, find-device, calc-dynamic-state, update-gesture, forget-previous-if, touch-event, touch-events, end-touches, touch-pass}
+use Rattle.model.specs.Types.{MaybePos2, ActiveTouch, MaybeGestureState, no-gesture, some-gesture, no-info, Event}
+use Rattle.model.specs.Touch.{TouchState, new-device, touch-device, at-device, find-device, calc-dynamic-state, update-gesture, forget-previous-if, touch-event, touch-events, end-device, end-touches, touch-pass}
 use Rattle.model.specs.Touch.{info, info-of, info-at, first-of, multi-touch, some-touch, any-touches, any-touches-at}
-use Rattle.theorems.specs.Reach.{Above, Ascending, device-id-of}
-use Rattle.theorems.proofs.Ids.{eqb-no, eqb-yes, ltb-yes, ltb-no, less, equal, more, order, above-down}
-
-abbrev pub AboveAll : ℕ → List TouchState → Type 0
-AboveAll n vs = Above device-id-of n vs
-
-abbrev pub Ascend : List TouchState → Type 0
-Ascend vs = Ascending device-id-of vs
-
--- ---- an event is a touch, or nothing to the devices
-pub data TouchView : Event → Type 0 where
-  a-touch : (d i : ℕ) (phase : TouchPhase) (pos : Pos2) (force : MaybeF32) → TouchView (Touch d i phase pos force)
-  no-touch : {e : Event} → ((vs : List TouchState) → touch-event e vs ≡ vs) → TouchView e
-
-pub touch-view : (e : Event) → TouchView e
-unfolding touch-event
-touch-view (Key k b) = no-touch (λ vs. refl)
-touch-view (ModifiersChanged m) = no-touch (λ vs. refl)
-touch-view (PointerMoved p) = no-touch (λ vs. refl)
-touch-view (MouseMoved v) = no-touch (λ vs. refl)
-touch-view (Button p b d m) = no-touch (λ vs. refl)
-touch-view PointerGone = no-touch (λ vs. refl)
-touch-view (Zoom x) = no-touch (λ vs. refl)
-touch-view (Rotate x) = no-touch (λ vs. refl)
-touch-view (Touch d i ph p f) = a-touch d i ph p f
-touch-view (MouseWheel u v ph s m) = no-touch (λ vs. refl)
-touch-view (WindowFocused b) = no-touch (λ vs. refl)
-touch-view Other = no-touch (λ vs. refl)
-
-abbrev pub touch-of : ℕ → Pos2 → MaybeF32 → ActiveTouch
-touch-of i p f = record { id = i; pos = p; force = f }
-
-pub touch-event-is : (d i : ℕ) (ph : TouchPhase) (p : Pos2) (f : MaybeF32) (vs : List TouchState) → touch-event (Touch d i ph p f) vs ≡ at-device d (touch-device ph (touch-of i p f)) vs
-unfolding touch-event
-touch-event-is d i ph p f vs = refl
-
--- ---- a step at one device
-module _ (d : ℕ) (f : TouchState → TouchState) where
-  pub at-less : (v : TouchState) (vs : List TouchState) → d < v .device-id → at-device d f (v ∷ vs) ≡ f (new-device d) ∷ v ∷ vs
-  unfolding at-device
-  at-less v vs h = rw (ltb-yes d (v .device-id) h)
-
-  pub at-same : (v : TouchState) (vs : List TouchState) → d ≡ v .device-id → at-device d f (v ∷ vs) ≡ f v ∷ vs
-  unfolding at-device
-  at-same v vs h = rw (h, ltb-no (v .device-id) (v .device-id) (omega arith), eqb-yes (v .device-id))
-
-  pub at-more : (v : TouchState) (vs : List TouchState) → v .device-id < d → at-device d f (v ∷ vs) ≡ v ∷ at-device d f vs
-  unfolding at-device
-  at-more v vs h = rw (ltb-no d (v .device-id) (omega arith), eqb-no d (v .device-id) (λ e. omega arith))
-
-  at-front : (vs : List TouchState) → AboveAll d vs → at-device d f vs ≡ f (new-device d) ∷ vs
-  unfolding at-device
-  at-front [] a = refl
-  at-front (v ∷ vs) a = at-less v vs (a .0)
-
-module _ (d : ℕ) (f : TouchState → TouchState) (keeps : (v : TouchState) → f v .device-id ≡ v .device-id) where
-  new-id : f (new-device d) .device-id ≡ d
-  unfolding new-device
-  new-id = keeps (new-device d)
-
-  at-above : (n : ℕ) (vs : List TouchState) → n < d → AboveAll n vs → AboveAll n (at-device d f vs)
-  unfolding at-device
-  at-above n [] h a = (rw new-id h, tt)
-  at-above n (v ∷ vs) h a =
-      elim (order d (v .device-id)) [
-        | less l ↦ rw (at-less d f v vs l) (rw new-id h, a)
-        | equal e ↦ rw (at-same d f v vs e) (rw (keeps v) (a .0), a .1)
-        | more l ↦ rw (at-more d f v vs l) (a .0, at-above n vs h (a .1))
-      ]
-
-  pub at-ascending : (vs : List TouchState) → Ascend vs → Ascend (at-device d f vs)
-  unfolding at-device
-  at-ascending [] a = (tt, tt)
-  at-ascending (v ∷ vs) a =
-      elim (order d (v .device-id)) [
-        | less l ↦ rw (at-less d f v vs l) (rw new-id (l, above-down device-id-of d (v .device-id) vs l (a .0)), a)
-        | equal e ↦ rw (at-same d f v vs e) (rw (keeps v) (a .0), a .1)
-        | more l ↦ rw (at-more d f v vs l) (at-above (v .device-id) vs l (a .0), at-ascending vs (a .1))
-      ]
+use Rattle.model.specs.Touch.{device-id-of}
+use Rattle.model.proofs.Ids.{less, equal, more, order, above-down}
+use Rattle.model.proofs.InOrder.{AboveAll, Ascend, TouchView, a-touch, no-touch, touch-view, touch-of, touch-event-is, at-front, at-same, at-more, find-above, event-ascending}
 
 -- ---- a device that holds a touch or a gesture
 unfoldable pub has-gesture : MaybeGestureState → Bool
@@ -189,17 +111,6 @@ live-at d f (v ∷ vs) a =
         ap live (at-more d f v vs l) ∙ live-no v (live (at-device d f vs)) n ∙ ih ∙ ap (λ (z : List TouchState). live (at-device d f z)) (sym (live-no v (live vs) n))
 
 -- ---- the events of a feed
-pub keeps-id : (ph : TouchPhase) (t : ActiveTouch) (v : TouchState) → touch-device ph t v .device-id ≡ v .device-id
-unfolding touch-device
-keeps-id ph t v = refl
-
-pub event-ascending : (e : Event) (vs : List TouchState) → Ascend vs → Ascend (touch-event e vs)
-event-ascending e vs a = go (touch-view e)
-  where
-    go : {e : Event} → TouchView e → Ascend (touch-event e vs)
-    go (a-touch d i ph p f) = rw (touch-event-is d i ph p f vs) (at-ascending d (touch-device ph (touch-of i p f)) (keeps-id ph (touch-of i p f)) vs a)
-    go (no-touch k) = rw (k vs) a
-
 event-live : (e : Event) (vs ws : List TouchState) → Ascend vs → Ascend ws → live vs ≡ live ws → live (touch-event e vs) ≡ live (touch-event e ws)
 event-live e vs ws a b h = go (touch-view e)
   where
@@ -209,11 +120,6 @@ event-live e vs ws a b h = go (touch-view e)
         rw (touch-event-is d i ph p f vs, touch-event-is d i ph p f ws) (live-at d g vs a ∙ ap (λ (z : List TouchState). live (at-device d g z)) h ∙ sym (live-at d g ws b))
     go (no-touch k) = rw (k vs, k ws) h
 
-pub events-ascending : (es : List Event) (vs : List TouchState) → Ascend vs → Ascend (touch-events es vs)
-unfolding touch-events
-events-ascending [] vs a = a
-events-ascending (e ∷ es) vs a = events-ascending es (touch-event e vs) (event-ascending e vs a)
-
 events-live : (es : List Event) (vs ws : List TouchState) → Ascend vs → Ascend ws → live vs ≡ live ws → live (touch-events es vs) ≡ live (touch-events es ws)
 unfolding touch-events
 events-live [] vs ws a b h = h
@@ -222,7 +128,7 @@ events-live (e ∷ es) vs ws a b h =
 
 -- ---- a gesture's step
 dead-again : (time : Float) (p : MaybePos2) (es : List Event) (v : TouchState) → is-live v ≡ false → is-live (end-touches time p es v) ≡ false
-unfolding end-touches new-device calc-dynamic-state update-gesture forget-previous-if is-live some-touch has-gesture
+unfolding end-touches end-device new-device calc-dynamic-state update-gesture forget-previous-if is-live some-touch has-gesture
 dead-again time p es v h = rw (dead-is v h)
 
 map-live : (time : Float) (p : MaybePos2) (es : List Event) (vs : List TouchState) → live (map (end-touches time p es) vs) ≡ live (map (end-touches time p es) (live vs))
@@ -237,21 +143,7 @@ map-live time p es (v ∷ vs) = go (which (is-live v)) (map-live time p es vs)
     go (on y) ih = ap (keep (g v)) ih ∙ ap (λ (z : List TouchState). live (map g z)) (sym (live-yes v (live vs) y))
     go (off n) ih = live-no (g v) (live (map g vs)) (dead-again time p es v n) ∙ ih ∙ ap (λ (z : List TouchState). live (map g z)) (sym (live-no v (live vs) n))
 
-map-above : (time : Float) (p : MaybePos2) (es : List Event) (n : ℕ) (vs : List TouchState) → AboveAll n vs → AboveAll n (map (end-touches time p es) vs)
-unfolding end-touches
-map-above time p es n [] a = tt
-map-above time p es n (v ∷ vs) a = (a .0, map-above time p es n vs (a .1))
-
-pub map-ascending : (time : Float) (p : MaybePos2) (es : List Event) (vs : List TouchState) → Ascend vs → Ascend (map (end-touches time p es) vs)
-unfolding end-touches
-map-ascending time p es [] a = tt
-map-ascending time p es (v ∷ vs) a = (map-above time p es (v .device-id) vs (a .0), map-ascending time p es vs (a .1))
-
 -- ---- the devices' part of a pass
-pub touch-pass-ascending : (time : Float) (p : MaybePos2) (es : List Event) (vs : List TouchState) → Ascend vs → Ascend (touch-pass time p es vs)
-unfolding touch-pass
-touch-pass-ascending time p es vs a = map-ascending time p es (touch-events es vs) (events-ascending es vs a)
-
 pub touch-pass-live : (time : Float) (p : MaybePos2) (es : List Event) (vs ws : List TouchState) → Ascend vs → Ascend ws → live vs ≡ live ws → live (touch-pass time p es vs) ≡ live (touch-pass time p es ws)
 unfolding touch-pass
 touch-pass-live time p es vs ws a b h =
@@ -259,11 +151,6 @@ touch-pass-live time p es vs ws a b h =
     ∙ sym (map-live time p es (touch-events es ws))
 
 -- ---- what devices answer, those that are not live do not
-pub find-above : (d : ℕ) (vs : List TouchState) → AboveAll d vs → find-device d vs ≡ none
-unfolding find-device
-find-above d [] a = refl
-find-above d (v ∷ vs) a = rw (eqb-no d (v .device-id) (λ e. let x = a .0 in omega arith)) (find-above d vs (a .1))
-
 module _ {A : Type 0} (f : Option TouchState → A) (mute : (v : TouchState) → is-live v ≡ false → f (some v) ≡ f none) where
   find-live : (d : ℕ) (vs : List TouchState) → Ascend vs → f (find-device d vs) ≡ f (find-device d (live vs))
   unfolding find-device live

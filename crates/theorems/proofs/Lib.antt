@@ -1,6 +1,5 @@
 -- Demand 3 and what every panel reached has, proved. Assumes nothing.
 pub mod Balance
-mod Ids
 mod Devices
 mod TouchLimits
 mod Taken

@@ -1,6 +1,5 @@
 -- What holds of every panel reached: an invariant of each call. Assumes nothing.
 use Prim.Native.Nat.{_+_}
-use native.Mathlib.Omega.{arith}
 use mathlib.Core.Path.{refl, sym, subst}
 use mathlib.Core.Bool.{Bool, true, false, _&&_}
 use mathlib.Core.List.{List, [], _∷_}
@@ -21,7 +20,8 @@ use Rattle.model.specs.Calls.{Call, Outcome, call, after, run}
 use Rattle.theorems.specs.Reach.{NotAfter, never, by, Reached, Reach, TimeNeverFalls, AbsentTimeNeverBelow}
 use Rattle.theorems.proofs.Pointer.{PointerView, a-move, a-press, a-release, nothing, pointer-view}
 use Rattle.theorems.proofs.Times.{time-in-range, +0-time-ok, not-after-later}
-use Rattle.theorems.proofs.TouchLimits.{Within, touch-pass-within}
+use Rattle.model.proofs.InOrder.{none-in-order}
+use Rattle.theorems.proofs.TouchLimits.{touch-pass-in-order}
 use Rattle.theorems.proofs.Taken.{Taken, Answered, CallView, pass-refused, pass-taken, interact-refused, interact-taken, call-view}
 
 -- ---- clicks
@@ -55,16 +55,12 @@ pass-reaches p i q r t =
     let now = time-of i (p .clock .time) in
     let es = pass-events i in
     let f : T (finite now) = time-in-range now (t .in-domain) .is-finite in
-    let w : Within (p .touch-states) = record { ascend = r .devices-ascend; limit = r .device-limit; touches = r .touches } in
-    let v = touch-pass-within now (p .place .interact-pos) max-events (items (i .feed)) (p .touch-states) w (t .surveyed) in
     let z : Reached (begin-pass p i) =
     record {
       time-finite = f;
       time-in-domain = t .in-domain;
       last-click = events-not-after (i .options) now es (record { held = clear-events (p .press .held); past = p .press .past }) (by f (le-refl now f)) (not-after-later (p .clock .time) now (p .press .past .last-click-time) (pass-later p i q r t) (r .last-click));
-      devices-ascend = v .ascend;
-      device-limit = v .limit;
-      touches = v .touches;
+      devices = touch-pass-in-order now (p .place .interact-pos) max-events (items (i .feed)) (p .touch-states) (r .devices) (t .surveyed);
     } in
     subst (λ (x : Panel). Reached x) (sym (t .is)) z
 
@@ -72,7 +68,7 @@ pub interact-reaches : (p : Panel) (x : InteractInput) (s : InteractionSnapshot)
 unfolding with-interaction
 interact-reaches p x s q r t =
     subst (λ (z : Panel). Reached z) (sym (t .is))
-    (record { time-finite = r .time-finite; time-in-domain = r .time-in-domain; last-click = r .last-click; devices-ascend = r .devices-ascend; device-limit = r .device-limit; touches = r .touches })
+    (record { time-finite = r .time-finite; time-in-domain = r .time-in-domain; last-click = r .last-click; devices = r .devices })
 
 call-reaches : (p : Panel) (c : Call) → Reached p → Reached (after p (call p c))
 unfolding after
@@ -91,7 +87,7 @@ run-reaches p (c ∷ cs) r = run-reaches (after p (call p c)) cs (call-reaches p
 
 pub reach : Reach
 unfolding fresh fresh-press
-reach cs = run-reaches fresh cs (record { time-finite = tt; time-in-domain = +0-time-ok; last-click = never refl; devices-ascend = tt; device-limit = omega arith; touches = tt })
+reach cs = run-reaches fresh cs (record { time-finite = tt; time-in-domain = +0-time-ok; last-click = never refl; devices = none-in-order })
 
 -- ---- time never falls
 call-later : (p : Panel) (c : Call) → Reached p → T (le (p .clock .time) (after p (call p c) .clock .time))

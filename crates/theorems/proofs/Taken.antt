@@ -15,7 +15,7 @@ use Rattle.model.specs.Pass as P
 use Rattle.model.specs.Interact.{InteractInput, InteractionSnapshot, Interacted, seen, interact, interact-by, input-refusal, tallied, snapshot, interaction-after, with-interaction, one-if, is-some}
 use Rattle.model.specs.Interact as I
 use Rattle.model.specs.Calls.{Call, passes, interacts, Outcome, refused-pass, refused-interact, passed, answered, of-pass, of-interact, call}
-use Rattle.theorems.proofs.Ids.{impossible}
+use Rattle.model.proofs.Ids.{impossible}
 
 -- ---- a taken pass
 pub record Taken (p : Panel) (i : PassInput) (q : Panel) : Type 0 where

@@ -14,7 +14,7 @@ use Rattle.model.specs.Pointer.{add-event, press-button, release-button, with-m
 use Rattle.model.specs.Pass.{or-else}
 use Rattle.theorems.specs.Reach.{NotAfter, never, by}
 use Rattle.theorems.specs.Clearing.{FirstIsPress, button-event, first-button, button-came}
-use Rattle.theorems.proofs.Ids.{false-of}
+use Rattle.model.proofs.Ids.{false-of}
 use Rattle.theorems.proofs.Pointer.{PointerView, a-move, a-press, a-release, nothing, pointer-view}
 
 -- ---- times, for delays of at most D

@@ -6,7 +6,7 @@ use mathlib.Core.Path.{_≡_, refl}
 use mathlib.Core.Bool.{Bool, true, false, not}
 use mathlib.Core.List.{List, [], _∷_}
 use lib.Dec.{T, ltb, eqb, ltb→lt, lt→ltb, nltb→le, eqb→eq, eqb-refl}
-use Rattle.theorems.specs.Reach.{Above}
+use Rattle.model.specs.Touch.{Above}
 
 -- where two constructors are claimed equal, `cc` proves 0 ≡ 1
 pub impossible : {A : Type 0} → _≡_ {A = ℕ} 0 1 → A
