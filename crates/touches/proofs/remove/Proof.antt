@@ -5,8 +5,6 @@ use borrow.Author.Needs.{needs}
 use native.Mathlib.Omega.{arith}
 use lib.ListN.{length, length-map, length-set}
 use mathlib.Core.Logic.{⊎-elim}
-use mathlib.Core.Path.{sym}
-use borrow.Author.Tests.{eq-eqb, ne-eqb}
 use Rattle.touches.proofs.Places.{first-of, first-le}
 use Rattle.touches.proofs.Removal.{kept as held, kept-start, keeps, drops, kept-end}
 use Rattle.touches.proofs.remove.Statement.{statement}
@@ -55,8 +53,8 @@ loop-again c =
     let v = c .before .before .before .before .loop .inv in
     let h = c .before .before .before .loop-test .taken in
     ⊎-elim
-    (λ w. (omega arith, omega arith, v .2, rw (w .1, length-set) (v .3), rw (w .1, w .2) (keeps _ _ _ _ _ _ h (omega arith) (v .0) (ne-eqb _ _ (λ e. w .0 .taken (sym e))) ∙ v .4)))
-    (λ w. (omega arith, omega arith, v .2, rw (w .1) (v .3), rw (w .1, w .2) (drops _ _ _ _ _ _ h (omega arith) (eq-eqb _ _ (sym (w .0 .left))) ∙ v .4)))
+    (λ w. (omega arith, omega arith, v .2, rw (w .1, length-set) (v .3), rw (w .1, w .2) (keeps _ _ _ _ _ _ h (omega arith) (v .0) (w .0 .taken) ∙ v .4)))
+    (λ w. (omega arith, omega arith, v .2, rw (w .1) (v .3), rw (w .1, w .2) (drops _ _ _ _ _ _ h (omega arith) (w .0 .left) ∙ v .4)))
     (c .if1 .came)
 
 returns : tie.Need-returns Inv-loop μ-loop
