@@ -7,6 +7,7 @@ use mathlib.Core.List.{List, [], _∷_}
 use native.Mathlib.Omega.{arith}
 use Rattle.data.specs.Limits.{max-tally}
 use Rattle.model.specs.Types.{PassRefusal}
+use Rattle.model.specs.Touch.{InOrder}
 use Rattle.model.specs.Pass.{Panel, PassInput, fresh}
 use Rattle.model.specs.Interact.{InteractInput, InteractionSnapshot, interact, with-interaction}
 use Rattle.model.specs.Calls.{Call, passes, interacts, Outcome, refused-interact, passed, answered, of-pass, of-interact, call, after, run, outcomes}
@@ -15,7 +16,6 @@ use Rattle.theorems.specs.Clearing.{Clears, Takes, Fair, Alike, twice}
 use Rattle.theorems.proofs.Balance.{balance}
 use Rattle.theorems.proofs.Clearing.{clearing}
 use Rattle.survey.specs.Survey.{option}
-use Rattle.survey.specs.Laws.{InOrder}
 use Rattle.survey.proofs.Formed.{none-in-order}
 use Rattle.touch_state.specs.declared.devices.Devices.{Devices}
 use Rattle.touch_state.specs.View.{view}

@@ -10,7 +10,7 @@ use Rattle.data.specs.Limits.{max-events}
 use Rattle.feed.specs.Decode.{items}
 use Rattle.feed.specs.Feed.{events-of}
 use Rattle.model.specs.Types.{PassRefusal, MaybePos2}
-use Rattle.model.specs.Touch.{TouchState, touch-events, touch-pass, end-touches}
+use Rattle.model.specs.Touch.{TouchState, InOrder, touch-events, touch-pass, end-touches}
 use Rattle.model.specs.Pass.{Panel, Interaction, or-else, own-refusal, time-of, time-or, fresh, pass-events, begin-pass, pass-refusal, pass-by, pass}
 use Rattle.model.specs.Pass as Pass
 use Rattle.event_loop.specs.Shaped.{shaped-events}
@@ -20,10 +20,9 @@ use Rattle.touch_state.specs.declared.devices.Devices.{Devices}
 use Rattle.survey.specs.Survey.{option, fits-events, fits-survey, crowd-then}
 use Rattle.survey.specs.declared.reading.Reading.{Reading}
 use Rattle.survey.proofs.Places.{survey-is, none-refused, devices-are}
-use Rattle.survey.specs.Laws.{InOrder}
 use Rattle.survey.proofs.Formed.{survey-law, events-law, end-law}
 use Rattle.survey.proofs.Accepted.{accepted}
-use Rattle.touch_ends.proofs.Marks.{ended-own}
+use Rattle.touch_ends.proofs.Ended.{ended-own}
 use Rattle.input_state.specs.declared.input.PassInput.{PassInput}
 use Rattle.input_state.specs.declared.state.InputState.{InputState}
 use Rattle.input_state.specs.View.{Lent, panel, time-given, input, begin-by, Acted}

@@ -8,7 +8,7 @@ use lib.Ieee.{Float}
 use Rattle.data.specs.Limits.{max-events}
 use Rattle.feed.specs.Decode.{items}
 use Rattle.model.specs.Types.{PassRefusal}
-use Rattle.model.specs.Touch.{TouchState}
+use Rattle.model.specs.Touch.{TouchState, InOrder}
 use Rattle.model.specs.Pass.{Panel, Interaction, or-else, own-refusal, pass-events, pass}
 use Rattle.model.specs.Pass as Pass
 use Rattle.event_loop.specs.Lists.{touch-list}
@@ -16,7 +16,6 @@ use Rattle.touch_state.specs.View.{view}
 use Rattle.touch_state.specs.declared.devices.Devices.{Devices}
 use Rattle.survey.specs.declared.reading.Reading.{Reading}
 use Rattle.survey.specs.Survey.{option, fits-events, fits-survey, Read}
-use Rattle.survey.specs.Laws.{InOrder}
 use Rattle.input_state.specs.declared.input.PassInput.{PassInput}
 use Rattle.input_state.specs.declared.state.InputState.{InputState}
 use Rattle.input_pass.specs.declared.begin.Begun as declared

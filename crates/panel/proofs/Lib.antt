@@ -1,4 +1,3 @@
 pub mod Listed
 pub mod Lookup
 pub mod Seen
-pub mod Start

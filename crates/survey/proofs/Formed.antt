@@ -1,97 +1,47 @@
--- Devices in order. Assumes nothing.
-use mathlib.Core.Path.{_≡_, refl, sym, ap, _∙_, subst}
+-- Devices in order: what the survey takes fits. Assumes nothing.
+use mathlib.Core.Path.{_≡_, refl, sym, ap, _∙_}
 use mathlib.Core.Bool.{Bool, true, false, cond}
-use mathlib.Core.List.{List, [], _∷_, map}
-use mathlib.Core.Option.{Option, none, some}
-use Prim.Native.Nat.{ℕ, zero, suc, _≤_, _<_}
-use lib.ListN.{length, length-map}
-use lib.Ieee.{Float}
-use Rattle.feed.specs.Decode.{Decoded, good, malformed, outside-domain, Item}
+use mathlib.Core.List.{List, [], _∷_}
+use mathlib.Core.Option.{none, some}
+use Prim.Native.Nat.{zero, suc}
+use Rattle.feed.specs.Decode.{Decoded, good, malformed, outside-domain}
 use Rattle.feed.specs.Feed.{then-events, events-of}
-use Rattle.model.specs.Types.{MaybePos2, PassRefusal, NoPlace}
+use Rattle.model.specs.Types.{NoPlace}
 use Rattle.model.specs.Types.{Event, Key, ModifiersChanged, PointerMoved, MouseMoved, Button, PointerGone, Zoom, Rotate, Touch, MouseWheel, WindowFocused, Other}
-use Rattle.model.specs.Touch.{TouchState, touch-event, touch-events, end-touches}
+use Rattle.model.specs.Touch.{TouchState, InOrder, touch-event, touch-events}
 use Rattle.model.specs.Pass.{or-else, crowded, item-refusal, item-devices, survey}
-use Rattle.touches.specs.Touches.{touch-id}
-use Rattle.touch_device.specs.View.{Marked}
-use Rattle.touch_state.specs.Marks.{devices-of, marked-event, Above, Ascending, marked-id, Formed, AllFormed, WellFormed}
-use Rattle.touch_state.proofs.Marks.{step-law, fresh-law}
+use Rattle.model.proofs.InOrder as Model
+use Rattle.touch_state.proofs.Steps.{step-law}
 use Rattle.survey.specs.Survey.{fits-event, fits-events, fits-item, fits-survey}
-use Rattle.survey.specs.Laws.{unmarked, InOrder, NoneInOrder, SurveyLaw, EventsLaw, EndLaw}
-use Rattle.survey.proofs.Fits.{step-bare}
+use Rattle.survey.specs.Laws.{NoneInOrder, SurveyLaw, EventsLaw, EndLaw}
 use Rattle.survey.proofs.Places.{none-some}
 
--- ---- the order goes by ids and touches alone
-module _ {A B : Type 0} (key : A → ℕ) (key' : B → ℕ) (g : A → B) (same : (a : A) → key' (g a) ≡ key a) where
-  above-map : (d : ℕ) (us : List A) → Above key d us → Above key' d (map g us)
-  unfolding Above
-  above-map d [] h = h
-  above-map d (u ∷ us) (a, h) = (rw (same u) a, above-map d us h)
-
-  ascending-map : (us : List A) → Ascending key us → Ascending key' (map g us)
-  unfolding Ascending
-  ascending-map [] h = h
-  ascending-map (u ∷ us) (a, h) = (rw (same u) (above-map (key u) us a), ascending-map us h)
-
-module _ (g : Marked → Marked) (same-id : (m : Marked) → marked-id (g m) ≡ marked-id m)
-    (same-touches : (m : Marked) → g m .device .active-touches ≡ m .device .active-touches) where
-  formed : (m : Marked) → Formed m → Formed (g m)
-  formed m f = record { ids = rw (same-touches m) (f .ids); room = rw (same-touches m) (f .room) }
-
-  all-formed : (ms : List Marked) → AllFormed ms → AllFormed (map g ms)
-  unfolding AllFormed
-  all-formed [] h = h
-  all-formed (m ∷ ms) (f, h) = (formed m f, all-formed ms h)
-
-  kept : (ms : List Marked) → WellFormed ms → WellFormed (map g ms)
-  kept ms w = record { ids = ascending-map marked-id marked-id g same-id ms (w .ids); room = rw (length-map ms g) (w .room); each = all-formed ms (w .each) }
-
--- ---- marked or not
-bare-unmarked : (vs : List TouchState) → devices-of (map unmarked vs) ≡ vs
-bare-unmarked [] = refl
-bare-unmarked (v ∷ vs) = ap (λ (us : List TouchState). v ∷ us) (bare-unmarked vs)
-
-abbrev unmark : Marked → Marked
-unmark m = unmarked (m .device)
-
-unmark-all : (ms : List Marked) → map unmark ms ≡ map unmarked (devices-of ms)
-unmark-all [] = refl
-unmark-all (m ∷ ms) = ap (λ (us : List Marked). unmark m ∷ us) (unmark-all ms)
-
-in-order : (ms : List Marked) → WellFormed ms → InOrder (devices-of ms)
-in-order ms w = rw unmark-all at (kept unmark (λ m. refl) (λ m. refl) ms w)
-
 -- ---- an event
-fits-marked : (e : Event) (ms : List Marked) → devices-of (marked-event e ms) ≡ fits-event e (devices-of ms)
-unfolding marked-event fits-event
-fits-marked (Key k b) ms = refl
-fits-marked (ModifiersChanged m) ms = refl
-fits-marked (PointerMoved v) ms = refl
-fits-marked (MouseMoved v) ms = refl
-fits-marked (Button v b c m) ms = refl
-fits-marked PointerGone ms = refl
-fits-marked (Zoom x) ms = refl
-fits-marked (Rotate x) ms = refl
-fits-marked (Touch d i ph p f) ms = step-bare d ph (record { id = i; pos = p; force = f }) ms
-fits-marked (MouseWheel u v ph s m) ms = refl
-fits-marked (WindowFocused b) ms = refl
-fits-marked Other ms = refl
+event-fits : (e : Event) (vs : List TouchState) → InOrder vs → crowded e vs ≡ false → (fits-event e vs ≡ touch-event e vs) × InOrder (fits-event e vs)
+unfolding fits-event touch-event crowded
+event-fits (Key k b) vs o h = (refl, o)
+event-fits (ModifiersChanged m) vs o h = (refl, o)
+event-fits (PointerMoved v) vs o h = (refl, o)
+event-fits (MouseMoved v) vs o h = (refl, o)
+event-fits (Button v b c m) vs o h = (refl, o)
+event-fits PointerGone vs o h = (refl, o)
+event-fits (Zoom x) vs o h = (refl, o)
+event-fits (Rotate x) vs o h = (refl, o)
+event-fits (Touch d i ph p f) vs o h = step-law d ph (record { id = i; pos = p; force = f }) vs o h
+event-fits (MouseWheel u v ph s m) vs o h = (refl, o)
+event-fits (WindowFocused b) vs o h = (refl, o)
+event-fits Other vs o h = (refl, o)
 
 module _ (e : Event) (vs : List TouchState) (o : InOrder vs) (free : crowded e vs ≡ false) where
-  abbrev law : (devices-of (marked-event e (map unmarked vs)) ≡ touch-event e (devices-of (map unmarked vs))) × WellFormed (marked-event e (map unmarked vs))
-  law = step-law e (map unmarked vs) o (rw (bare-unmarked vs) free)
-
   event-is : fits-event e vs ≡ touch-event e vs
-  event-is = rw (bare-unmarked vs) at (sym (fits-marked e (map unmarked vs)) ∙ law .0)
+  event-is = event-fits e vs o free .0
 
   event-keeps : InOrder (fits-event e vs)
-  event-keeps =
-      let m : devices-of (marked-event e (map unmarked vs)) ≡ fits-event e vs = fits-marked e (map unmarked vs) ∙ rw (bare-unmarked vs) in
-      rw m at (in-order (marked-event e (map unmarked vs)) (law .1))
+  event-keeps = event-fits e vs o free .1
 
 -- ---- all of them
 pub none-in-order : NoneInOrder
-none-in-order = fresh-law .0
+none-in-order = Model.none-in-order
 
 pub survey-law : SurveyLaw
 unfolding fits-survey survey item-refusal fits-item item-devices or-else
@@ -130,24 +80,5 @@ events-law (suc left) (i ∷ is) vs o h = go (i .what) h (λ us q k. events-law 
     go malformed h later = none-some (sym h)
     go outside-domain h later = none-some (sym h)
 
-module _ (time : Float) (p : MaybePos2) (es : List Event) where
-  abbrev ended : Marked → Marked
-  ended m = unmarked (end-touches time p es (m .device))
-
-  ended-all : (vs : List TouchState) → map ended (map unmarked vs) ≡ map unmarked (map (end-touches time p es) vs)
-  ended-all [] = refl
-  ended-all (v ∷ vs) = ap (λ (us : List Marked). ended (unmarked v) ∷ us) (ended-all vs)
-
-  same-id : (m : Marked) → marked-id (ended m) ≡ marked-id m
-  unfolding end-touches
-  same-id m = refl
-
-  same-touches : (m : Marked) → ended m .device .active-touches ≡ m .device .active-touches
-  unfolding end-touches
-  same-touches m = refl
-
-  end-keeps : (vs : List TouchState) → InOrder vs → InOrder (map (end-touches time p es) vs)
-  end-keeps vs o = rw (ended-all vs) at (kept ended same-id same-touches (map unmarked vs) o)
-
 pub end-law : EndLaw
-end-law time p es vs o = end-keeps time p es vs o
+end-law = Model.end-in-order

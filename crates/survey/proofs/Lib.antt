@@ -1,4 +1,3 @@
 pub mod Places
-pub mod Fits
 pub mod Accepted
 pub mod Formed

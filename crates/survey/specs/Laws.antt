@@ -1,25 +1,15 @@
 -- Of devices as every pass leaves them, nothing that the survey takes fails to fit: the survey and the events are the model's.
 use Prim.Native.Nat.{ℕ}
 use mathlib.Core.Path.{_≡_}
-use mathlib.Core.Bool.{false}
 use mathlib.Core.List.{List, [], map}
 use mathlib.Core.Option.{none}
 use lib.Ieee.{Float}
 use Rattle.feed.specs.Decode.{Item}
 use Rattle.feed.specs.Feed.{events-of}
 use Rattle.model.specs.Types.{MaybePos2, Event}
-use Rattle.model.specs.Touch.{TouchState, touch-events, end-touches}
+use Rattle.model.specs.Touch.{TouchState, InOrder, touch-events, end-touches}
 use Rattle.model.specs.Pass.{survey}
-use Rattle.touch_device.specs.View.{Marked}
-use Rattle.touch_state.specs.Marks.{WellFormed}
 use Rattle.survey.specs.Survey.{fits-events, fits-survey}
-
-abbrev pub unmarked : TouchState → Marked
-unmarked v = record { device = v; mark = false }
-
--- ids of devices and of each device's touches ascend, and none of these lists is too long
-abbrev pub InOrder : List TouchState → Type 0
-InOrder vs = WellFormed (map unmarked vs)
 
 abbrev pub NoneInOrder : Type 0
 NoneInOrder = InOrder []

@@ -5,17 +5,15 @@ use mathlib.Core.Path.{_≡_}
 use mathlib.Core.Bool.{cond}
 use mathlib.Core.List.{List, [], _∷_}
 use mathlib.Core.Option.{Option, none, some}
-use lib.Dec.{leb}
-use lib.ListN.{getD, length}
-use Rattle.data.specs.Limits.{max-events, max-devices}
+use lib.ListN.{getD}
+use Rattle.data.specs.Limits.{max-events}
 use Rattle.feed.specs.Decode.{Decoded, good, malformed, outside-domain, Item, items}
 use Rattle.feed.specs.Feed.{feed-refusal}
-use Rattle.model.specs.Types.{TouchPhase, ActiveTouch, PassRefusal, TooManyEvents, NoPlace}
+use Rattle.model.specs.Types.{PassRefusal, TooManyEvents, NoPlace}
 use Rattle.model.specs.Types.{Event, Key, ModifiersChanged, PointerMoved, MouseMoved, Button, PointerGone, Zoom, Rotate, Touch, MouseWheel, WindowFocused, Other}
-use Rattle.model.specs.Touch.{TouchState, at-device}
+use Rattle.model.specs.Touch.{TouchState}
 use Rattle.model.specs.Pass.{or-else, crowded, item-refusal}
-use Rattle.touches.specs.Touches.{on-touch-if-room}
-use Rattle.touch_state.specs.View.{view}
+use Rattle.touch_state.specs.View.{fits-touch}
 use Rattle.event_loop.specs.Shaped.{shaped-at}
 use Rattle.event_loop.specs.Lists.{touch-list, listed, listed-events, Listed}
 use Rattle.survey.specs.declared.reading.MaybePassRefusal.{MaybePassRefusal}
@@ -27,16 +25,7 @@ unfoldable pub option : MaybePassRefusal → Option PassRefusal
 option no-refusal = none
 option (some-refusal r) = some r
 
--- `touch-device`, of a touch that fits
-unfoldable pub fits-device : TouchPhase → ActiveTouch → TouchState → TouchState
-fits-device ph t v = record { device-id = v .device-id; active-touches = on-touch-if-room ph t (v .active-touches); gesture-state = v .gesture-state }
-
--- `touch-event`, of a device that fits
-unfoldable pub fits-touch : ℕ → TouchPhase → ActiveTouch → List TouchState → List TouchState
-fits-touch d ph t vs =
-    let new = at-device d (fits-device ph t) vs in
-    cond (leb (length new) max-devices) new vs
-
+-- `touch-event`, of what fits
 unfoldable pub fits-event : Event → List TouchState → List TouchState
 fits-event (Key k b) vs = vs
 fits-event (ModifiersChanged m) vs = vs

@@ -11,15 +11,14 @@ use lib.ListN.{length, getD, set, length-set}
 use lib.Seq.{set-out, set-set, set-getD, getD-set-same}
 use Rattle.data.specs.Limits.{max-devices}
 use Rattle.model.specs.Types.{TouchPhase, ActiveTouch}
-use Rattle.model.specs.Touch.{find-device, no-place}
+use Rattle.model.specs.Touch.{TouchState, find-device, no-place}
 use Rattle.touches.proofs.Upsert.{no}
 use Rattle.touch_device.specs.declared.Device.{Device}
 use Rattle.touch_state.specs.declared.devices.Devices.{Devices}
-use Rattle.touch_device.specs.View.{Marked, device-view, marked-view, touch-marked}
-use Rattle.touch_state.specs.View.{known, known-at, view, marked, touch-step}
+use Rattle.touch_device.specs.View.{device-view, fits-device}
+use Rattle.touch_state.specs.View.{known, known-at, view, fits-touch}
+use Rattle.touch_state.proofs.Known.{place-most, fits-known}
 use Rattle.touch_state.proofs.Ids.{known-id, known-found, known-stays}
-use Rattle.survey.specs.Survey.{fits-touch}
-use Rattle.survey.proofs.Fits.{place-most, fits-known, fits-added}
 
 -- all devices: the one at place k is put back, and beyond the last place nothing
 abbrev pub current : Devices → ℕ → Device → Devices
@@ -102,25 +101,33 @@ module _ (d : ℕ) (held : Devices) (k : ℕ) (device : Device) (turn : Turn d h
           rw found
       go false q = rw (none-apart held k device (turn .room) (ltb-false k max-devices q))
 
-  module _ (ph : TouchPhase) (t : ActiveTouch) where
-    same-id : (x : Device) → marked-view x ≡ touch-marked ph t (marked-view device) → x .id ≡ device .id
-    unfolding touch-marked
-    same-id x e = ap (λ (m : Marked). m .device .device-id) e
+  -- beyond the last place: the device is not known
+  none-here : max-devices ≤ k → k ≡ known-at d (known held)
+  none-here h = rw (none-apart held k device (turn .room) h) at (turn .at)
 
-    pub touched : (x : Device) → k < max-devices → marked-view x ≡ touch-marked ph t (marked-view device)
+  pub not-known : max-devices ≤ k → known-at d (known held) ≡ max-devices
+  not-known h =
+      let at = none-here h in
+      let l = place-most d k held (turn .room) at in
+      omega arith
+
+  module _ (ph : TouchPhase) (t : ActiveTouch) where
+    same-id : (x : Device) → device-view x ≡ fits-device ph t (device-view device) → x .id ≡ device .id
+    unfolding fits-device
+    same-id x e = ap (λ (v : TouchState). v .device-id) e
+
+    pub touched : (x : Device) → k < max-devices → device-view x ≡ fits-device ph t (device-view device)
         → Apart held k x × (view (current held k x) ≡ fits-touch d ph t (view all))
     touched x h e =
         let last = set-set (held .places) k device x in
         let id : x .id ≡ d = same-id x e ∙ turn .own h in
         let stays = known-stays d k (all .count) (all .places) device (turn .at) h x id in
-        let fits = fits-known d k ph t all (current-room held k device (turn .room)) (turn .at) device x h (rw (there h) e) in
+        let fits = fits-known d k all (current-room held k device (turn .room)) (turn .at) ph t device x h (rw (there h) e) in
         (record { place = omega arith; room = turn .room; own = λ _. rw last at stays ∙ ap (λ (i : ℕ). known-at i (known (current held k x))) (sym id) }, rw last at fits)
 
-    pub added : (new : Devices) → max-devices ≤ k → length (new .places) ≡ max-devices → (known-at d (known held) ≡ max-devices → marked new ≡ touch-step d ph t (marked held))
+    pub added : (new : Devices) → max-devices ≤ k → length (new .places) ≡ max-devices → view new ≡ fits-touch d ph t (view held)
         → Apart new k device × (view (current new k device) ≡ fits-touch d ph t (view all))
-    added new h l e =
-        let same = none-apart held k device (turn .room) h in
-        let at : k ≡ known-at d (known held) = rw same at (turn .at) in (
-          record { place = place-most d k ph t held (turn .room) at; room = l; own = λ b. absurd (omega arith) },
-          rw (none-apart new k device l h, same) (fits-added d k ph t held (turn .room) at new h e),
-        )
+    added new h l e = (
+      record { place = place-most d k held (turn .room) (none-here h); room = l; own = λ b. absurd (omega arith) },
+      rw (none-apart new k device l h, none-apart held k device (turn .room) h) e,
+    )

@@ -8,7 +8,8 @@ use Rattle.data.specs.Numbers.{kind-number}
 use Rattle.model.specs.Types.{Event, Key, ModifiersChanged, PointerMoved, MouseMoved, Button, PointerGone, Zoom, Rotate, Touch, MouseWheel, WindowFocused, Other}
 use Rattle.model.specs.Touch.{TouchState, no-place, find-device}
 use Rattle.model.specs.Pass.{crowded}
-use Rattle.survey.specs.Survey.{fits-touch, fits-event}
+use Rattle.touch_state.specs.View.{fits-touch}
+use Rattle.survey.specs.Survey.{fits-event}
 use Rattle.touch_crowd.specs.Touch.{touch-of}
 use Rattle.touch_crowd.specs.declared.touch.TouchEvent.{TouchEvent}
 use Rattle.touch_crowd.specs.declared.touch.MaybeTouchEvent.{MaybeTouchEvent}

@@ -11,27 +11,24 @@ use gesture::update_gesture;
 use touches::Touches;
 ghost use mathlib.Core.Path.{_≡_};
 ghost use mathlib.Core.Option.{some};
-ghost use Rattle.model.specs.Touch.{is-start, adds-or-removes, no-place, any-touches-at};
-ghost use Rattle.touch_device.specs.View.{device-view, marked-view, new-marked, touch-marked, end-marked};
+ghost use Rattle.model.specs.Touch.{new-device, is-start, adds-or-removes, no-place, end-device, any-touches-at};
+ghost use Rattle.touch_device.specs.View.{device-view, fits-device};
 
 pub mod info;
 
 pub struct Device {
     pub id: u64,
     pub touches: Touches,
-    // were touches added or removed in this pass?
-    pub added_or_removed_touches: bool,
     pub gesture_state: MaybeGestureState,
 }
 
 pub fn new(id: u64) -> Device
-    ensures { λ r. ⌜ marked-view r ≡ new-marked id ⌝ }
+    ensures { λ r. ⌜ device-view r ≡ new-device id ⌝ }
 {
     let touches = touches::none();
     Device {
         id: id,
         touches: touches,
-        added_or_removed_touches: false,
         gesture_state: MaybeGestureState::None,
     }
 }
@@ -60,7 +57,7 @@ pub fn adds_or_removes(phase: TouchPhase) -> bool
 
 // A touch event of this device.
 pub fn on_touch(d: Device, phase: TouchPhase, t: ActiveTouch) -> Device
-    ensures { λ r. ⌜ marked-view r ≡ touch-marked phase t (marked-view d) ⌝ }
+    ensures { λ r. ⌜ device-view r ≡ fits-device phase t (device-view d) ⌝ }
 {
     let old = d.touches;
     let touches = touches::on_touch(old, phase, t);
@@ -68,20 +65,18 @@ pub fn on_touch(d: Device, phase: TouchPhase, t: ActiveTouch) -> Device
     Device {
         id: d.id,
         touches: touches,
-        added_or_removed_touches: d.added_or_removed_touches | adds_or_removes(phase),
         gesture_state: gesture_state,
     }
 }
 
 // A device that its first touch event makes known.
 pub fn first(id: u64, phase: TouchPhase, t: ActiveTouch) -> Device
-    ensures { λ r. ⌜ marked-view r ≡ touch-marked phase t (new-marked id) ⌝ }
+    ensures { λ r. ⌜ device-view r ≡ fits-device phase t (new-device id) ⌝ }
 {
     let touches = touches::first(phase, t);
     Device {
         id: id,
         touches: touches,
-        added_or_removed_touches: adds_or_removes(phase),
         gesture_state: MaybeGestureState::None,
     }
 }
@@ -98,20 +93,19 @@ pub fn is_full(d: Device, phase: TouchPhase, id: u64) -> bool
     is_start(phase) & !held
 }
 
-// The end of a pass, with the pointer's interact position of the pass before.
-pub fn end_pass(d: Device, time: f64, pointer_pos: MaybePos2) -> Device
-    ensures { λ r. ⌜ marked-view r ≡ end-marked time «pointer_pos» (marked-view d) ⌝ }
+// The end of a pass, with the pointer's interact position of the pass before: were touches added or removed in it?
+pub fn end_pass(d: Device, time: f64, pointer_pos: MaybePos2, added_or_removed: bool) -> Device
+    ensures { λ r. ⌜ device-view r ≡ end-device time «pointer_pos» «added_or_removed» (device-view d) ⌝ }
 {
     let touches = d.touches;
     let old = d.gesture_state;
     let averages = calc_dynamic_state(touches);
     let pinch_type = classify(touches);
     let updated = update_gesture(time, pinch_type, averages, pointer_pos, old);
-    let gesture_state = forget_previous_if(d.added_or_removed_touches, updated);
+    let gesture_state = forget_previous_if(added_or_removed, updated);
     Device {
         id: d.id,
         touches: touches,
-        added_or_removed_touches: false,
         gesture_state: gesture_state,
     }
 }

@@ -6,7 +6,6 @@ use event_loop::kind_at;
 use event_loop::listed;
 use feed::fields::id_of;
 use feed::fields::phase_of;
-use touch_device::Device;
 use touch_device::adds_or_removes;
 use touch_state::devices::Devices;
 ghost use mathlib.Core.Path.{_≡_};
@@ -14,11 +13,9 @@ ghost use mathlib.Core.List.{[], _∷_, map};
 ghost use lib.ListN.{getD};
 ghost use Rattle.feed.specs.Split.{kind};
 ghost use Rattle.model.specs.Touch.{added-or-removed-touches, end-touches};
-ghost use Rattle.touch_device.specs.View.{marked-view};
 ghost use Rattle.touch_state.specs.View.{view};
 ghost use Rattle.event_loop.specs.Shaped.{shaped-at};
 ghost use Rattle.event_loop.specs.Lists.{listed-events, touch-list};
-ghost use Rattle.touch_ends.specs.Ends.{marked-by};
 
 // Of a touch event only the first three words are read: its phase and its device.
 fn touch_adds_at(device_id: u64, feed: &[u32], at: usize) -> bool
@@ -63,15 +60,7 @@ fn added_or_removed_touches(device_id: u64, feed: &[u32], lists: &[u16; LISTED],
     false
 }
 
-fn mark_device(d: Device, feed: &[u32], lists: &[u16; LISTED], count: u8) -> Device
-    ensures { λ r. ⌜ marked-view r ≡ marked-by (listed-events (now (feed .entry)) (now (lists .entry)) touch-list count) (marked-view d) ⌝ }
-{
-    let mut e = d;
-    e.added_or_removed_touches = added_or_removed_touches(d.id, feed, lists, count);
-    e
-}
-
-// Each device is marked by whether the feed adds touches to it or removes them, and ended where it stands.
+// Each device is ended where it stands, by whether the feed adds touches to it or removes them.
 // `pointer_pos` is the pointer's interact position of the pass before.
 pub fn end_devices(
     ds: Devices,
@@ -91,8 +80,8 @@ pub fn end_devices(
     let mut i: usize = 0;
     while i < n {
         let d = out.places[i];
-        let m = mark_device(d, feed, lists, count);
-        out.places[i] = touch_device::end_pass(m, time, pointer_pos);
+        let added_or_removed = added_or_removed_touches(d.id, feed, lists, count);
+        out.places[i] = touch_device::end_pass(d, time, pointer_pos, added_or_removed);
         i += 1;
     }
     out

@@ -12,12 +12,12 @@ use lib.ListN.{length, getD, set, take, drop, length-map, length-take, length-se
 use lib.Seq.{take-set-lt, getD-take}
 use Rattle.data.specs.Limits.{max-devices}
 use Rattle.model.specs.Types.{TouchPhase, ActiveTouch, MaybeMultiTouchInfo, no-info}
-use Rattle.model.specs.Touch.{find-device, info, multi-touch, first-of as first-info, any-touches, some-touch, has-touch-screen}
+use Rattle.model.specs.Touch.{TouchState, device-id-of, new-device, at-device, find-device, info, multi-touch, first-of as first-info, any-touches, some-touch, has-touch-screen}
 use Rattle.touch_device.specs.declared.Device.{Device}
 use Rattle.touches.specs.Touches.{place, index, starts, is-at, inserted-at}
-use Rattle.touch_device.specs.View.{Marked, device-view, marked-view, new-marked, touch-marked}
-use Rattle.touch_state.specs.View.{device-id, known-at, at-marked, touch-step}
-use Rattle.touch_state.specs.Marks.{marked-id}
+use Rattle.touch_device.specs.View.{device-view, fits-device}
+use Rattle.touch_state.specs.declared.devices.Devices.{Devices}
+use Rattle.touch_state.specs.View.{known, view, device-id, known-at, fits-touch}
 use Rattle.touches.proofs.Places.{rest, done}
 use Rattle.touches.proofs.Upsert.{some-ltb, upsert, upsert-hit, upsert-miss, at-lt, place-le, length-inserted}
 
@@ -123,17 +123,17 @@ module _ {A B : Type 0} (f : A → B) where
 
 -- ---- a touch event, by the place of its device
 
-same-id : (u : Device) → marked-id (marked-view u) ≡ device-id u
+same-id : (u : Device) → device-id-of (device-view u) ≡ device-id u
 same-id u = refl
 
-pub at-upsert : (d : ℕ) (f : Marked → Marked) (ms : List Marked) → at-marked d f ms ≡ upsert marked-id d (f (new-marked d)) f ms
-unfolding at-marked upsert
+at-upsert : (d : ℕ) (f : TouchState → TouchState) (vs : List TouchState) → at-device d f vs ≡ upsert device-id-of d (f (new-device d)) f vs
+unfolding at-device upsert
 at-upsert d f [] = refl
-at-upsert d f (m ∷ ms) = rw (at-upsert d f ms)
+at-upsert d f (v ∷ vs) = rw (at-upsert d f vs)
 
-fits-devices : (d : ℕ) (ph : TouchPhase) (t : ActiveTouch) (ms new : List Marked) → at-marked d (touch-marked ph t) ms ≡ new → length new ≤ max-devices → new ≡ touch-step d ph t ms
-unfolding touch-step
-fits-devices d ph t ms new e h = rw (e, le-leb _ _ h)
+fits-devices : (d : ℕ) (ph : TouchPhase) (t : ActiveTouch) (vs new : List TouchState) → at-device d (fits-device ph t) vs ≡ new → length new ≤ max-devices → new ≡ fits-touch d ph t vs
+unfolding fits-touch
+fits-devices d ph t vs new e h = rw (e, le-leb _ _ h)
 
 -- where `known-at` finds a device, it has the id
 pub known-place : (d k : ℕ) (us : List Device) → k ≡ known-at d us → k < max-devices → (k ≡ place device-id d us) × (is-at device-id k d us ≡ true)
@@ -144,32 +144,7 @@ known-place d k us h b = go (is-at device-id (place device-id d us) d us) refl
     go true q = let e : k ≡ place device-id d us = rw q at h in (e, rw e q)
     go false q = let none-known : k ≡ max-devices = rw q at h in absurd (omega arith)
 
-module _ (d i c : ℕ) (a : List Device) (ph : TouchPhase) (t : ActiveTouch) (e : i ≡ place device-id d (take c a)) where
-  unfoldable f : Marked → Marked
-  f = touch-marked ph t
-
-  unfoldable ms : List Marked
-  ms = map marked-view (take c a)
-
-  place-ms : place marked-id d ms ≡ i
-  unfolding ms
-  place-ms = place-map marked-view device-id marked-id same-id d (take c a) ∙ sym e
-
-  at-ms : {b : Bool} → is-at device-id i d (take c a) ≡ b → is-at marked-id (place marked-id d ms) d ms ≡ b
-  unfolding ms
-  at-ms q = rw place-ms (at-map marked-view device-id marked-id same-id d (take c a) i ∙ q)
-
-  pub touched-hit : (z x : Device) → is-at device-id i d (take c a) ≡ true → length (take c a) ≤ max-devices → marked-view x ≡ touch-marked ph t (marked-view (getD a i z))
-      → map marked-view (set (take c a) i x) ≡ touch-step d ph t (map marked-view (take c a))
-  unfolding ms f
-  touched-hit z x q l p =
-      let h : i < length (take c a) = at-lt device-id d i (take c a) q in
-      let k : i < c = omega (arith, length-take c a) in
-      let s : at-marked d f ms ≡ map marked-view (set (take c a) i x) =
-      at-upsert d f ms ∙ (upsert-hit marked-id d (f (new-marked d)) f (marked-view z) ms (at-ms q)
-      ∙ rw (place-ms, getD-map marked-view (take c a) i z, getD-take c a i z k, ← p, map-set)) in
-      fits-devices d ph t ms _ s (simp (length-map, length-set) l)
-
+module _ (d i c : ℕ) (a : List Device) (e : i ≡ place device-id d (take c a)) where
   pub known-at-le : length (take c a) ≤ max-devices → known-at d (take c a) ≤ max-devices
   unfolding known-at
   known-at-le l = go (is-at device-id i d (take c a)) refl
@@ -177,26 +152,6 @@ module _ (d i c : ℕ) (a : List Device) (ph : TouchPhase) (t : ActiveTouch) (e 
       go : (b : Bool) → is-at device-id i d (take c a) ≡ b → cond (is-at device-id (place device-id d (take c a)) d (take c a)) (place device-id d (take c a)) max-devices ≤ max-devices
       go true q = let n : i < length (take c a) = at-lt device-id d i (take c a) q in rw (← e, q) (omega arith)
       go false q = rw (← e, q) (omega arith)
-
-  -- the device that `known-at` finds, changed where it stands
-  pub touched-known : (z x : Device) (k : ℕ) → k ≡ known-at d (take c a) → k < max-devices → length (take c a) ≤ max-devices → marked-view x ≡ touch-marked ph t (marked-view (getD a k z))
-      → map marked-view (take c (set a k x)) ≡ touch-step d ph t (map marked-view (take c a))
-  touched-known z x k h b l p =
-      let at = known-place d k (take c a) h b in
-      let same : k ≡ i = at .0 ∙ sym e in
-      let q : is-at device-id i d (take c a) ≡ true = rw same at (at .1) in
-      let n : i < length (take c a) = at-lt device-id d i (take c a) q in
-      let m : k < c = omega (arith, length-take c a) in
-      rw (take-set-lt c a k x m, same) (touched-hit z x q l (rw same at p))
-
-  pub touched-miss : (x : Device) → is-at device-id i d (take c a) ≡ false → length (take c a) < max-devices → marked-view x ≡ touch-marked ph t (new-marked d)
-      → map marked-view (inserted-at i x (take c a)) ≡ touch-step d ph t (map marked-view (take c a))
-  unfolding ms f
-  touched-miss x q l p =
-      let h : i ≤ length (take c a) = rw e (place-le device-id d (take c a)) in
-      let s : at-marked d f ms ≡ map marked-view (inserted-at i x (take c a)) =
-      at-upsert d f ms ∙ (upsert-miss marked-id d (f (new-marked d)) f ms (at-ms q) ∙ rw (place-ms, ← p, map-inserted)) in
-      fits-devices d ph t ms _ s (simp (length-map, length-inserted i x (take c a) h) l)
 
   -- a device that is known at no place
   pub unknown : length (take c a) ≤ max-devices → known-at d (take c a) ≡ max-devices → is-at device-id i d (take c a) ≡ false
@@ -210,11 +165,69 @@ module _ (d i c : ℕ) (a : List Device) (ph : TouchPhase) (t : ActiveTouch) (e 
           absurd (omega arith)
       go false q = refl
 
-  pub touched-full : is-at device-id i d (take c a) ≡ false → max-devices ≤ length (take c a) → map marked-view (take c a) ≡ touch-step d ph t (map marked-view (take c a))
-  unfolding ms f touch-step
+module _ (d i c : ℕ) (a : List Device) (ph : TouchPhase) (t : ActiveTouch) (e : i ≡ place device-id d (take c a)) where
+  unfoldable f : TouchState → TouchState
+  f = fits-device ph t
+
+  unfoldable vs : List TouchState
+  vs = map device-view (take c a)
+
+  place-vs : place device-id-of d vs ≡ i
+  unfolding vs
+  place-vs = place-map device-view device-id device-id-of same-id d (take c a) ∙ sym e
+
+  at-vs : {b : Bool} → is-at device-id i d (take c a) ≡ b → is-at device-id-of (place device-id-of d vs) d vs ≡ b
+  unfolding vs
+  at-vs q = rw place-vs (at-map device-view device-id device-id-of same-id d (take c a) i ∙ q)
+
+  pub touched-hit : (z x : Device) → is-at device-id i d (take c a) ≡ true → length (take c a) ≤ max-devices → device-view x ≡ fits-device ph t (device-view (getD a i z))
+      → map device-view (set (take c a) i x) ≡ fits-touch d ph t (map device-view (take c a))
+  unfolding vs f
+  touched-hit z x q l p =
+      let h : i < length (take c a) = at-lt device-id d i (take c a) q in
+      let k : i < c = omega (arith, length-take c a) in
+      let s : at-device d f vs ≡ map device-view (set (take c a) i x) =
+      at-upsert d f vs ∙ (upsert-hit device-id-of d (f (new-device d)) f (device-view z) vs (at-vs q)
+      ∙ rw (place-vs, getD-map device-view (take c a) i z, getD-take c a i z k, ← p, map-set)) in
+      fits-devices d ph t vs _ s (simp (length-map, length-set) l)
+
+  -- the device that `known-at` finds, changed where it stands
+  pub touched-known : (z x : Device) (k : ℕ) → k ≡ known-at d (take c a) → k < max-devices → length (take c a) ≤ max-devices → device-view x ≡ fits-device ph t (device-view (getD a k z))
+      → map device-view (take c (set a k x)) ≡ fits-touch d ph t (map device-view (take c a))
+  touched-known z x k h b l p =
+      let at = known-place d k (take c a) h b in
+      let same : k ≡ i = at .0 ∙ sym e in
+      let q : is-at device-id i d (take c a) ≡ true = rw same at (at .1) in
+      let n : i < length (take c a) = at-lt device-id d i (take c a) q in
+      let m : k < c = omega (arith, length-take c a) in
+      rw (take-set-lt c a k x m, same) (touched-hit z x q l (rw same at p))
+
+  pub touched-miss : (x : Device) → is-at device-id i d (take c a) ≡ false → length (take c a) < max-devices → device-view x ≡ fits-device ph t (new-device d)
+      → map device-view (inserted-at i x (take c a)) ≡ fits-touch d ph t (map device-view (take c a))
+  unfolding vs f
+  touched-miss x q l p =
+      let h : i ≤ length (take c a) = rw e (place-le device-id d (take c a)) in
+      let s : at-device d f vs ≡ map device-view (inserted-at i x (take c a)) =
+      at-upsert d f vs ∙ (upsert-miss device-id-of d (f (new-device d)) f vs (at-vs q) ∙ rw (place-vs, ← p, map-inserted)) in
+      fits-devices d ph t vs _ s (simp (length-map, length-inserted i x (take c a) h) l)
+
+  pub touched-full : is-at device-id i d (take c a) ≡ false → max-devices ≤ length (take c a) → map device-view (take c a) ≡ fits-touch d ph t (map device-view (take c a))
+  unfolding vs f fits-touch
   touched-full q l =
-      let h : i ≤ length ms = simp length-map (rw e (place-le device-id d (take c a))) in
-      let s : at-marked d f ms ≡ inserted-at i (f (new-marked d)) ms =
-      at-upsert d f ms ∙ (upsert-miss marked-id d (f (new-marked d)) f ms (at-ms q) ∙ rw place-ms) in
-      let n : max-devices < length (at-marked d f ms) = rw (s, length-inserted i (f (new-marked d)) ms h) (simp length-map (omega arith)) in
+      let h : i ≤ length vs = simp length-map (rw e (place-le device-id d (take c a))) in
+      let s : at-device d f vs ≡ inserted-at i (f (new-device d)) vs =
+      at-upsert d f vs ∙ (upsert-miss device-id-of d (f (new-device d)) f vs (at-vs q) ∙ rw place-vs) in
+      let n : max-devices < length (at-device d f vs) = rw (s, length-inserted i (f (new-device d)) vs h) (simp length-map (omega arith)) in
       rw (lt-leb _ _ n)
+
+-- ---- the devices after a touch event, by the place of its device
+module _ (d k : ℕ) (old : Devices) (room : length (old .places) ≡ 4) (found : k ≡ known-at d (known old)) where
+  at-most : length (known old) ≤ max-devices
+  at-most = omega (arith, length-take (old .count) (old .places))
+
+  pub place-most : k ≤ max-devices
+  place-most = rw found (known-at-le d _ (old .count) (old .places) refl at-most)
+
+  pub fits-known : (ph : TouchPhase) (t : ActiveTouch) (z x : Device) → k < max-devices → device-view x ≡ fits-device ph t (device-view (getD (old .places) k z))
+      → view (record { count = old .count; places = set (old .places) k x }) ≡ fits-touch d ph t (view old)
+  fits-known ph t z x h p = touched-known d _ (old .count) (old .places) ph t refl z x k found h at-most p

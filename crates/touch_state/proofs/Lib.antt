@@ -1,4 +1,3 @@
 pub mod Known
 pub mod Ids
-pub mod Order
-pub mod Marks
+pub mod Steps

@@ -11,7 +11,7 @@ ghost use lib.ListN.{length};
 ghost use Rattle.data.specs.Limits.{max-devices};
 ghost use Rattle.model.specs.Touch.{no-place, find-device};
 ghost use Rattle.touches.specs.Touches.{place, index, is-at, inserted-at};
-ghost use Rattle.touch_state.specs.View.{known, device-id, known-at, view, marked, touch-step};
+ghost use Rattle.touch_state.specs.View.{known, device-id, known-at, view, fits-touch};
 
 pub struct Devices {
     pub count: usize,
@@ -19,7 +19,7 @@ pub struct Devices {
 }
 
 pub fn none() -> Devices
-    ensures { λ r. ⌜ marked r ≡ [] ⌝ }
+    ensures { λ r. ⌜ view r ≡ [] ⌝ }
 {
     let device = touch_device::new(0);
     let places = [device; MAX_DEVICES];
@@ -130,7 +130,8 @@ fn insert_at(ds: Devices, i: usize, d: Device) -> Devices
 
 // A device that is not known becomes known by a touch event, if there is a place.
 pub fn add(ds: Devices, id: u64, phase: TouchPhase, t: ActiveTouch) -> Devices
-    ensures { λ r. ⌜ (known-at id (known ds) ≡ max-devices → marked r ≡ touch-step id phase t (marked ds)) ⌝ }
+    requires { ⌜ known-at id (known ds) ≡ max-devices ⌝ }
+    ensures { λ r. ⌜ view r ≡ fits-touch id phase t (view ds) ⌝ }
 {
     let i = place_of(ds, id);
     if len(ds) < MAX_DEVICES {

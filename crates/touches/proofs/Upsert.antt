@@ -10,8 +10,8 @@ use lib.ListN.{length, getD, set, take, length-set, length-take, length-drop, le
 use lib.Seq.{set-out, getD-take}
 use Rattle.data.specs.Limits.{max-touches}
 use Rattle.model.specs.Types.{ActiveTouch}
-use Rattle.model.specs.Touch.{insert-touch, move-touch, remove-touch, holds, some-touch}
-use Rattle.touches.specs.Touches.{touch-id, place, index, starts, is-at, inserted-at, if-room}
+use Rattle.model.specs.Touch.{insert-touch, move-touch, remove-touch, holds, some-touch, touch-id-of}
+use Rattle.touches.specs.Touches.{place, index, starts, is-at, inserted-at, if-room}
 
 pub no : {P : Type 0} → _≡_ {A = Bool} false true → P
 no {P} e = absurd (let z : _≡_ {A = ℕ} 0 1 = cc in omega arith)
@@ -105,18 +105,18 @@ length-inserted i x us h = simp (length-append, length-take, length-drop) (omega
 
 -- ---- the model's touches
 
-pub insert-upsert : (t : ActiveTouch) (us : List ActiveTouch) → insert-touch t us ≡ upsert touch-id (t .id) t (λ (u : ActiveTouch). t) us
+pub insert-upsert : (t : ActiveTouch) (us : List ActiveTouch) → insert-touch t us ≡ upsert touch-id-of (t .id) t (λ (u : ActiveTouch). t) us
 unfolding insert-touch upsert
 insert-upsert t [] = refl
 insert-upsert t (u ∷ us) = rw (insert-upsert t us)
 
-move-by : (t u : ActiveTouch) (us : List ActiveTouch) (b : Bool) → eqb (t .id) (u .id) ≡ b → set us (index touch-id (t .id) us) t ≡ move-touch t us
-    → set (u ∷ us) (index touch-id (t .id) (u ∷ us)) t ≡ move-touch t (u ∷ us)
+move-by : (t u : ActiveTouch) (us : List ActiveTouch) (b : Bool) → eqb (t .id) (u .id) ≡ b → set us (index touch-id-of (t .id) us) t ≡ move-touch t us
+    → set (u ∷ us) (index touch-id-of (t .id) (u ∷ us)) t ≡ move-touch t (u ∷ us)
 unfolding index move-touch
 move-by t u us true q ih = rw q
 move-by t u us false q ih = rw q (ap {B = List ActiveTouch} (λ r. u ∷ r) ih)
 
-pub move-set : (t : ActiveTouch) (us : List ActiveTouch) → set us (index touch-id (t .id) us) t ≡ move-touch t us
+pub move-set : (t : ActiveTouch) (us : List ActiveTouch) → set us (index touch-id-of (t .id) us) t ≡ move-touch t us
 unfolding index move-touch
 move-set t [] = refl
 move-set t (u ∷ us) = move-by t u us (eqb (t .id) (u .id)) refl (move-set t us)
@@ -124,7 +124,7 @@ move-set t (u ∷ us) = move-by t u us (eqb (t .id) (u .id)) refl (move-set t us
 pub some-ltb : (n : ℕ) → ltb 0 (suc n) ≡ true
 some-ltb n = lt-ltb 0 (suc n) (omega arith)
 
-module _ (t : ActiveTouch) (us : List ActiveTouch) (i : ℕ) (at : i ≡ index touch-id (t .id) us) where
+module _ (t : ActiveTouch) (us : List ActiveTouch) (i : ℕ) (at : i ≡ index touch-id-of (t .id) us) where
   pub move-at : set us i t ≡ move-touch t us
   move-at = rw at (move-set t us)
 
@@ -135,13 +135,13 @@ ltb-suc : (a b : ℕ) (c : Bool) → ltb a b ≡ c → ltb (suc a) (suc b) ≡ l
 ltb-suc a b true q = rw q (lt-ltb (suc a) (suc b) (omega (arith, ltb-true a b q)))
 ltb-suc a b false q = rw q (le-ltb (suc a) (suc b) (omega (arith, ltb-false a b q)))
 
-holds-by : (d : ℕ) (u : ActiveTouch) (us : List ActiveTouch) (b : Bool) → eqb d (u .id) ≡ b → ltb (index touch-id d us) (length us) ≡ holds d us
-    → ltb (index touch-id d (u ∷ us)) (length (u ∷ us)) ≡ holds d (u ∷ us)
+holds-by : (d : ℕ) (u : ActiveTouch) (us : List ActiveTouch) (b : Bool) → eqb d (u .id) ≡ b → ltb (index touch-id-of d us) (length us) ≡ holds d us
+    → ltb (index touch-id-of d (u ∷ us)) (length (u ∷ us)) ≡ holds d (u ∷ us)
 unfolding index holds
 holds-by d u us true q ih = rw q (some-ltb (length us))
-holds-by d u us false q ih = rw q (ltb-suc (index touch-id d us) (length us) (ltb (index touch-id d us) (length us)) refl ∙ ih)
+holds-by d u us false q ih = rw q (ltb-suc (index touch-id-of d us) (length us) (ltb (index touch-id-of d us) (length us)) refl ∙ ih)
 
-pub holds-index : (d : ℕ) (us : List ActiveTouch) → ltb (index touch-id d us) (length us) ≡ holds d us
+pub holds-index : (d : ℕ) (us : List ActiveTouch) → ltb (index touch-id-of d us) (length us) ≡ holds d us
 unfolding index holds
 holds-index d [] = refl
 holds-index d (u ∷ us) = holds-by d u us (eqb d (u .id)) refl (holds-index d us)

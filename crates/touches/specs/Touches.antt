@@ -13,9 +13,6 @@ use Rattle.touches.specs.declared.Touches.{Touches}
 abbrev pub list : Touches → List ActiveTouch
 list ts = take (ts .count) (ts .places)
 
-abbrev pub touch-id : ActiveTouch → ℕ
-touch-id t = t .id
-
 -- ---- places in a list by ascending id
 
 -- the first place with this id or a greater one

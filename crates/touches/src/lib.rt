@@ -7,8 +7,8 @@ use emath::pos2::Pos2;
 ghost use mathlib.Core.Path.{_≡_};
 ghost use mathlib.Core.List.{[]};
 ghost use lib.ListN.{length};
-ghost use Rattle.model.specs.Touch.{insert-touch, move-touch, remove-touch, holds};
-ghost use Rattle.touches.specs.Touches.{list, touch-id, index, if-room, on-touch-if-room};
+ghost use Rattle.model.specs.Touch.{insert-touch, move-touch, remove-touch, holds, touch-id-of};
+ghost use Rattle.touches.specs.Touches.{list, index, if-room, on-touch-if-room};
 
 pub struct Touches {
     pub count: usize,
@@ -44,7 +44,7 @@ pub fn len(ts: Touches) -> usize
 
 // The first place with this id, or the number of touches.
 fn index_of(ts: Touches, id: u64) -> usize
-    ensures { λ r. ⌜ r ≡ index touch-id id (list ts) ⌝ }
+    ensures { λ r. ⌜ r ≡ index touch-id-of id (list ts) ⌝ }
 {
     let n = len(ts);
     let a = ts.places;

@@ -1,6 +1,6 @@
 -- `touch_device::end_pass` meets its contract. Assumes nothing.
 use borrow.Author.Needs.{needs}
-use Rattle.touch_device.specs.View.{end-marked}
+use Rattle.model.specs.Touch.{end-device}
 use Rattle.touch_device.proofs.end_pass.Statement.{statement}
 use Rattle.touch_device.proofs.end_pass.Tie as tie
 
@@ -17,7 +17,7 @@ forget-previous-if-requires : tie.Need-forget-previous-if-requires
 forget-previous-if-requires c κs = search needs
 
 returns : tie.Need-returns
-unfolding end-marked
+unfolding end-device
 returns c = rw (c .forget-previous-if .ensures, c .before .update-gesture .ensures, c .before .before .classify .ensures, c .before .before .before .calc-dynamic-state .ensures)
 
 pub end-pass-spec : {M : Type 1} → statement M

@@ -1,6 +1,5 @@
 -- `touch_device::new` meets its contract: each way to a return is the case of the definition that its tests pick. Assumes nothing.
 use Rattle.model.specs.Touch.{new-device}
-use Rattle.touch_device.specs.View.{new-marked}
 use borrow.Author.Needs.{needs}
 use Rattle.touch_device.proofs.new.Statement.{statement}
 use Rattle.touch_device.proofs.new.Tie as tie
@@ -10,7 +9,7 @@ none-requires : tie.Need-none-requires
 none-requires c κs = search needs
 
 returns : tie.Need-returns
-unfolding new-marked new-device
+unfolding new-device
 returns c = rw (c .none .ensures)
 
 pub new-spec : {M : Type 1} → statement M

@@ -5,7 +5,8 @@ use borrow.Author.Needs.{needs}
 use borrow.Author.Tests.{eq-eqb, ne-eqb}
 use native.Mathlib.Omega.{arith}
 use lib.ListN.{length, take, drop, length-map}
-use Rattle.touches.specs.Touches.{list, index, touch-id}
+use Rattle.model.specs.Touch.{touch-id-of}
+use Rattle.touches.specs.Touches.{list, index}
 use Rattle.touches.proofs.Places.{first-of, first-le, set-first, index-skips, index-stops, index-ends}
 use Rattle.touches.proofs.Upsert.{move-at, move-out}
 use Rattle.touches.proofs.move_to.Statement.{statement}
@@ -13,7 +14,7 @@ use Rattle.touches.proofs.move_to.Tie as tie
 
 abbrev Inv-loop : tie.InvT-loop
 Inv-loop t n s₀ i₀ s i =
-    (i ≤ n) × (n ≤ length (s .places)) × (length (s .places) ≡ 10) × (n ≡ length (list s)) × (list s ≡ list s₀) × (i + index touch-id (t .id) (drop i (take n (s .places))) ≡ index touch-id (t .id) (list s))
+    (i ≤ n) × (n ≤ length (s .places)) × (length (s .places) ≡ 10) × (n ≡ length (list s)) × (list s ≡ list s₀) × (i + index touch-id-of (t .id) (drop i (take n (s .places))) ≡ index touch-id-of (t .id) (list s))
 
 abbrev μ-loop : tie.MeasureT-loop
 μ-loop t n s₀ i₀ s i = n - i
@@ -46,7 +47,7 @@ returns c =
     let s = o .loop .s in
     let v = o .loop .inv in
     let h = c .before .before .before .before .loop-test .taken in
-    rw (← v .4) (set-first (s .count) _ (s .places) _ (rw (v .3) at h) ∙ move-at _ _ _ (index-stops touch-id _ _ _ _ _ h (v .1) (eq-eqb _ _ (sym (c .if1 .taken))) ∙ v .5))
+    rw (← v .4) (set-first (s .count) _ (s .places) _ (rw (v .3) at h) ∙ move-at _ _ _ (index-stops touch-id-of _ _ _ _ _ h (v .1) (eq-eqb _ _ (sym (c .if1 .taken))) ∙ v .5))
 
 add-i : tie.Need-add-i Inv-loop μ-loop
 add-i c = search needs
@@ -58,13 +59,13 @@ loop-again : tie.Need-loop-again Inv-loop μ-loop
 loop-again c =
     let v = c .before .before .before .before .before .loop .inv in
     let h = c .before .before .before .before .loop-test .taken in
-    (omega arith, v .1, v .2, v .3, v .4, index-skips touch-id _ _ _ _ _ h (v .1) (ne-eqb _ _ (λ e. c .if1 .left (sym e))) ∙ v .5)
+    (omega arith, v .1, v .2, v .3, v .4, index-skips touch-id-of _ _ _ _ _ h (v .1) (ne-eqb _ _ (λ e. c .if1 .left (sym e))) ∙ v .5)
 
 returns-2 : tie.Need-returns-2 Inv-loop μ-loop
 returns-2 c =
     let v = c .before .loop .inv in
     let h = c .loop-test .left in
-    rw (← v .4) (move-out _ _ _ (index-ends touch-id _ _ _ _ h (v .1) ∙ v .5) (rw (v .3) at h))
+    rw (← v .4) (move-out _ _ _ (index-ends touch-id-of _ _ _ _ h (v .1) ∙ v .5) (rw (v .3) at h))
 
 pub move-to-spec : {M : Type 1} → statement M
 move-to-spec =

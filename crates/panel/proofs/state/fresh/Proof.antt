@@ -2,7 +2,6 @@
 use Rattle.model.specs.Pass.{fresh, no-interaction}
 use Rattle.id_set.specs.Ids.{option-of}
 use Rattle.interaction_state.specs.View.{interaction-of}
-use Rattle.panel.proofs.Start.{none-viewed}
 use borrow.Author.Needs.{needs}
 use Rattle.panel.proofs.state.fresh.Statement.{statement}
 use Rattle.panel.proofs.state.fresh.Tie as tie
@@ -15,7 +14,7 @@ none-requires c κs = search needs
 
 returns : tie.Need-returns
 unfolding fresh no-interaction option-of interaction-of
-returns c l zeros = rw (none-viewed _ (c .none .ensures)) (c .before .fresh .ensures l zeros)
+returns c l zeros = rw (c .none .ensures) (c .before .fresh .ensures l zeros)
 
 pub fresh-spec : {M : Type 1} → statement M
 fresh-spec = tie.close (tie.spec fresh-requires none-requires returns)

@@ -8,15 +8,15 @@ use borrow.Author.Needs.{needs}
 use lib.ListN.{length, length-map}
 use Rattle.touch_device.specs.declared.Device.{Device}
 use Rattle.touch_state.specs.declared.devices.Devices.{Devices}
-use Rattle.touch_state.specs.View.{view}
+use Rattle.touch_state.specs.View.{view, fits-touch}
 use Rattle.model.specs.Types.{NoPlace}
 use Rattle.model.specs.Pass.{crowded}
 use Rattle.event_loop.specs.Shaped.{shaped-at}
 use Rattle.event_loop.specs.Lists.{touch-list, listed}
-use Rattle.survey.specs.Survey.{option, fits-touch, crowd-then}
+use Rattle.survey.specs.Survey.{option, crowd-then}
 use Rattle.survey.proofs.Places.{Holds, holds-first, holds-more, no-place-at, holds-last, none-some, not-crowded, fits-idle}
 use Rattle.touch_crowd.proofs.TouchOf.{crowded-is, fits-is, not-9}
-use Rattle.touch_crowd.proofs.Apart.{current, Apart, Turn, apart-first, current-room, none-apart, none-back, turn-stays, turn-known, turn-unknown, crowded-by, touched, added}
+use Rattle.touch_crowd.proofs.Apart.{current, Apart, Turn, apart-first, current-room, none-apart, none-back, turn-stays, turn-known, turn-unknown, crowded-by, touched, not-known, added}
 use Rattle.touch_crowd.proofs.crowd.crowd.Statement.{statement}
 use Rattle.touch_crowd.proofs.crowd.crowd.Tie as tie
 
@@ -173,7 +173,7 @@ on-touch-requires : tie.Need-on-touch-requires Inv-loop μ-loop
 on-touch-requires c κs = search needs
 
 add-requires : tie.Need-add-requires Inv-loop μ-loop
-add-requires c κs = search needs
+add-requires c κs = not-known _ _ _ _ (turned (c .before .before .before) .0) (c .if5 .left)
 
 add-i : tie.Need-add-i Inv-loop μ-loop
 add-i c = search needs

@@ -6,7 +6,7 @@ use native.Mathlib.Omega.{arith}
 use borrow.Author.Needs.{needs}
 use Rattle.model.specs.Touch.{added-or-removed-touches}
 use Rattle.event_loop.specs.Lists.{listed-events, touch-list}
-use Rattle.touch_ends.proofs.Marks.{adds-loop}
+use Rattle.touch_ends.proofs.Ended.{adds-loop}
 use Rattle.touch_ends.proofs.ends.added_or_removed_touches.Statement.{statement}
 use Rattle.touch_ends.proofs.ends.added_or_removed_touches.Tie as tie
 

@@ -2,7 +2,7 @@
 use native.Mathlib.Omega.{arith}
 use mathlib.Core.Path.{sym, _∙_}
 use Rattle.event_loop.proofs.OfKind.{not-of-kind}
-use Rattle.touch_ends.proofs.Marks.{adds-idle}
+use Rattle.touch_ends.proofs.Ended.{adds-idle}
 use borrow.Author.Needs.{needs}
 use Rattle.touch_ends.proofs.ends.adds_at.Statement.{statement}
 use Rattle.touch_ends.proofs.ends.adds_at.Tie as tie

@@ -6,7 +6,7 @@ use borrow.Author.Needs.{needs}
 use lib.ListN.{length, take, length-take, length-map, length-set}
 use Rattle.event_loop.specs.Lists.{touch-list, listed-events}
 use Rattle.touches.proofs.Places.{first-of, first-le}
-use Rattle.touch_ends.proofs.Marks.{ended, ended-start, ended-step, ended-end}
+use Rattle.touch_ends.proofs.Ended.{ended, ended-start, ended-step, ended-end}
 use Rattle.touch_ends.proofs.ends.end_devices.Statement.{statement}
 use Rattle.touch_ends.proofs.ends.end_devices.Tie as tie
 
@@ -38,8 +38,8 @@ mul-d c = search needs
 element-copy-out-d : tie.Need-element-copy-out-d Inv-loop μ-loop
 element-copy-out-d c = search needs
 
-mark-device-requires : tie.Need-mark-device-requires Inv-loop μ-loop
-mark-device-requires c κs = search needs
+added-or-removed-touches-requires : tie.Need-added-or-removed-touches-requires Inv-loop μ-loop
+added-or-removed-touches-requires c κs = search needs
 
 end-pass-requires : tie.Need-end-pass-requires Inv-loop μ-loop
 end-pass-requires c κs = search needs
@@ -60,7 +60,7 @@ loop-again : tie.Need-loop-again Inv-loop μ-loop
 loop-again c =
     let v = c .before .before .before .before .loop .inv in
     let h = c .before .before .before .loop-test .taken in
-    (omega arith, rw length-set (v .1), rw length-set (v .2), v .3, ended-step _ _ _ _ _ _ _ (c .before .mark-device .result) _ h (v .1) (c .before .mark-device .ensures) (c .end-pass .ensures) ∙ v .4)
+    (omega arith, rw length-set (v .1), rw length-set (v .2), v .3, ended-step _ _ _ _ _ _ _ _ (c .before .added-or-removed-touches .result) h (v .1) (c .before .added-or-removed-touches .ensures) (c .end-pass .ensures) ∙ v .4)
 
 returns-2 : tie.Need-returns-2 Inv-loop μ-loop
 returns-2 c =
@@ -84,7 +84,7 @@ end-devices-spec =
     loop-holds
     mul-d
     element-copy-out-d
-    mark-device-requires
+    added-or-removed-touches-requires
     end-pass-requires
     mul-t14
     element-set-from-out

@@ -7,7 +7,7 @@ use Rattle.feed.proofs.Words.{word-after}
 use Rattle.event_loop.specs.Shaped.{event-or-other}
 use Rattle.event_loop.proofs.Walk.{at-past}
 use Rattle.event_readers.proofs.KnownKind.{whole-as, short-as}
-use Rattle.touch_ends.proofs.Marks.{or-none}
+use Rattle.touch_ends.proofs.Ended.{or-none}
 use borrow.Author.Needs.{needs}
 use Rattle.touch_ends.proofs.ends.touch_adds_at.Statement.{statement}
 use Rattle.touch_ends.proofs.ends.touch_adds_at.Tie as tie

@@ -23,23 +23,23 @@ insert-at-requires : tie.Need-insert-at-requires
 insert-at-requires c κs = (rw (c .before .before .before .place-of .ensures) (place-le device-id _ _), rw (c .before .before .len .ensures) at (c .before .if1 .taken))
 
 returns : tie.Need-returns
-returns c h =
+returns c =
     let s = c .before .before .before .before .before in
     let ds = s .args .ds in
     let l : length (ds .places) ≡ 4 = simp length-map at (s .good .0 .1 .1 .1 .0 .1 .0 .1) in
     let m : length (take (ds .count) (ds .places)) ≤ 4 = omega (arith, length-take (ds .count) (ds .places)) in
     let e = c .before .before .before .before .place-of .ensures in
     rw (c .insert-at .ensures)
-    (touched-miss _ _ (ds .count) (ds .places) _ _ e _ (unknown _ _ (ds .count) (ds .places) (s .args .phase) (s .args .t) e m h) (rw (c .before .before .before .len .ensures) at (c .before .before .if1 .taken)) (c .before .first .ensures))
+    (touched-miss _ _ (ds .count) (ds .places) _ _ e _ (unknown _ _ (ds .count) (ds .places) e m (s .pre)) (rw (c .before .before .before .len .ensures) at (c .before .before .if1 .taken)) (c .before .first .ensures))
 
 returns-2 : tie.Need-returns-2
-returns-2 c h =
+returns-2 c =
     let s = c .before .before .before in
     let ds = s .args .ds in
     let l : length (ds .places) ≡ 4 = simp length-map at (s .good .0 .1 .1 .1 .0 .1 .0 .1) in
     let m : length (take (ds .count) (ds .places)) ≤ 4 = omega (arith, length-take (ds .count) (ds .places)) in
     let e = c .before .before .place-of .ensures in
-    touched-full _ _ (ds .count) (ds .places) _ _ e (unknown _ _ (ds .count) (ds .places) (s .args .phase) (s .args .t) e m h) (rw (c .before .len .ensures) at (c .if1 .left))
+    touched-full _ _ (ds .count) (ds .places) _ _ e (unknown _ _ (ds .count) (ds .places) e m (s .pre)) (rw (c .before .len .ensures) at (c .if1 .left))
 
 pub add-spec : {M : Type 1} → statement M
 add-spec =

@@ -3,7 +3,6 @@ use borrow.Author.Needs.{needs}
 use mathlib.Core.Path.{_≡_, _∙_, refl, sym, ap}
 use native.Mathlib.Omega.{arith}
 use Prim.Native.Nat.{_+_, _-_, _≤_, _<_}
-use mathlib.Core.Bool.{false}
 use mathlib.Core.List.{[], map}
 use lib.ListN.{length, take, drop, length-take, length-map, length-set}
 use Rattle.model.specs.Types.{no-gesture}
@@ -15,7 +14,7 @@ use Rattle.touch_state.proofs.devices.no_place.Tie as tie
 
 -- what `getD` answers past the end
 nothing : Device
-nothing = record { id = 0; touches = record { count = 0; places = [] }; «added_or_removed_touches» = false; «gesture_state» = no-gesture }
+nothing = record { id = 0; touches = record { count = 0; places = [] }; «gesture_state» = no-gesture }
 
 len-requires : tie.Need-len-requires
 len-requires c κs = search needs

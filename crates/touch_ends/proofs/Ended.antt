@@ -1,5 +1,5 @@
--- Which devices a feed adds touches to or removes them from, event by event; and the end of a pass by those marks, device by device. Assumes nothing.
-use mathlib.Core.Path.{_≡_, refl, ap, ap₂, _∙_}
+-- Which devices a feed adds touches to or removes them from, event by event; and the end of a pass, device by device. Assumes nothing.
+use mathlib.Core.Path.{_≡_, refl, ap₂}
 use mathlib.Core.Bool.{Bool, true, false, _&&_, _||_}
 use mathlib.Core.List.{List, [], _∷_, _++_, map, map-append, append-nil}
 use Prim.Native.Nat.{ℕ, suc, _+_, _≤_, _<_}
@@ -11,15 +11,14 @@ use lib.Seq.{append-snoc, take-suc-set, take-set-lt, drop-set-lt}
 use lib.Ieee.{Float}
 use Rattle.data.specs.Numbers.{kind-number}
 use Rattle.model.specs.Types.{MaybePos2, Event, Key, ModifiersChanged, PointerMoved, MouseMoved, Button, PointerGone, Zoom, Rotate, Touch, MouseWheel, WindowFocused, Other}
-use Rattle.model.specs.Touch.{TouchState, adds-or-removes, added-or-removed-touches, end-touches}
+use Rattle.model.specs.Touch.{TouchState, adds-or-removes, added-or-removed-touches, end-device, end-touches}
 use Rattle.touch_device.specs.declared.Device.{Device}
-use Rattle.touch_device.specs.View.{Marked, device-view, marked-view, end-marked}
+use Rattle.touch_device.specs.View.{device-view}
 use Rattle.touches.proofs.Places.{rest, done}
 use Rattle.event_loop.specs.Lists.{touch-list, own}
 use Rattle.event_loop.specs.Loop.{Any}
 use Rattle.event_loop.proofs.Loops.{any-loop, own-any-law}
 use Rattle.event_loop.proofs.OfKind.{not-read}
-use Rattle.touch_ends.specs.Ends.{marked-by}
 
 pub or-none : (b : Bool) → b ≡ (b || false)
 or-none true = refl
@@ -78,19 +77,19 @@ module _ (time : Float) (p : MaybePos2) (es : List Event) where
   unfolding ended
   ended-start n a = refl
 
-  -- a device that is marked and then ended
-  end-one : (d m x : Device) → marked-view m ≡ marked-by es (marked-view d) → marked-view x ≡ end-marked time p (marked-view m) → device-view x ≡ end-touches time p es (device-view d)
-  unfolding end-marked marked-by end-touches
-  end-one d m x h k = ap (λ (v : Marked). v .device) (k ∙ ap (end-marked time p) h)
+  -- a device that is ended by what the events tell of it
+  end-one : (b : Bool) (d x : Device) → b ≡ added-or-removed-touches (d .id) es → device-view x ≡ end-device time p b (device-view d) → device-view x ≡ end-touches time p es (device-view d)
+  unfolding end-touches
+  end-one b d x h k = rw h at k
 
-  pub ended-step : (n i : ℕ) (a : List Device) (z m x : Device) → i < n → n ≤ length a → marked-view m ≡ marked-by es (marked-view (getD a i z)) → marked-view x ≡ end-marked time p (marked-view m)
+  pub ended-step : (n i : ℕ) (a : List Device) (z x : Device) (b : Bool) → i < n → n ≤ length a → b ≡ added-or-removed-touches (getD a i z .id) es → device-view x ≡ end-device time p b (device-view (getD a i z))
       → ended n (set a i x) (i + 1) ≡ ended n a i
   unfolding ended
-  ended-step n i a z m x h l marks ends =
-      let b : i < length a = omega arith in
+  ended-step n i a z x b h l adds ends =
+      let m : i < length a = omega arith in
       let s : i < suc i = omega arith in
-      let one = end-one (getD a i z) m x marks ends in
-      rw (add-one, take-suc-set a i x b, map-append, append-snoc, take-set-lt n a i x h, drop-set-lt (suc i) (take n a) i x s, rest n i a z h l, one)
+      let one = end-one b (getD a i z) x adds ends in
+      rw (add-one, take-suc-set a i x m, map-append, append-snoc, take-set-lt n a i x h, drop-set-lt (suc i) (take n a) i x s, rest n i a z h l, one)
 
   pub ended-end : (n i : ℕ) (a : List Device) → i ≤ n → n ≤ i → n ≤ length a → map device-view (take n a) ≡ ended n a i
   unfolding ended
