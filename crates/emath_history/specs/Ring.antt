@@ -46,6 +46,13 @@ pub record Added (h : History) (now : Float) (p : Pos2) (times positions : List 
   pub times-after : times' ≡ set times (free h) now
   pub positions-after : positions' ≡ set-position positions (free h) p
 
+-- What clearing leaves: no sample, and the first place stays.
+pub record Cleared (h r : History) : Type 0 where
+  -- whatever the lent arrays hold
+  pub none-left : (times positions : List Float) → view times positions r ≡ []
+  -- the next sample goes where the oldest one stood
+  pub start : r .start ≡ h .start
+
 -- what the private `grown` returns, the header with one sample more at the end: where all places are taken, the oldest sample's is used again
 unfoldable pub grown : History → History
 grown h = cond (ltb (h .len) max-len) (record { start = h .start; len = h .len + 1 }) (record { start = place (h .start + 1); len = max-len })

@@ -8,7 +8,7 @@ ghost use Prim.Native.Nat.{_+_, _*_, _<_};
 ghost use lib.Ieee.{Float};
 ghost use lib.ListN.{length, set};
 ghost use Rattle.emath.specs.History.{max-len, flush, duration, velocity};
-ghost use Rattle.emath_history.specs.Ring.{count, free, grown, view, Added, position-at, set-position};
+ghost use Rattle.emath_history.specs.Ring.{count, free, grown, view, Added, Cleared, position-at, set-position};
 
 pub const MIN_LEN: usize = 2;
 
@@ -33,7 +33,7 @@ impl History {
     }
 
     pub fn clear(self) -> History
-        ensures { λ r. ⌜ ((times positions : List Float) → view times positions r ≡ []) ⌝ }
+        ensures { λ r. ⌜ Cleared self r ⌝ }
     {
         History {
             start: self.start,

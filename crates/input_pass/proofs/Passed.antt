@@ -25,7 +25,7 @@ use Rattle.survey.proofs.Accepted.{accepted}
 use Rattle.touch_ends.proofs.Ended.{ended-own}
 use Rattle.input_state.specs.declared.input.PassInput.{PassInput}
 use Rattle.input_state.specs.declared.state.InputState.{InputState}
-use Rattle.input_state.specs.View.{Lent, panel, time-given, input, begin-by, Acted}
+use Rattle.input_state.specs.View.{Lent, panel, time-given, input, begin-by, Storage, Ready, Acted}
 use Rattle.input_pass.specs.Begun.{outcome, refusal-of, Looked, Begun}
 use Rattle.input_pass.specs.declared.begin.Begun.{Begun as Answer}
 
@@ -49,7 +49,7 @@ module _ (i : PassInput) (ws ps : List ℕ) (old : Float) (r : Reading) (vs : Li
   pub record Surveys (refusal : Option PassRefusal) : Type 0 where
     pub first : refusal ≡ refusal-of i ws old vs
     pub devices : refusal-of i ws old vs ≡ none → held ≡ fits-events (shaped-events ws) vs
-    pub lists : refusal-of i ws old vs ≡ none → Listed ws ps (r .counts)
+    pub ready : refusal-of i ws old vs ≡ none → Ready ws ps (r .counts)
 
   pub surveys : (refusal : Option PassRefusal) → refusal ≡ crowd-then ws (listed ps touch-list touches) (λ us. option (r .refusal)) vs → Surveys refusal
   unfolding refusal-of or-else crowd-then listed
@@ -59,14 +59,14 @@ module _ (i : PassInput) (ws ps : List ℕ) (old : Float) (r : Reading) (vs : Li
       go (some q) e =
           let own = looked .own q e in
           let none-counted : refusal ≡ some q = is ∙ rw (own .1) (own .0) in
-          record { first = none-counted ∙ rw e; devices = λ z. some-none (rw e at z); lists = λ z. some-none (rw e at z) }
+          record { first = none-counted ∙ rw e; devices = λ z. some-none (rw e at z); ready = λ z. some-none (rw e at z) }
       go none e =
           let read = looked .read e in
           let same : refusal ≡ fits-survey max-events (items ws) vs = is ∙ survey-is ws ps r vs read in
           record {
             first = same ∙ rw e;
             devices = λ z. devices-are ws ps r vs read (rw e at z);
-            lists = λ z. read .lists (none-refused ws ps r vs read (rw e at z));
+            ready = λ z. record { lists = read .lists (none-refused ws ps r vs read (rw e at z)); few = accepted ws max-events vs (rw e at z) .1 };
           }
 
 none-later : (a b : Option PassRefusal) → or-else a b ≡ none → b ≡ none
@@ -74,18 +74,25 @@ unfolding or-else
 none-later none b h = h
 none-later (some r) b h = some-none h
 
-pub taken-is : (i : PassInput) (ws ps counts : List ℕ) (l l' : Lent) (s s' : InputState) (ds ds' : Devices) (held : List TouchState) (time : Float) →
-    refusal-of i ws (s .clock .time) (view ds) ≡ none →
-    held ≡ fits-events (shaped-events ws) (view ds) →
-    Listed ws ps counts →
-    time ≡ time-or (time-given (i .time)) (i .«predicted_dt») (s .clock .time) →
-    view ds' ≡ map (end-touches time (s .pointer .place .«interact_pos») (shaped-events ws)) held →
-    Acted i ws ps counts l s l' s' → (n : Interaction) (t : ℕ) →
-    panel l' s' (view ds') n t ≡ begin-by (pass-events (input ws i)) (fits-events (pass-events (input ws i)) (view ds)) (panel l s (view ds) n t) (input ws i)
-unfolding refusal-of time-of pass-events
-taken-is i ws ps counts l l' s s' ds ds' held time z h ls e k act n t =
-    let a = accepted ws max-events (view ds) (none-later (own-refusal (input ws i) (s .clock .time)) _ z) in
-    rw (k, h, e) (act .result ls (a .1) (view ds) (fits-events (shaped-events ws) (view ds)) n t ∙ rw (a .0))
+-- a pass that is taken, of what `act` leaves
+module _ (i : PassInput) (ws : List ℕ) (l l' : Lent) (s s' : InputState) (ds : Devices) (z : refusal-of i ws (s .clock .time) (view ds) ≡ none)
+    (act : Acted i ws l s l' s') (n : Interaction) (t : ℕ) where
+  -- its events are those of the feed
+  all-events : shaped-events ws ≡ pass-events (input ws i)
+  unfolding refusal-of pass-events
+  all-events = accepted ws max-events (view ds) (none-later (own-refusal (input ws i) (s .clock .time)) _ z) .0
+
+  pub taken-is : (ds' : Devices) (held : List TouchState) (time : Float) →
+      held ≡ fits-events (shaped-events ws) (view ds) →
+      time ≡ time-or (time-given (i .time)) (i .«predicted_dt») (s .clock .time) →
+      view ds' ≡ map (end-touches time (s .pointer .place .«interact_pos») (shaped-events ws)) held →
+      panel l' s' (view ds') n t ≡ begin-by (pass-events (input ws i)) (fits-events (pass-events (input ws i)) (view ds)) (panel l s (view ds) n t) (input ws i)
+  unfolding time-of
+  taken-is ds' held time h e k = rw (k, h, e) (act .result (view ds) (fits-events (shaped-events ws) (view ds)) n t ∙ rw all-events)
+
+  pub storage-is : Storage (pass-events (input ws i))
+      (begin-by (pass-events (input ws i)) (fits-events (pass-events (input ws i)) (view ds)) (panel l s (view ds) n t) (input ws i)) l s l'
+  storage-is = rw all-events at (act .storage (view ds) (fits-events (shaped-events ws) (view ds)) n t)
 
 -- ---- the model's pass
 begin-is : (p : Panel) (i : Pass.PassInput) → begin-by (pass-events i) (touch-events (pass-events i) (p .touch-states)) p i ≡ begin-pass p i
@@ -133,6 +140,7 @@ module _ (i : PassInput) (ws : List ℕ) (l l' : Lent) (s : InputState) (ds : De
         refusal = q;
         refused = λ z. (es, ed, el);
         taken = λ z. absurd (some-not-none x h z);
+        storage = λ z. absurd (some-not-none x h z);
         whole = λ o n t. refused-whole q o n t x h;
         in-order = λ o. rw ed o;
       }
@@ -140,19 +148,21 @@ module _ (i : PassInput) (ws : List ℕ) (l l' : Lent) (s : InputState) (ds : De
   -- a pass that is taken
   pub taken-pass : (ps counts : List ℕ) (held : List TouchState) (time : Float) → option (r .refusal) ≡ first → option (r .refusal) ≡ none →
       (first ≡ none → held ≡ fits-events (shaped-events ws) (view ds)) →
-      (first ≡ none → Listed ws ps counts) →
+      (first ≡ none → Ready ws ps counts) →
       time ≡ time-or (time-given (i .time)) (i .«predicted_dt») (s .clock .time) →
       view (r .devices) ≡ map (end-touches time (s .pointer .place .«interact_pos») (listed-events ws ps touch-list (getD counts touch-list 0))) held →
-      Acted i ws ps counts l s l' (r .state) → Begun i ws l s ds l' r
+      Acted i ws l s l' (r .state) → Begun i ws l s ds l' r
   unfolding pass-events
   taken-pass ps counts held time q y e ls tm m act =
       let h : first ≡ none = sym q ∙ y in
-      let k = m ∙ ended-all ws ps counts (ls h) time (s .pointer .place .«interact_pos») held in
-      let same = taken-is i ws ps counts l l' s (r .state) ds (r .devices) held time h (e h) (ls h) tm k act in
+      let k = m ∙ ended-all ws ps counts (ls h .lists) time (s .pointer .place .«interact_pos») held in
+      let same : (n : Interaction) (t : ℕ) → now n t ≡ begin-by (events-of (items ws)) (fits-events (events-of (items ws)) (view ds)) (panel l s (view ds) n t) (input ws i) =
+      λ n t. taken-is i ws l l' s (r .state) ds h act n t (r .devices) held time (e h) tm k in
       record {
         refusal = q;
         refused = λ z. absurd (z h);
         taken = λ z. same;
+        storage = λ z. storage-is i ws l l' s (r .state) ds h act;
         whole = λ o n t. taken-whole q o n t h (same n t);
         in-order =
             λ o.

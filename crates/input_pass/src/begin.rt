@@ -53,7 +53,10 @@ pub fn begin_pass(
     i: PassInput,
     feed: &[u32],
 ) -> Begun
-    ensures { λ r. ⌜ BegunAs i (now (feed .entry)) (lent (now (times .entry)) (now (positions .entry)) (now (codes .entry)) (now (places .entry)) (now (presses .entry))) s ds (lent (now (times .exit)) (now (positions .exit)) (now (codes .exit)) (now (places .exit)) (now (presses .exit))) r ⌝ }
+    ensures { λ r. ⌜ BegunAs
+        i (now (feed .entry))
+        (lent (now (times .entry)) (now (positions .entry)) (now (codes .entry)) (now (places .entry)) (now (presses .entry))) s ds
+        (lent (now (times .exit)) (now (positions .exit)) (now (codes .exit)) (now (places .exit)) (now (presses .exit))) r ⌝ }
 {
     let clock = s.clock;
     let pointer = s.pointer;

@@ -5,8 +5,9 @@ use mathlib.Core.Bool.{not, _&&_}
 use mathlib.Core.List.{List, [], map}
 use mathlib.Core.Option.{Option, none, some}
 use lib.ListN.{length}
+use lib.Seq.{sets}
 use lib.Ieee.{Float}
-use Rattle.data.specs.Limits.{max-events}
+use Rattle.data.specs.Limits.{max-events, key-count}
 use Rattle.model.specs.Types.{Rect, InputOptions, MaybeF64, no-time, some-time, Event}
 use Rattle.model.specs.Pointer.{place-pass, press-pass, is-decidedly-dragging}
 use Rattle.model.specs.Touch.{TouchState, end-touches}
@@ -15,9 +16,12 @@ use Rattle.model.specs.Pass.{Panel, Interaction, time-of, rect-or, clock-pass, 
 use Rattle.model.specs.Pass as Pass
 use Rattle.event_loop.specs.Shaped.{shaped-events}
 use Rattle.event_loop.specs.Lists.{Listed}
-use Rattle.pointer_place.specs.View.{place}
+use Rattle.pointer_place.specs.View.{place, times-after, positions-after}
+use Rattle.pointer_events.specs.Events.{codes-of, positions-of}
 use Rattle.pointer_state.specs.View.{press}
-use Rattle.key_state.specs.View.{presses-of, keys}
+use Rattle.place_loop.specs.Passed.{sample-place, PlacePassed}
+use Rattle.press_loop.specs.Passed.{PressPassed}
+use Rattle.key_state.specs.View.{presses-of, keys, numbers-of}
 use Rattle.input_state.specs.declared.input.MaybeRect.{MaybeRect}
 use Rattle.input_state.specs.declared.input.MaybeRect.the-variants.{None as no-rect, Some as some-rect}
 use Rattle.input_state.specs.declared.input.PassInput.{PassInput}
@@ -116,19 +120,47 @@ begin-by es vs p i =
 abbrev pub Fresh : InputState → Type 0
 Fresh s = (l : Lent) → ((j : ℕ) → presses-of (l .presses) j ≡ 0) → panel l s [] (fresh .interaction) (fresh .tally) ≡ fresh
 
--- the pointer's part, of the events in its list
+-- The pointer's part of a pass, of the events in its list.
 pub record PointerPassed (old : InputOptions) (before : Float) (o : InputOptions) (time : Float) (es : List Event)
     (times positions : List Float) (codes : List ℕ) (places : List Float) (p : Pointer)
     (times' positions' : List Float) (codes' : List ℕ) (places' : List Float) (r : Pointer) : Type 0 where
-  pub place-is : place times' positions' (r .place) ≡ place-pass time es (place times positions (p .place))
-  pub press-is : length es ≤ max-events →
-      press codes' places' (r .press) ≡ press-pass o time es (press codes places (p .press))
+  -- where the pointer is, and the places of its history
+  pub place-is : PlacePassed time es times positions (p .place) times' positions' (r .place)
+  -- the presses, and the places of the pass's pointer events
+  pub press-is : PressPassed o time es codes places (p .press) codes' places' (r .press)
+  -- a drag that was not decided before is decided now
   pub started-is : r .«started_decidedly_dragging»
       ≡ (is-decidedly-dragging o time (press codes' places' (r .press) .held) (press codes' places' (r .press) .past .has-moved-too-much-for-a-click)
       && not (is-decidedly-dragging old before (press codes places (p .press) .held) (press codes places (p .press) .past .has-moved-too-much-for-a-click)))
 
--- a pass that is taken, of a feed of at most 64 events whose places are listed, for any devices `us` after the touch events
-pub record Acted (i : PassInput) (ws ps counts : List ℕ) (l : Lent) (s : InputState) (l' : Lent) (r : InputState) : Type 0 where
-  pub result : Listed ws ps counts → length (shaped-events ws) ≤ max-events → (vs us : List TouchState) (n : Interaction) (t : ℕ) →
+-- ---- a pass that is taken
+
+-- Every place of the lent arrays after a taken pass of the events `es` that leaves the model's panel `p`.
+pub record Storage (es : List Event) (p : Panel) (l : Lent) (s : InputState) (l' : Lent) : Type 0 where
+  -- where the pointer has a position, the pass's time stands at the sample's place; every other place keeps its contents
+  pub times : l' .times ≡ times-after (p .place .latest-pos) (sample-place es (l .times) (l .positions) (s .pointer .place)) (p .clock .time) (l .times)
+  -- and so the position
+  pub positions : l' .positions ≡ positions-after (p .place .latest-pos) (sample-place es (l .times) (l .positions) (s .pointer .place)) (l .positions)
+  -- the numbers of the pass's pointer events stand from the first place on; every other place keeps its contents
+  pub codes : l' .codes ≡ sets (l .codes) 0 (codes-of (p .press .held .pointer-events))
+  -- and so their positions
+  pub places : l' .places ≡ sets (l .places) 0 (positions-of (p .press .held .pointer-events))
+  -- every place is written: it holds how often its key was pressed in the pass
+  pub presses : l' .presses ≡ numbers-of (p .keys .presses) key-count
+
+-- What `act` asks, and reading the feed tells.
+pub record Ready (ws ps counts : List ℕ) : Type 0 where
+  -- the lists hold the places of the feed's events
+  pub lists : Listed ws ps counts
+  -- "At most 64 events"
+  pub few : length (shaped-events ws) ≤ max-events
+
+-- Its outcome, for any devices: `vs` before the pass, `us` after the touch events.
+pub record Acted (i : PassInput) (ws : List ℕ) (l : Lent) (s : InputState) (l' : Lent) (r : InputState) : Type 0 where
+  -- the model's `begin-pass`
+  pub result : (vs us : List TouchState) (n : Interaction) (t : ℕ) →
       panel l' r (map (end-touches (time-of (input ws i) (s .clock .time)) (s .pointer .place .«interact_pos») (shaped-events ws)) us) n t
       ≡ begin-by (shaped-events ws) us (panel l s vs n t) (input ws i)
+  -- and every place of the lent arrays
+  pub storage : (vs us : List TouchState) (n : Interaction) (t : ℕ) →
+      Storage (shaped-events ws) (begin-by (shaped-events ws) us (panel l s vs n t) (input ws i)) l s l'

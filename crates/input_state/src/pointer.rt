@@ -11,6 +11,8 @@ use pointer_events::PLACES;
 use pointer_place::Place;
 use pointer_state::press::Press;
 use press_loop::press_pass;
+ghost use Prim.Native.Nat.{_≤_};
+ghost use Rattle.data.specs.Limits.{max-events};
 ghost use Rattle.event_loop.specs.Lists.{listed-events, pointer-list};
 ghost use Rattle.input_state.specs.View.{PointerPassed};
 
@@ -20,7 +22,7 @@ pub struct Pointer {
     pub started_decidedly_dragging: bool,
 }
 
-// `before` and `old` are the pointer's time and the options before the pass.
+// Of the first `count` events in the pointer's list. `before` and `old` are the pointer's time and the options before the pass.
 pub fn pointer_pass(
     p: Pointer,
     times: &mut [f64; MAX_LEN],
@@ -35,7 +37,11 @@ pub fn pointer_pass(
     lists: &[u16; LISTED],
     count: u8,
 ) -> Pointer
-    ensures { λ r. ⌜ PointerPassed old before options time (listed-events (now (feed .entry)) (now (lists .entry)) pointer-list count) (now (times .entry)) (now (positions .entry)) (now (codes .entry)) (now (places .entry)) p (now (times .exit)) (now (positions .exit)) (now (codes .exit)) (now (places .exit)) r ⌝ }
+    requires { ⌜ count ≤ max-events ⌝ }
+    ensures { λ r. ⌜ PointerPassed
+        old before options time (listed-events (now (feed .entry)) (now (lists .entry)) pointer-list count)
+        (now (times .entry)) (now (positions .entry)) (now (codes .entry)) (now (places .entry)) p
+        (now (times .exit)) (now (positions .exit)) (now (codes .exit)) (now (places .exit)) r ⌝ }
 {
     let old_place = p.place;
     let old_press = p.press;

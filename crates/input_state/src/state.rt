@@ -29,7 +29,7 @@ use pointer_events::PLACES;
 use pointer_place::Place;
 use pointer_state::press::Press;
 use wheel_loop::wheel_pass;
-ghost use Rattle.input_state.specs.View.{Fresh, Acted, lent};
+ghost use Rattle.input_state.specs.View.{Fresh, Ready, Acted, lent};
 
 pub struct InputState {
     pub clock: Clock,
@@ -79,7 +79,11 @@ pub fn act(
     lists: &[u16; LISTED],
     counts: [u8; LIST_COUNT],
 ) -> InputState
-    ensures { λ r. ⌜ Acted i (now (feed .entry)) (now (lists .entry)) counts (lent (now (times .entry)) (now (positions .entry)) (now (codes .entry)) (now (places .entry)) (now (presses .entry))) s (lent (now (times .exit)) (now (positions .exit)) (now (codes .exit)) (now (places .exit)) (now (presses .exit))) r ⌝ }
+    requires { ⌜ Ready (now feed) (now lists) counts ⌝ }
+    ensures { λ r. ⌜ Acted
+        i (now (feed .entry))
+        (lent (now (times .entry)) (now (positions .entry)) (now (codes .entry)) (now (places .entry)) (now (presses .entry))) s
+        (lent (now (times .exit)) (now (positions .exit)) (now (codes .exit)) (now (places .exit)) (now (presses .exit))) r ⌝ }
 {
     let old_clock = s.clock;
     let old_screen = s.screen;

@@ -1,13 +1,15 @@
 -- The model's steps on what the set and the lent presses mean. Assumes nothing.
 use mathlib.Core.Path.{_≡_, refl, sym, ap, ap₂, fun-ext, _∙_}
 use mathlib.Core.Bool.{Bool, true, false, cond}
-use mathlib.Core.List.{List, [], _∷_, map}
+use mathlib.Core.List.{List, [], _∷_, _++_}
 use Prim.Native.Nat.{ℕ, zero, suc, _+_, _≤_, _<_}
 use native.Mathlib.Omega.{arith}
 use lib.Dec.{T, eqb, ltb}
-use lib.ListN.{getD, set, length, replicate, getD-replicate}
-use lib.Seq.{getD-set-same, getD-set-other}
-use borrow.Author.Tests.{eqb-true, eqb-false, ne-eqb, ltb-true, lt-ltb}
+use lib.Ieee.Bits.{is-true}
+use lib.ListN.{getD, set, length, length-append, replicate, getD-replicate, List·getD-append}
+use lib.Seq.{getD-set-same, getD-set-other, getD-at, ext-getD}
+use borrow.Author.Tests.{eqb-true, eqb-false, ne-eqb, ltb-true, ltb-false, lt-ltb}
+use Rattle.feed.specs.Encode.{fields-ok}
 use Rattle.feed.specs.Split.{pieces, pieces-from}
 use Rattle.model.specs.Types.{Modifiers, Event, Key, ModifiersChanged, PointerMoved, MouseMoved, Button, PointerGone, Zoom, Rotate, Touch, MouseWheel, WindowFocused, Other}
 use Rattle.model.specs.Pass.{set-key, count-press, no-keys, no-presses, key-event, is-empty, fresh}
@@ -17,7 +19,7 @@ use Rattle.event_loop.specs.Shaped.{shaped-events}
 use Rattle.key_state.specs.declared.bits.Set256.{Set256}
 use Rattle.key_state.specs.declared.keys.Keys.{Keys}
 use Rattle.key_state.specs.Bits.{has, with-member}
-use Rattle.key_state.specs.View.{presses-of, one-more, down-of, keys, begun}
+use Rattle.key_state.specs.View.{presses-of, one-more, down-of, keys, numbers-of, begun}
 
 -- two records whose functions agree at each key
 pub alike : {f g : ℕ → Bool} {p q : ℕ → ℕ} (m : Modifiers) (b : Bool) → ((j : ℕ) → f j ≡ g j) → ((j : ℕ) → p j ≡ q j) →
@@ -87,10 +89,45 @@ cleared j = go (ltb j 145) refl
     go true t = getD-replicate {A = ℕ} 145 j 0 0 (ltb-true _ _ t)
     go false t = refl
 
+pub no-more : (n : ℕ) → n ≡ 0 → n ≤ 0
+no-more n h = omega arith
+
 empty-shaped : (ws : List ℕ) → eqb (length ws) 0 ≡ is-empty (shaped-events ws)
 unfolding shaped-events pieces pieces-from is-empty
 empty-shaped [] = refl
 empty-shaped (w ∷ ws) = ne-eqb (suc (length ws)) 0 (λ (q : suc (length ws) ≡ 0). omega arith)
+
+-- a key that a feed's event has is one of egui's
+pub named-below : (place : ℕ) (pressed : Bool) → T (fields-ok (Key place pressed)) → place < 145
+unfolding fields-ok
+named-below place pressed f = ltb-true place 145 (is-true (ltb place 145) f)
+
+-- ---- the places of the presses
+numbers-length : (f : ℕ → ℕ) (n : ℕ) → length (numbers-of f n) ≡ n
+unfolding numbers-of
+numbers-length f zero = refl
+numbers-length f (suc n) = omega (arith, length-append (numbers-of f n) (f n ∷ []), numbers-length f n)
+
+number-at : (f : ℕ → ℕ) (n j : ℕ) → j < n → getD (numbers-of f n) j 0 ≡ f j
+unfolding numbers-of
+number-at f zero j h = absurd (omega arith)
+number-at f (suc n) j h = go (ltb j n) refl (λ l. number-at f n j l)
+  where
+    go : (b : Bool) → ltb j n ≡ b → (j < n → getD (numbers-of f n) j 0 ≡ f j) → getD (numbers-of f n ++ (f n ∷ [])) j 0 ≡ f j
+    go true t before =
+        let l = numbers-length f n in
+        List·getD-append (numbers-of f n) (f n ∷ []) 0 j (omega (arith, ltb-true j n t)) ∙ before (ltb-true j n t)
+    go false t before =
+        let e : j ≡ n = omega (arith, ltb-false j n t) in
+        rw e (getD-at (numbers-of f n) (f n) [] 0 n (numbers-length f n))
+
+-- 145 places that hold the presses of each key
+pub all-numbers : (ps : List ℕ) (f : ℕ → ℕ) → length ps ≡ 145 → ((j : ℕ) → presses-of ps j ≡ f j) → ps ≡ numbers-of f 145
+all-numbers ps f long same =
+    ext-getD 0 ps (numbers-of f 145) (long ∙ sym (numbers-length f 145))
+    (λ j h.
+    let small : j < 145 = omega arith in
+    rw (lt-ltb j 145 small) at (same j) ∙ sym (number-at f 145 j small))
 
 -- before the first event
 pub start : (ws ps qs : List ℕ) (k : Keys) → ((j : ℕ) → presses-of qs j ≡ 0) →

@@ -1,12 +1,11 @@
 -- What the structs of src/ and the lent presses mean: the model's records.
-use Prim.Native.Nat.{ℕ, _+_, _≤_, _<_}
+use Prim.Native.Nat.{ℕ, zero, suc, _+_, _<_}
 use mathlib.Core.Path.{_≡_}
-use mathlib.Core.List.{List}
+use mathlib.Core.List.{List, [], _∷_, _++_}
 use mathlib.Core.Bool.{Bool, false, cond}
-use lib.Dec.{T, ltb}
+use lib.Dec.{ltb}
 use lib.ListN.{getD, length}
-use Rattle.data.specs.Limits.{max-events, key-count}
-use Rattle.feed.specs.Encode.{fields-ok}
+use Rattle.data.specs.Limits.{key-count}
 use Rattle.model.specs.Types.{Event}
 use Rattle.model.specs.Pass.{no-presses, is-empty, key-event, key-events}
 use Rattle.model.specs.Pass as Pass
@@ -30,14 +29,29 @@ down-of s j = cond (ltb j key-count) (has s j) false
 abbrev pub keys : List ℕ → Keys → Pass.Keys
 keys presses k = record { keys-down = down-of (k .down); modifiers = k .modifiers; presses = presses-of presses; feed-empty = k .«feed_empty» }
 
--- An event's effect, of a key that egui names and of counts that a byte has room for.
-abbrev pub Stepped : Event → List ℕ → Keys → List ℕ → Keys → Type 0
-Stepped e presses k presses' r = T (fields-ok e) → ((j : ℕ) → presses-of presses j < 255) → keys presses' r ≡ key-event e (keys presses k)
+-- a byte has room for one press more of each key
+abbrev pub Room : List ℕ → Type 0
+Room presses = (j : ℕ) → presses-of presses j < 255
+
+-- An event's effect.
+pub record Stepped (e : Event) (presses : List ℕ) (k : Keys) (presses' : List ℕ) (r : Keys) : Type 0 where
+  -- the model's
+  pub result : keys presses' r ≡ key-event e (keys presses k)
+  -- there are as many lent places as before
+  pub places : length presses' ≡ length presses
 
 -- before the events of a pass; `empty` tells whether its feed holds none
 abbrev pub begun : Bool → Pass.Keys → Pass.Keys
 begun empty s = record { keys-down = s .keys-down; modifiers = s .modifiers; presses = no-presses; feed-empty = empty }
 
--- A pass's effect, by at most 64 events `es` of the feed `ws`.
-abbrev pub Passed : List ℕ → List Event → List ℕ → Keys → List ℕ → Keys → Type 0
-Passed ws es presses k presses' r = length es ≤ max-events → keys presses' r ≡ key-events es (begun (is-empty (shaped-events ws)) (keys presses k))
+-- the numbers of the first n keys, in their order
+unfoldable pub numbers-of : (ℕ → ℕ) → ℕ → List ℕ
+numbers-of f zero = []
+numbers-of f (suc n) = numbers-of f n ++ (f n ∷ [])
+
+-- A pass's effect, by the events `es` of the feed `ws`.
+pub record Passed (ws : List ℕ) (es : List Event) (presses : List ℕ) (k : Keys) (presses' : List ℕ) (r : Keys) : Type 0 where
+  -- the model's
+  pub result : keys presses' r ≡ key-events es (begun (is-empty (shaped-events ws)) (keys presses k))
+  -- every lent place is written: it holds how often its key was pressed in the pass
+  pub presses-after : presses' ≡ numbers-of (key-events es (begun (is-empty (shaped-events ws)) (keys presses k)) .presses) key-count

@@ -11,14 +11,15 @@ use event_readers::readers::focus_at;
 use event_readers::readers::modifiers_at;
 ghost use mathlib.Core.Path.{_≡_};
 ghost use mathlib.Core.List.{List};
-ghost use Prim.Native.Nat.{ℕ, _<_};
+ghost use Prim.Native.Nat.{ℕ, _≤_, _<_};
 ghost use lib.Dec.{ltb};
 ghost use lib.ListN.{getD, set, length};
+ghost use Rattle.data.specs.Limits.{max-events, key-count};
 ghost use Rattle.model.specs.Types.{Key, WindowFocused};
 ghost use Rattle.model.specs.Pass.{key-event, fresh};
 ghost use Rattle.event_loop.specs.Shaped.{shaped-at};
 ghost use Rattle.event_loop.specs.Lists.{listed-events, keys-list};
-ghost use Rattle.key_state.specs.View.{presses-of, one-more, keys, Stepped, Passed};
+ghost use Rattle.key_state.specs.View.{presses-of, one-more, keys, Room, Stepped, Passed};
 ghost use Rattle.key_state.specs.declared.keys.Keys.{Keys};
 
 pub struct Keys {
@@ -54,19 +55,19 @@ fn count_press(presses: &mut [u8], place: usize)
     presses[place] = n;
 }
 
+// A key that egui names: one that a feed's event has.
 fn key(k: Keys, presses: &mut [u8; 145], place: u32, pressed: bool) -> Keys
+    requires { ⌜ place < key-count ⌝ }
+    requires { ⌜ Room (now presses) ⌝ }
     ensures { λ r. ⌜ Stepped (Key place pressed) (now (presses .entry)) k (now (presses .exit)) r ⌝ }
 {
-    if place < KEY_COUNT {
-        let old = k.down;
-        let down = crate::bits::set(old, place, pressed);
-        if pressed {
-            count_press(presses, place as usize);
-            return Keys { down, ..k };
-        }
+    let old = k.down;
+    let down = crate::bits::set(old, place, pressed);
+    if pressed {
+        count_press(presses, place as usize);
         return Keys { down, ..k };
     }
-    k
+    Keys { down, ..k }
 }
 
 // Lost focus clears keys and modifiers.
@@ -87,6 +88,7 @@ fn focus(k: Keys, focused: bool) -> Keys
 
 // Kinds 1, 2 and 11 are read, and each goes straight to its step.
 fn key_at(k: Keys, presses: &mut [u8; 145], feed: &[u32], at: usize) -> Keys
+    requires { ⌜ Room (now presses) ⌝ }
     ensures { λ r. ⌜ Stepped (shaped-at (now (feed .entry)) at) (now (presses .entry)) k (now (presses .exit)) r ⌝ }
 {
     let kind = kind_at(feed, at);
@@ -114,7 +116,7 @@ fn key_at(k: Keys, presses: &mut [u8; 145], feed: &[u32], at: usize) -> Keys
     k
 }
 
-// The keys' part of a pass, of the first `count` events in their list.
+// The keys' part of a pass, of the first `count` events in their list, which has no more than a pass may have.
 pub fn keys_pass(
     k: Keys,
     presses: &mut [u8; 145],
@@ -122,7 +124,10 @@ pub fn keys_pass(
     lists: &[u16; LISTED],
     count: u8,
 ) -> Keys
-    ensures { λ r. ⌜ Passed (now (feed .entry)) (listed-events (now (feed .entry)) (now (lists .entry)) keys-list count) (now (presses .entry)) k (now (presses .exit)) r ⌝ }
+    requires { ⌜ count ≤ max-events ⌝ }
+    ensures { λ r. ⌜ Passed
+        (now (feed .entry)) (listed-events (now (feed .entry)) (now (lists .entry)) keys-list count)
+        (now (presses .entry)) k (now (presses .exit)) r ⌝ }
 {
     *presses = [0; 145];
     let mut s = k;

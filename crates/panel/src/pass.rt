@@ -11,7 +11,7 @@ use touch_state::devices::Devices;
 ghost use Rattle.input_state.specs.View.{lent};
 ghost use Rattle.input_pass.specs.Begun.{Begun as BegunAs};
 
-// Refused, with the state, the devices and every lent place as before; or taken.
+// Refused, with the state, the devices and every lent place as before; or taken, and then every lent place is stated too.
 pub fn pass(
     input: InputState,
     devices: Devices,
@@ -23,7 +23,10 @@ pub fn pass(
     given: PassInput,
     feed: &[u32],
 ) -> Begun
-    ensures { λ r. ⌜ BegunAs given (now (feed .entry)) (lent (now (times .entry)) (now (positions .entry)) (now (codes .entry)) (now (places .entry)) (now (presses .entry))) input devices (lent (now (times .exit)) (now (positions .exit)) (now (codes .exit)) (now (places .exit)) (now (presses .exit))) r ⌝ }
+    ensures { λ r. ⌜ BegunAs
+        given (now (feed .entry))
+        (lent (now (times .entry)) (now (positions .entry)) (now (codes .entry)) (now (places .entry)) (now (presses .entry))) input devices
+        (lent (now (times .exit)) (now (positions .exit)) (now (codes .exit)) (now (places .exit)) (now (presses .exit))) r ⌝ }
 {
     begin_pass(
         input,

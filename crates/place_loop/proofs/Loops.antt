@@ -1,11 +1,19 @@
 -- Events of the kinds that are not read leave it as it is; and its loop along its list. Assumes nothing.
 use mathlib.Core.Path.{_≡_, refl}
-use mathlib.Core.Bool.{false, _||_}
+use mathlib.Core.Bool.{Bool, false, _||_}
 use mathlib.Core.List.{List, [], _∷_}
+use Prim.Native.Nat.{ℕ, _+_}
+use lib.ListN.{length}
 use lib.Ieee.{Float}
+use Rattle.emath.specs.History.{Sample}
+use Rattle.emath_history.specs.declared.history.History.{History}
+use Rattle.emath_history.specs.Ring.{view, free}
+use Rattle.emath_history.specs.Ring as Ring
+use Rattle.emath_history.proofs.Samples.{view-count}
 use Rattle.data.specs.Numbers.{kind-number}
+use Rattle.model.specs.Types.{MaybePos2}
 use Rattle.model.specs.Types.{Event, Key, ModifiersChanged, PointerMoved, MouseMoved, Button, PointerGone, Zoom, Rotate, Touch, MouseWheel, WindowFocused, Other}
-use Rattle.model.specs.Pointer.{Place, start-place, place-event, place-events, place-pass, clear-history-after}
+use Rattle.model.specs.Pointer.{Place, start-place, place-event, place-events, place-pass, clear-history-after, end-place, finish-place}
 use Rattle.event_loop.specs.Lists.{pointer-list, own}
 use Rattle.event_loop.specs.Loop.{Loop, Any}
 use Rattle.event_loop.proofs.Loops.{loop, own-law, any-loop, own-any-law}
@@ -80,3 +88,12 @@ gone-own es = own-any-law clear-history-after refl gone-first pointer-list (λ e
 pub place-pass-own : (time : Float) (es : List Event) (p : Place) → place-pass time (own pointer-list es) p ≡ place-pass time es p
 unfolding place-pass
 place-pass-own time es p = rw (gone-own es, place-own es (start-place p))
+
+-- the end of a pass keeps the position
+pub latest-kept : (time : Float) (old : MaybePos2) (gone : Bool) (p : Place) → end-place time old gone p .latest-pos ≡ p .latest-pos
+unfolding end-place finish-place
+latest-kept time old gone p = refl
+
+-- the place that the pass's sample takes
+pub sample-at : (ts ps : List Float) (h : History) {start : ℕ} {xs : List Sample} → view ts ps h ≡ xs → h .start ≡ start → free h ≡ Ring.place (start + length xs)
+sample-at ts ps h v s = rw (← s, ← v, view-count ts ps h)

@@ -17,17 +17,16 @@ use pointer_place::motion_place;
 use pointer_place::moved_place;
 use pointer_place::start_place;
 ghost use mathlib.Core.Path.{_≡_};
-ghost use mathlib.Core.List.{List, [], _∷_};
-ghost use lib.Ieee.{Float};
+ghost use mathlib.Core.List.{[], _∷_};
 ghost use Rattle.model.specs.Pointer.{place-event, place-events, clear-history-after};
 ghost use Rattle.event_loop.specs.Shaped.{shaped-at};
 ghost use Rattle.event_loop.specs.Lists.{listed-events, pointer-list};
-ghost use Rattle.pointer_place.specs.View.{place};
+ghost use Rattle.pointer_place.specs.View.{Placed};
 ghost use Rattle.place_loop.specs.Passed.{PlacePassed};
 
 // Kinds 3 to 6 are read, and each goes straight to its step.
 fn place_at(p: Place, feed: &[u32], at: usize) -> Place
-    ensures { λ r. ⌜ ((times positions : List Float) → place times positions r ≡ place-event (shaped-at (now (feed .entry)) at) (place times positions p)) ⌝ }
+    ensures { λ r. ⌜ Placed (place-event (shaped-at (now (feed .entry)) at)) p r ⌝ }
 {
     match kind_at(feed, at) {
         3 => {
@@ -59,7 +58,7 @@ fn place_at(p: Place, feed: &[u32], at: usize) -> Place
 }
 
 fn place_events(p: Place, feed: &[u32], lists: &[u16; LISTED], count: u8) -> Place
-    ensures { λ r. ⌜ ((times positions : List Float) → place times positions r ≡ place-events (listed-events (now (feed .entry)) (now (lists .entry)) pointer-list count) (place times positions p)) ⌝ }
+    ensures { λ r. ⌜ Placed (place-events (listed-events (now (feed .entry)) (now (lists .entry)) pointer-list count)) p r ⌝ }
 {
     let mut s = p;
     let mut i: u8 = 0;
@@ -108,7 +107,9 @@ pub fn place_pass(
     lists: &[u16; LISTED],
     count: u8,
 ) -> Place
-    ensures { λ r. ⌜ PlacePassed time (listed-events (now (feed .entry)) (now (lists .entry)) pointer-list count) (now (times .entry)) (now (positions .entry)) p (now (times .exit)) (now (positions .exit)) r ⌝ }
+    ensures { λ r. ⌜ PlacePassed
+        time (listed-events (now (feed .entry)) (now (lists .entry)) pointer-list count)
+        (now (times .entry)) (now (positions .entry)) p (now (times .exit)) (now (positions .exit)) r ⌝ }
 {
     let old = p.latest_pos;
     let started = start_place(p);

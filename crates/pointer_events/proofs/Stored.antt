@@ -7,7 +7,8 @@ use mathlib.Core.Bool.{Bool, true, false, cond, _||_}
 use mathlib.Core.List.{List, [], _∷_, _++_}
 use lib.Dec.{eqb, ltb}
 use lib.ListN.{length, take, drop, getD, set, length-append}
-use lib.Seq.{lt-length-set, getD-set-same, getD-set-other, take-all, take-append-le, drop-set-lt}
+use lib.Seq.{lt-length-set, getD-set-same, getD-set-other, take-all, take-append-le, drop-length, drop-append-seam, sets}
+use borrow.Author.Tests.{ltb-true, ltb-false}
 use lib.Ieee.{Float, nan}
 use Rattle.emath_history.specs.Ring.{position-at, set-position}
 use Rattle.data.specs.Limits.{max-events}
@@ -20,7 +21,7 @@ use Rattle.model.specs.Pointer.{any, is-press, is-release, is-click}
 use Rattle.model.specs.Questions.{presses-button, releases-button, clicks-button, clicks-button-times}
 use Rattle.pointer_events.specs.Types.{Entry, Sought, no-event, some-event}
 use Rattle.pointer_events.specs.Types.sought as sought
-use Rattle.pointer_events.specs.Events.{click-of, event-of, entry-of, entry-at, events-from, counted, events, event-or-none, asks, codes-with, Pushed}
+use Rattle.pointer_events.specs.Events.{click-of, event-of, entry-of, entry-at, events-from, counted, events, event-or-none, asks, codes-with, codes-of, positions-of, Pushed}
 
 -- ---- an event is read back as it was written
 pub event-back : (e : PointerEvent) → event-of (entry-of e) ≡ e
@@ -99,22 +100,19 @@ module _ (cs : List ℕ) (ps : List Float) (n : ℕ) (x : Entry) where
   before-same i zero h = refl
   before-same i (suc k) h = rw (entry-other i (λ e. omega arith), before-same (suc i) k (omega arith))
 
-  codes-kept : drop ((n + 1) * 4) cs' ≡ drop ((n + 1) * 4) cs
+  -- the entry's numbers are stored one after the other
+  codes-stored : cs' ≡ sets cs (n * 4) (x .kind ∷ x .button ∷ x .count ∷ x .flags ∷ [])
   unfolding codes-with
-  codes-kept =
-      rw (
-        drop-set-lt ((n + 1) * 4) _ (n * 4 + 3) (x .flags) (omega arith),
-        drop-set-lt ((n + 1) * 4) _ (n * 4 + 2) (x .count) (omega arith),
-        drop-set-lt ((n + 1) * 4) _ (n * 4 + 1) (x .button) (omega arith),
-        drop-set-lt ((n + 1) * 4) cs (n * 4) (x .kind) (omega arith),
-      )
+  codes-stored =
+      let one : n * 4 + 1 ≡ suc (n * 4) = omega arith in
+      let two : n * 4 + 2 ≡ suc (suc (n * 4)) = omega arith in
+      let three : n * 4 + 3 ≡ suc (suc (suc (n * 4))) = omega arith in
+      rw (one, two, three)
 
-  positions-kept : drop ((n + 1) * 2) ps' ≡ drop ((n + 1) * 2) ps
-  positions-kept =
-      rw (
-        drop-set-lt ((n + 1) * 2) _ (n * 2 + 1) (x .pos .y) (omega arith),
-        drop-set-lt ((n + 1) * 2) ps (n * 2) (x .pos .x) (omega arith),
-      )
+  positions-stored : ps' ≡ sets ps (n * 2) (x .pos .x ∷ x .pos .y ∷ [])
+  positions-stored =
+      let one : n * 2 + 1 ≡ suc (n * 2) = omega arith in
+      rw one
 
   module _ (hc : n * 4 + 3 < length cs) (hp : n * 2 + 1 < length ps) (h : n < max-events) where
     abbrev c1 : List ℕ
@@ -173,19 +171,73 @@ module _ {e : PointerEvent} {n : ℕ} {cs : List ℕ} {ps : List Float} {r : ℕ
   pub pushed-room : length (events cs ps n) < max-events → events cs' ps' r ≡ events cs ps n ++ (e ∷ [])
   pushed-room h = p .result ∙ take-all max-events (events cs ps n ++ (e ∷ [])) (simp length-append (omega arith))
 
-  pub codes-past : drop (r * 4) cs' ≡ drop (r * 4) cs
-  codes-past = rw (p .count, p .codes-after) (go (ltb n max-events))
+  -- what is added: the event, where there is room
+  abbrev new : List PointerEvent
+  new = drop (length (events cs ps n)) (take max-events (events cs ps n ++ (e ∷ [])))
+
+  new-is : new ≡ cond (ltb n max-events) (e ∷ []) []
+  new-is = go (ltb n max-events) refl
     where
-      go : (b : Bool) → drop (cond b (n + 1) n * 4) (cond b (codes-with n (entry-of e) cs) cs) ≡ drop (cond b (n + 1) n * 4) cs
-      go true = codes-kept cs ps n (entry-of e)
+      go : (b : Bool) → ltb n max-events ≡ b → new ≡ cond b (e ∷ []) []
+      go true t =
+          let small : length (events cs ps n ++ (e ∷ [])) ≤ max-events =
+          simp (length-append, events-length) (omega (arith, ltb-true n max-events t)) in
+          rw (take-all max-events (events cs ps n ++ (e ∷ [])) small) (drop-append-seam (events cs ps n) (e ∷ []))
+      go false t = rw (← full cs ps n e (ltb-false n max-events t)) (drop-length (events cs ps n))
+
+  pub codes-written : cs' ≡ sets cs (n * 4) (codes-of new)
+  unfolding codes-of
+  codes-written = rw (p .codes-after, new-is) (go (ltb n max-events))
+    where
+      go : (b : Bool) → cond b (codes-with n (entry-of e) cs) cs ≡ sets cs (n * 4) (codes-of (cond b (e ∷ []) []))
+      go true = codes-stored cs ps n (entry-of e)
       go false = refl
 
-  pub positions-past : drop (r * 2) ps' ≡ drop (r * 2) ps
-  positions-past = rw (p .count, p .positions-after) (go (ltb n max-events))
+  pub positions-written : ps' ≡ sets ps (n * 2) (positions-of new)
+  unfolding positions-of
+  positions-written = rw (p .positions-after, new-is) (go (ltb n max-events))
     where
-      go : (b : Bool) → drop (cond b (n + 1) n * 2) (cond b (set-position ps n (entry-of e .pos)) ps) ≡ drop (cond b (n + 1) n * 2) ps
-      go true = positions-kept cs ps n (entry-of e)
+      go : (b : Bool) → cond b (set-position ps n (entry-of e .pos)) ps ≡ sets ps (n * 2) (positions-of (cond b (e ∷ []) []))
+      go true = positions-stored cs ps n (entry-of e)
       go false = refl
+
+-- ---- a list written after another
+sets-append : {A : Type 0} (l : List A) (i : ℕ) (vs ws : List A) → sets l i (vs ++ ws) ≡ sets (sets l i vs) (i + length vs) ws
+sets-append l i [] ws = rw (add-zero i)
+sets-append l i (v ∷ vs) ws = rw (shift i (length vs)) (sets-append (set l i v) (suc i) vs ws)
+
+codes-length : (es : List PointerEvent) → length (codes-of es) ≡ length es * 4
+unfolding codes-of
+codes-length [] = refl
+codes-length (e ∷ es) = let rest = codes-length es in omega arith
+
+positions-length : (es : List PointerEvent) → length (positions-of es) ≡ length es * 2
+unfolding positions-of
+positions-length [] = refl
+positions-length (e ∷ es) = let rest = positions-length es in omega arith
+
+codes-append : (es fs : List PointerEvent) → codes-of (es ++ fs) ≡ codes-of es ++ codes-of fs
+unfolding codes-of
+codes-append [] fs = refl
+codes-append (e ∷ es) fs = rw (codes-append es fs)
+
+positions-append : (es fs : List PointerEvent) → positions-of (es ++ fs) ≡ positions-of es ++ positions-of fs
+unfolding positions-of
+positions-append [] fs = refl
+positions-append (e ∷ es) fs = rw (positions-append es fs)
+
+-- the events `fs` after `es`, which stand from the first place of `cs₀` on
+pub codes-after : (cs₀ : List ℕ) (es fs : List PointerEvent) {cs cs' : List ℕ} {n : ℕ} {gs : List PointerEvent} →
+    cs ≡ sets cs₀ 0 (codes-of es) → n ≡ length es → cs' ≡ sets cs (n * 4) (codes-of fs) → gs ≡ es ++ fs → cs' ≡ sets cs₀ 0 (codes-of gs)
+codes-after cs₀ es fs h k e g =
+    let end : 0 + length (codes-of es) ≡ length es * 4 = omega (arith, codes-length es) in
+    rw (e, k, h, g, codes-append es fs, sets-append cs₀ 0 (codes-of es) (codes-of fs), end)
+
+pub positions-after : (ps₀ : List Float) (es fs : List PointerEvent) {ps ps' : List Float} {n : ℕ} {gs : List PointerEvent} →
+    ps ≡ sets ps₀ 0 (positions-of es) → n ≡ length es → ps' ≡ sets ps (n * 2) (positions-of fs) → gs ≡ es ++ fs → ps' ≡ sets ps₀ 0 (positions-of gs)
+positions-after ps₀ es fs h k e g =
+    let end : 0 + length (positions-of es) ≡ length es * 2 = omega (arith, positions-length es) in
+    rw (e, k, h, g, positions-append es fs, sets-append ps₀ 0 (positions-of es) (positions-of fs), end)
 
 -- ---- one read
 read : (cs : List ℕ) (ps : List Float) (j n i : ℕ) → i < n → some-event (event-of (entry-at cs ps (j + i))) ≡ event-or-none (events-from cs ps j n) i

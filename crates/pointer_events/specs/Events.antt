@@ -77,6 +77,16 @@ asks (sought.ClicksOf n b) = clicks-button-times n b
 unfoldable pub codes-with : ℕ → Entry → List ℕ → List ℕ
 codes-with n x codes = set (set (set (set codes (n * 4) (x .kind)) (n * 4 + 1) (x .button)) (n * 4 + 2) (x .count)) (n * 4 + 3) (x .flags)
 
+-- the four numbers of each of some events, in their order
+unfoldable pub codes-of : List PointerEvent → List ℕ
+codes-of [] = []
+codes-of (e ∷ es) = entry-of e .kind ∷ entry-of e .button ∷ entry-of e .count ∷ entry-of e .flags ∷ codes-of es
+
+-- and the two parts of each one's position
+unfoldable pub positions-of : List PointerEvent → List Float
+positions-of [] = []
+positions-of (e ∷ es) = entry-of e .pos .x ∷ entry-of e .pos .y ∷ positions-of es
+
 -- One event more; where there are 64, all stays. Only the event's own places are written.
 pub record Pushed (e : PointerEvent) (n : ℕ) (codes : List ℕ) (positions : List Float) (r : ℕ) (codes' : List ℕ) (positions' : List Float) : Type 0 where
   pub result : events codes' positions' r ≡ take max-events (events codes positions n ++ (e ∷ []))

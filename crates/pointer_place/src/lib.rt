@@ -16,7 +16,7 @@ ghost use Rattle.emath_history.specs.Ring.{view};
 ghost use Rattle.model.specs.Types.{PointerButton, Modifiers, PointerMoved, MouseMoved, Button, PointerGone};
 ghost use Rattle.model.specs.Pointer.{unwrap-or-default, zero-motion, add-motion, place-event, start-place, delta-of, velocity-of};
 ghost use Rattle.model.specs.Pass.{fresh-place};
-ghost use Rattle.pointer_place.specs.View.{place, Sampled, Ended};
+ghost use Rattle.pointer_place.specs.View.{place, Placed, Sampled, Ended};
 
 pub struct Place {
     pub latest_pos: MaybePos2,
@@ -76,7 +76,7 @@ fn add_motion(motion: MaybeVec2, v: Vec2) -> MaybeVec2
 
 // Before the events: the interact position is the latest one, and a known motion is zero.
 pub fn start_place(p: Place) -> Place
-    ensures { λ r. ⌜ ((times positions : List Float) → place times positions r ≡ start-place (place times positions p)) ⌝ }
+    ensures { λ r. ⌜ Placed start-place p r ⌝ }
 {
     let latest = p.latest_pos;
     let known = p.motion;
@@ -90,7 +90,7 @@ pub fn start_place(p: Place) -> Place
 
 // An event's effect on it: the pointer moved.
 pub fn moved_place(p: Place, pos: Pos2) -> Place
-    ensures { λ r. ⌜ ((times positions : List Float) → place times positions r ≡ place-event (PointerMoved pos) (place times positions p)) ⌝ }
+    ensures { λ r. ⌜ Placed (place-event (PointerMoved pos)) p r ⌝ }
 {
     Place {
         latest_pos: MaybePos2::Some(pos),
@@ -101,7 +101,7 @@ pub fn moved_place(p: Place, pos: Pos2) -> Place
 
 // The mouse moved by `delta`.
 pub fn motion_place(p: Place, delta: Vec2) -> Place
-    ensures { λ r. ⌜ ((times positions : List Float) → place times positions r ≡ place-event (MouseMoved delta) (place times positions p)) ⌝ }
+    ensures { λ r. ⌜ Placed (place-event (MouseMoved delta)) p r ⌝ }
 {
     let known = p.motion;
     let motion = add_motion(known, delta);
@@ -110,7 +110,7 @@ pub fn motion_place(p: Place, delta: Vec2) -> Place
 
 // A press clears the history.
 pub fn button_place(p: Place, pos: Pos2, pressed: bool) -> Place
-    ensures { λ r. ⌜ ((times positions : List Float) (b : PointerButton) (m : Modifiers) → place times positions r ≡ place-event (Button pos b pressed m) (place times positions p)) ⌝ }
+    ensures { λ r. ⌜ ((b : PointerButton) (m : Modifiers) → Placed (place-event (Button pos b pressed m)) p r) ⌝ }
 {
     if pressed {
         let history = p.history.clear();
@@ -130,7 +130,7 @@ pub fn button_place(p: Place, pos: Pos2, pressed: bool) -> Place
 
 // A pointer that is gone keeps its interact position.
 pub fn gone_place(p: Place) -> Place
-    ensures { λ r. ⌜ ((times positions : List Float) → place times positions r ≡ place-event PointerGone (place times positions p)) ⌝ }
+    ensures { λ r. ⌜ Placed (place-event PointerGone) p r ⌝ }
 {
     let kept = p.interact_pos;
     Place {

@@ -3,12 +3,13 @@ use Prim.Native.Nat.{ℕ, _*_, _<_}
 use mathlib.Core.Path.{_≡_}
 use mathlib.Core.List.{List}
 use lib.ListN.{length, take, drop}
+use lib.Seq.{sets}
 use lib.Ieee.{Float}
 use Rattle.data.specs.Limits.{max-events}
-use Rattle.model.specs.Types.{InputOptions, Event}
+use Rattle.model.specs.Types.{InputOptions, Event, PointerEvent}
 use Rattle.model.specs.Pointer.{press-event}
 use Rattle.model.specs.Pointer as Pointer
-use Rattle.pointer_events.specs.Events.{events}
+use Rattle.pointer_events.specs.Events.{events, codes-of, positions-of}
 use Rattle.pointer_clicks.specs.View.{held, past}
 use Rattle.pointer_state.specs.declared.press.Press.{Press}
 
@@ -29,10 +30,20 @@ capped s =
       past = s .past;
     }
 
--- An event's effect: the model's, which ends the list at 64 (a pass of at most 64 events has room); places past the list's end keep their contents.
+-- the pointer events of t's list past those of s
+abbrev pub added : Pointer.Press → Pointer.Press → List PointerEvent
+added s t = drop (length (s .held .pointer-events)) (t .held .pointer-events)
+
+-- An event's effect, for every state.
 pub record Stepped (o : InputOptions) (time : Float) (e : Event) (codes : List ℕ) (positions : List Float) (s : Press)
     (codes' : List ℕ) (positions' : List Float) (r : Press) : Type 0 where
+  -- the model's, whose list of pointer events ends at 64
   pub result : press codes' positions' r ≡ capped (press-event o time e (press codes positions s))
+  -- where the list has room, as in a pass of at most 64 events, the model's
   pub room : length (events codes positions (s .held .«event_count»)) < max-events → press codes' positions' r ≡ press-event o time e (press codes positions s)
-  pub codes-past : drop (r .held .«event_count» * 4) codes' ≡ drop (r .held .«event_count» * 4) codes
-  pub positions-past : drop (r .held .«event_count» * 2) positions' ≡ drop (r .held .«event_count» * 2) positions
+  -- the numbers of the event that is added stand after those of the list; every other place keeps its contents
+  pub codes-after : codes'
+      ≡ sets codes (s .held .«event_count» * 4) (codes-of (added (press codes positions s) (capped (press-event o time e (press codes positions s)))))
+  -- and so its position
+  pub positions-after : positions'
+      ≡ sets positions (s .held .«event_count» * 2) (positions-of (added (press codes positions s) (capped (press-event o time e (press codes positions s)))))

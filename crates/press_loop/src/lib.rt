@@ -13,6 +13,8 @@ use pointer_events::PLACES;
 use pointer_state::press::Press;
 use pointer_state::press::button_event;
 use pointer_state::press::moved;
+ghost use Prim.Native.Nat.{_≤_};
+ghost use Rattle.data.specs.Limits.{max-events};
 ghost use Rattle.event_loop.specs.Shaped.{shaped-at};
 ghost use Rattle.event_loop.specs.Lists.{listed-events, pointer-list};
 ghost use Rattle.pointer_state.specs.View.{Stepped};
@@ -28,7 +30,9 @@ fn press_at(
     feed: &[u32],
     at: usize,
 ) -> Press
-    ensures { λ r. ⌜ Stepped options time (shaped-at (now (feed .entry)) at) (now (codes .entry)) (now (positions .entry)) s (now (codes .exit)) (now (positions .exit)) r ⌝ }
+    ensures { λ r. ⌜ Stepped
+        options time (shaped-at (now (feed .entry)) at)
+        (now (codes .entry)) (now (positions .entry)) s (now (codes .exit)) (now (positions .exit)) r ⌝ }
 {
     let kind = kind_at(feed, at);
     if kind == 3 {
@@ -58,7 +62,7 @@ fn press_at(
     s
 }
 
-// The presses' part of a pass, of the first `count` events in the pointer's list.
+// The presses' part of a pass, of the first `count` events in the pointer's list, which has no more than a pass may have.
 pub fn press_pass(
     s: Press,
     codes: &mut [u32; CODES],
@@ -69,7 +73,10 @@ pub fn press_pass(
     lists: &[u16; LISTED],
     count: u8,
 ) -> Press
-    ensures { λ r. ⌜ PressPassed options time (listed-events (now (feed .entry)) (now (lists .entry)) pointer-list count) (now (codes .entry)) (now (positions .entry)) s (now (codes .exit)) (now (positions .exit)) r ⌝ }
+    requires { ⌜ count ≤ max-events ⌝ }
+    ensures { λ r. ⌜ PressPassed
+        options time (listed-events (now (feed .entry)) (now (lists .entry)) pointer-list count)
+        (now (codes .entry)) (now (positions .entry)) s (now (codes .exit)) (now (positions .exit)) r ⌝ }
 {
     let old = s.held;
     let past = s.past;

@@ -1,5 +1,5 @@
 -- `place_at` meets its contract. Assumes nothing.
-use mathlib.Core.Path.{sym, _∙_}
+use mathlib.Core.Path.{refl, sym, _∙_}
 use native.Mathlib.Omega.{arith}
 use borrow.Author.Needs.{needs}
 use Rattle.model.specs.Pointer.{place-event}
@@ -19,9 +19,9 @@ enum-known-pos c = search needs
 
 returns : tie.Need-returns
 unfolding place-event
-returns c times positions =
+returns c =
     let k = sym (c .before .before .before .kind-at .ensures) ∙ c .before .before .match .keys1 in
-    rw (is-other _ _ 2 _ k (c .before .moved-at .ensures k) (c .match2 .keys2) tt)
+    rw (is-other _ _ 2 _ k (c .before .moved-at .ensures k) (c .match2 .keys2) tt) (record { result = λ times positions. refl; start = refl })
 
 moved-place-requires : tie.Need-moved-place-requires
 moved-place-requires c κs = search needs
@@ -34,9 +34,9 @@ enum-known-delta c = search needs
 
 returns-2 : tie.Need-returns-2
 unfolding place-event
-returns-2 c times positions =
+returns-2 c =
     let k = sym (c .before .before .before .kind-at .ensures) ∙ c .before .before .match .keys2 in
-    rw (is-other _ _ 3 _ k (c .before .motion-at .ensures k) (c .match3 .keys2) tt)
+    rw (is-other _ _ 3 _ k (c .before .motion-at .ensures k) (c .match3 .keys2) tt) (record { result = λ times positions. refl; start = refl })
 
 motion-place-requires : tie.Need-motion-place-requires
 motion-place-requires c κs = search needs
@@ -49,9 +49,9 @@ enum-known-pos-2 c = search needs
 
 returns-3 : tie.Need-returns-3
 unfolding place-event
-returns-3 c times positions =
+returns-3 c =
     let k = sym (c .before .before .before .kind-at .ensures) ∙ c .before .before .match .keys3 in
-    rw (is-other _ _ 4 _ k (c .before .button-at .ensures k) (c .match4 .keys2) tt)
+    rw (is-other _ _ 4 _ k (c .before .button-at .ensures k) (c .match4 .keys2) tt) (record { result = λ times positions. refl; start = refl })
 
 button-place-requires : tie.Need-button-place-requires
 button-place-requires c κs = search needs
@@ -64,47 +64,52 @@ enum-told c = search needs
 
 returns-4 : tie.Need-returns-4
 unfolding place-event
-returns-4 c times positions =
+returns-4 c =
     let k = sym (c .before .before .before .kind-at .ensures) ∙ c .before .before .match .keys4 in
-    rw (is-other _ _ 5 _ k (c .before .gone-at .ensures k) (c .match5 .keys2) tt)
+    rw (is-other _ _ 5 _ k (c .before .gone-at .ensures k) (c .match5 .keys2) tt) (record { result = λ times positions. refl; start = refl })
 
 gone-place-requires : tie.Need-gone-place-requires
 gone-place-requires c κs = search needs
 
 returns-5 : tie.Need-returns-5
-returns-5 c times positions =
+returns-5 c =
     let e = c .before .before in
     let k = sym (e .before .before .before .before .kind-at .ensures) ∙ e .before .before .before .match .keys1 in
-    rw (← e .before .before .moved-at .ensures k, e .pos .given .1) (c .moved-place .ensures times positions)
+    rw (← e .before .before .moved-at .ensures k, e .pos .given .1) (c .moved-place .ensures)
 
 returns-6 : tie.Need-returns-6
-returns-6 c times positions =
+returns-6 c =
     let e = c .before .before in
     let k = sym (e .before .before .before .before .kind-at .ensures) ∙ e .before .before .before .match .keys2 in
-    rw (← e .before .before .motion-at .ensures k, e .delta .given .1) (c .motion-place .ensures times positions)
+    rw (← e .before .before .motion-at .ensures k, e .delta .given .1) (c .motion-place .ensures)
 
 returns-7 : tie.Need-returns-7
-returns-7 c times positions =
+returns-7 c =
     let e = c .before .before in
     let k = sym (e .before .before .before .before .kind-at .ensures) ∙ e .before .before .before .match .keys3 in
-    rw (← e .before .before .button-at .ensures k, e .pos2 .given .1) (c .button-place .ensures times positions _ _)
+    rw (← e .before .before .button-at .ensures k, e .pos2 .given .1) (c .button-place .ensures _ _)
 
 returns-8 : tie.Need-returns-8
-returns-8 c times positions =
+returns-8 c =
     let e = c .before in
     let k = sym (e .before .before .before .before .kind-at .ensures) ∙ e .before .before .before .match .keys4 in
-    rw (← e .before .before .gone-at .ensures k, e .enum-told .given .1) (c .gone-place .ensures times positions)
+    rw (← e .before .before .gone-at .ensures k, e .enum-told .given .1) (c .gone-place .ensures)
 
 returns-9 : tie.Need-returns-9
-returns-9 c times positions =
+returns-9 c =
     let k = c .before .kind-at .ensures in
     let r = c .match .rest in
-    sym
-    (place-idle _ _
-    (not-of-kind _ _ 3 (λ e. r .0 .0 .0 .1 (k ∙ e)) (λ e. omega arith))
-    (not-of-kind _ _ 4 (λ e. r .0 .0 .1 (k ∙ e)) (λ e. omega arith))
-    (not-of-kind _ _ 5 (λ e. r .0 .1 (k ∙ e)) (λ e. omega arith))
-    (not-of-kind _ _ 6 (λ e. r .1 (k ∙ e)) (λ e. omega arith)))
+    record {
+      result =
+          λ times positions.
+          sym
+          (place-idle _ _
+          (not-of-kind _ _ 3 (λ e. r .0 .0 .0 .1 (k ∙ e)) (λ e. omega arith))
+          (not-of-kind _ _ 4 (λ e. r .0 .0 .1 (k ∙ e)) (λ e. omega arith))
+          (not-of-kind _ _ 5 (λ e. r .0 .1 (k ∙ e)) (λ e. omega arith))
+          (not-of-kind _ _ 6 (λ e. r .1 (k ∙ e)) (λ e. omega arith)));
+      start = refl;
+    }
 
 pub place-at-spec : {M : Type 1} → statement M
 place-at-spec =

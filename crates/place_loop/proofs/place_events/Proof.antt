@@ -1,12 +1,10 @@
 -- `place_events` meets its contract. Assumes nothing.
 use Prim.Native.Nat.{_-_, _≤_}
-use mathlib.Core.Path.{_≡_, sym, _∙_}
+use mathlib.Core.Path.{_≡_, refl, sym, _∙_}
 use native.Mathlib.Omega.{arith}
 use borrow.Author.Needs.{needs}
-use mathlib.Core.List.{List}
-use lib.Ieee.{Float}
 use Rattle.model.specs.Pointer.{place-events}
-use Rattle.pointer_place.specs.View.{place}
+use Rattle.pointer_place.specs.View.{Placed}
 use Rattle.event_loop.specs.Lists.{listed-events, pointer-list}
 use Rattle.place_loop.proofs.Loops.{place-loop}
 use Rattle.place_loop.proofs.place_events.Statement.{statement}
@@ -14,13 +12,13 @@ use Rattle.place_loop.proofs.place_events.Tie as tie
 
 abbrev Inv-loop : tie.InvT-loop
 Inv-loop feed lists count s₀ i₀ s i =
-    (i ≤ count) × ((times positions : List Float) → place times positions s ≡ place-events (listed-events feed lists pointer-list i) (place times positions s₀))
+    (i ≤ count) × Placed (place-events (listed-events feed lists pointer-list i)) s₀ s
 
 abbrev μ-loop : tie.MeasureT-loop
 μ-loop feed lists count s₀ i₀ s i = count - i
 
 loop-holds : tie.Need-loop-holds Inv-loop μ-loop
-loop-holds c = (omega arith, λ times positions. sym (place-loop .begins _ _ _ _))
+loop-holds c = (omega arith, record { result = λ times positions. sym (place-loop .begins _ _ _ _); start = refl })
 
 listed-requires : tie.Need-listed-requires Inv-loop μ-loop
 listed-requires c κs = search needs
@@ -37,13 +35,20 @@ loop-less c = search needs
 loop-again : tie.Need-loop-again Inv-loop μ-loop
 loop-again c =
     let l = c .before .before .before .before .loop in
-    (omega arith, λ times positions. c .place-at .ensures times positions ∙ rw (c .before .listed .ensures, l .inv .1 times positions) (sym (place-loop .goes-on _ _ _ _ _)))
+    let step = c .place-at .ensures in
+    let so-far = l .inv .1 in (
+      omega arith,
+      record {
+        result = λ times positions. step .result times positions ∙ rw (c .before .listed .ensures, so-far .result times positions) (sym (place-loop .goes-on _ _ _ _ _));
+        start = step .start ∙ so-far .start;
+      },
+    )
 
 returns : tie.Need-returns Inv-loop μ-loop
-returns c times positions =
+returns c =
     let l = c .before .loop in
     let e : l .i ≡ c .before .before .before .args .count = omega arith in
-    rw e at (l .inv .1 times positions)
+    rw e at (l .inv .1)
 
 pub place-events-spec : {M : Type 1} → statement M
 place-events-spec =

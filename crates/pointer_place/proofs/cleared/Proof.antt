@@ -7,7 +7,7 @@ clear-requires : tie.Need-clear-requires
 clear-requires c κs = search needs
 
 returns : tie.Need-returns
-returns c ts ps = rw (c .before .if1 .taken, c .clear .ensures)
+returns c ts ps = rw (c .before .if1 .taken, c .clear .ensures .none-left ts ps)
 
 returns-2 : tie.Need-returns-2
 returns-2 c ts ps = rw (c .if1 .left)

@@ -6,7 +6,7 @@ use Rattle.pointer_place.proofs.moved_place.Tie as tie
 
 returns : tie.Need-returns
 unfolding place-event with-place
-returns c ts ps = refl
+returns c = record { result = λ ts ps. refl; start = refl }
 
 pub moved-place-spec : {M : Type 1} → statement M
 moved-place-spec = tie.close (tie.spec returns)

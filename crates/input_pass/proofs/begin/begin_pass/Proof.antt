@@ -1,5 +1,5 @@
 -- `begin::begin_pass` meets its contract. Assumes nothing.
-use mathlib.Core.Path.{refl}
+use mathlib.Core.Path.{refl, sym}
 use Rattle.survey.specs.Survey.{option}
 use Rattle.input_pass.proofs.Passed.{surveys, refused-pass, taken-pass}
 use borrow.Author.Needs.{needs}
@@ -28,7 +28,13 @@ enum-told : tie.Need-enum-told
 enum-told c = search needs
 
 act-requires : tie.Need-act-requires
-act-requires c κs = search needs
+unfolding option
+act-requires c κs =
+    let m = c .before .before .before .before .before .before in
+    let t = m .before .before in
+    let l = t .before .before .before in
+    let told = surveys _ _ _ _ _ _ (l .look .ensures) _ (t .touch-pass .ensures .refusal) in
+    told .ready (sym (rw (m .enum-told .given .1) at (told .first)))
 
 returns : tie.Need-returns
 unfolding option
@@ -47,7 +53,7 @@ returns-2 c =
     let l = t .before .before .before in
     let told = surveys _ _ _ _ _ _ (l .look .ensures) _ (t .touch-pass .ensures .refusal) in
     let q = rw (m .enum-told .given .1) at (told .first) in
-    taken-pass _ _ _ _ _ _ _ _ (l .look .result .counts) _ _ q refl (told .devices) (told .lists) (l .before .before .time-of .ensures)
+    taken-pass _ _ _ _ _ _ _ _ (l .look .result .counts) _ _ q refl (told .devices) (told .ready) (l .before .before .time-of .ensures)
     (t .touch-pass .ensures .devices (rw (m .enum-told .given .1))) (c .before .act .ensures)
 
 pub begin-pass-spec : {M : Type 1} → statement M

@@ -1,11 +1,11 @@
 -- `state::act` meets its contract. Assumes nothing.
 use native.Mathlib.Omega.{arith}
-use mathlib.Core.Path.{_∙_}
+use mathlib.Core.Path.{refl, _∙_}
 use Rattle.event_loop.specs.Shaped.{shaped-events}
 use Rattle.event_loop.specs.Lists.{pointer-list, keys-list}
 use Rattle.input_state.specs.View.{lent, panel, input}
 use Rattle.model.specs.Pass.{time-of, decidedly-dragging}
-use Rattle.input_state.proofs.Whole.{acted, few, place-all, press-all, wheel-all, keys-all, sums-all}
+use Rattle.input_state.proofs.Whole.{acted, stored, few, place-all, press-all, wheel-all, keys-all, sums-all}
 use borrow.Author.Needs.{needs}
 use Rattle.input_state.proofs.state.act.Statement.{statement}
 use Rattle.input_state.proofs.state.act.Tie as tie
@@ -29,7 +29,10 @@ array-read-pointer-pass : tie.Need-array-read-pointer-pass
 array-read-pointer-pass c = search needs
 
 pointer-pass-requires : tie.Need-pointer-pass-requires
-pointer-pass-requires c κs = search needs
+pointer-pass-requires c κs =
+    let start = c .before .before .before .before .before .before .before .before .before .before .before .before .before .before .before .before .before in
+    let p = start .pre in
+    few _ _ (start .args .t10) (p .lists) pointer-list (omega arith) (p .few)
 
 cast-wheel-pass : tie.Need-cast-wheel-pass
 cast-wheel-pass c = search needs
@@ -47,7 +50,10 @@ array-read-keys-pass : tie.Need-array-read-keys-pass
 array-read-keys-pass c = search needs
 
 keys-pass-requires : tie.Need-keys-pass-requires
-keys-pass-requires c κs = search needs
+keys-pass-requires c κs =
+    let start = c .before .before .before .before .before .before .before .before .before .before .before .before .before .before .before .before .before .before .before .before in
+    let p = start .pre in
+    few _ _ (start .args .t10) (p .lists) keys-list (omega arith) (p .few)
 
 cast-sums-of : tie.Need-cast-sums-of
 cast-sums-of c = search needs
@@ -61,24 +67,34 @@ sums-of-requires c κs = search needs
 returns : tie.Need-returns
 unfolding time-of decidedly-dragging
 returns c =
-    let a = c .before .before .before .before .before .before .before .before .before .before .before .before .before .before .before .before .before .before .before .before .before .before .args in
+    let start = c .before .before .before .before .before .before .before .before .before .before .before .before .before .before .before .before .before .before .before .before .before .before in
+    let a = start .args in
     let ws = a .feed .now in
     let ps = a .lists .now in
     let cs = a .t10 in
+    let ls = start .pre .lists in
     let time = c .before .before .before .before .before .before .before .before .before .before .before .before .time-of .ensures in
-    let p = c .before .before .before .before .pointer-pass .ensures in
+    let pointer = c .before .before .before .before .pointer-pass .ensures in
+    let placed = place-all ws ps cs ls (rw time at (pointer .place-is)) in
+    let pressed = press-all ws ps cs ls (rw time at (pointer .press-is)) in
+    let keys = c .before .keys-pass .ensures in
+    let old = lent (a .times .now) (a .positions .now) (a .codes .now) (a .places .now) (a .presses .now) in
     record {
       result =
-          λ ls h vs us n t.
-          acted (shaped-events ws) us (panel (lent (a .times .now) (a .positions .now) (a .codes .now) (a .places .now) (a .presses .now)) (a .s) vs n t) (input ws (a .i)) _ _ _ _ _ _ _ _
+          λ vs us n t.
+          acted (shaped-events ws) us (panel old (a .s) vs n t) (input ws (a .i)) _ _ _ _ _ _ _ _
           (rw time at (c .before .before .before .before .before .before .before .before .before .before .clock-pass .ensures ws))
           (c .before .before .before .before .before .before .before .before .before .screen-pass .ensures ws)
-          (rw time at (p .place-is) ∙ place-all ws ps cs ls _ _)
-          (rw time at (p .press-is (few ws ps cs ls pointer-list (omega arith) h)) ∙ press-all ws ps cs ls _ _ _)
-          (rw time at (p .started-is))
+          (placed .result)
+          (pressed .result)
+          (rw time at (pointer .started-is))
           (rw (time, c .before .before .before .before .before .before .before .before .before .before .before .rect-or .ensures) at (c .before .before .before .wheel-pass .ensures) ∙ wheel-all ws ps cs ls _ _ _ _ _)
-          (c .before .keys-pass .ensures (few ws ps cs ls keys-list (omega arith) h) ∙ keys-all ws ps cs ls _)
+          (keys .result ∙ keys-all ws ps cs ls _)
           (c .sums-of .ensures ∙ sums-all ws ps cs ls _ _);
+      storage =
+          λ vs us n t.
+          stored (shaped-events ws) us (panel old (a .s) vs n t) (input ws (a .i)) old _ (a .s) _ _ refl refl placed pressed
+          (keys .presses-after ∙ rw (keys-all ws ps cs ls _));
     }
 
 pub act-spec : {M : Type 1} → statement M

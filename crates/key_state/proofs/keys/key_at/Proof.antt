@@ -1,7 +1,8 @@
 -- `keys::key_at` meets its contract. Assumes nothing.
 use Rattle.model.specs.Pass.{key-event}
 use Rattle.key_state.proofs.Idle.{key-idle}
-use Rattle.event_loop.proofs.OfKind.{not-of-kind, is-other}
+use Rattle.event_loop.proofs.OfKind.{not-of-kind, is-other, fields}
+use Rattle.key_state.proofs.Steps.{named-below}
 use native.Mathlib.Omega.{arith}
 use mathlib.Core.Path.{refl, sym, _∙_}
 use borrow.Author.Needs.{needs}
@@ -21,10 +22,17 @@ returns : tie.Need-returns
 unfolding key-event
 returns c =
     let k = sym (c .before .before .before .kind-at .ensures) ∙ c .before .before .if1 .taken in
-    rw (is-other _ _ 0 _ k (c .before .key-at .ensures k) (c .match .keys2) tt) (λ f room. refl)
+    rw (is-other _ _ 0 _ k (c .before .key-at .ensures k) (c .match .keys2) tt) (record { result = refl; places = refl })
 
 key-requires : tie.Need-key-requires
-key-requires c κs = search needs
+key-requires c κs =
+    let e = c .before .before in
+    let r = e .before .before in
+    let start = r .before .before in
+    let k = sym (start .kind-at .ensures) ∙ r .before .if1 .taken in
+    let a = start .before .before .args in
+    let named = rw (← r .key-at .ensures k, e .e .given .1) at (fields (a .feed .now) (a .at)) in
+    (named-below _ _ named, start .before .before .pre)
 
 returns-2 : tie.Need-returns-2
 returns-2 c =
@@ -43,7 +51,7 @@ returns-3 : tie.Need-returns-3
 unfolding key-event
 returns-3 c =
     let k = sym (c .before .before .before .before .kind-at .ensures) ∙ c .before .before .if2 .taken in
-    rw (is-other _ _ 1 _ k (c .before .modifiers-at .ensures k) (c .match2 .keys2) tt) (λ f room. refl)
+    rw (is-other _ _ 1 _ k (c .before .modifiers-at .ensures k) (c .match2 .keys2) tt) (record { result = refl; places = refl })
 
 returns-4 : tie.Need-returns-4
 unfolding key-event
@@ -51,7 +59,7 @@ returns-4 c =
     let e = c .before .before in
     let r = e .before .before in
     let k = sym (r .before .before .before .kind-at .ensures) ∙ r .before .if2 .taken in
-    rw (← r .modifiers-at .ensures k, e .e2 .given .1) (λ f room. refl)
+    rw (← r .modifiers-at .ensures k, e .e2 .given .1) (record { result = refl; places = refl })
 
 focus-at-requires : tie.Need-focus-at-requires
 focus-at-requires c κs = search needs
@@ -63,7 +71,7 @@ returns-5 : tie.Need-returns-5
 unfolding key-event
 returns-5 c =
     let k = sym (c .before .before .before .before .before .kind-at .ensures) ∙ c .before .before .if3 .taken in
-    rw (is-other _ _ 10 _ k (c .before .focus-at .ensures k) (c .match3 .keys2) tt) (λ f room. refl)
+    rw (is-other _ _ 10 _ k (c .before .focus-at .ensures k) (c .match3 .keys2) tt) (record { result = refl; places = refl })
 
 focus-requires : tie.Need-focus-requires
 focus-requires c κs = search needs
@@ -74,16 +82,17 @@ returns-6 c =
     let r = e .before .before in
     let start = r .before .before .before .before in
     let k = sym (start .kind-at .ensures) ∙ r .before .if3 .taken in
-    rw (← r .focus-at .ensures k, e .e3 .given .1) (λ f room. c .focus .ensures (start .before .before .args .presses .now))
+    rw (← r .focus-at .ensures k, e .e3 .given .1) (record { result = c .focus .ensures (start .before .before .args .presses .now); places = refl })
 
 returns-7 : tie.Need-returns-7
-returns-7 c f room =
+returns-7 c =
     let k = c .before .before .before .kind-at .ensures in
-    sym
-    (key-idle _ _
+    let idle =
+    key-idle _ _
     (not-of-kind _ _ 1 (λ e. c .before .before .if1 .left (k ∙ e)) (λ e. omega arith))
     (not-of-kind _ _ 2 (λ e. c .before .if2 .left (k ∙ e)) (λ e. omega arith))
-    (not-of-kind _ _ 11 (λ e. c .if3 .left (k ∙ e)) (λ e. omega arith)))
+    (not-of-kind _ _ 11 (λ e. c .if3 .left (k ∙ e)) (λ e. omega arith)) in
+    record { result = sym idle; places = refl }
 
 pub key-at-spec : {M : Type 1} → statement M
 key-at-spec =

@@ -1,6 +1,7 @@
 -- Each way to a return is the case of the definition that its tests pick. Assumes nothing.
 use Rattle.model.specs.Pointer.{press-event, release, release-button}
-use Rattle.pointer_events.proofs.Stored.{pushed-room, codes-past, positions-past}
+use Rattle.pointer_events.proofs.Stored.{pushed-room, codes-written, positions-written}
+use mathlib.Core.Path.{_∙_}
 use borrow.Author.Needs.{needs}
 use Rattle.pointer_state.proofs.press.released.Statement.{statement}
 use Rattle.pointer_state.proofs.press.released.Tie as tie
@@ -29,7 +30,12 @@ returns c =
     let o = c .before .before .before .before .before .before .before in
     let d = o .set-down .ensures in
     let q = c .before .before .before .before .before .could-any-button-be-click .ensures (o .before .before .before .args .positions .now) in
-    record { result = rw (p .result, d, m, k, q); room = λ h. rw (pushed-room p h, d, m, k, q); codes-past = codes-past p; positions-past = positions-past p }
+    record {
+      result = rw (p .result, d, m, k, q);
+      room = λ h. rw (pushed-room p h, d, m, k, q);
+      codes-after = codes-written p ∙ rw (k, q);
+      positions-after = positions-written p ∙ rw (k, q);
+    }
 
 pub released-spec : {M : Type 1} → statement M
 released-spec =

@@ -1,4 +1,4 @@
--- No sample is left. Assumes nothing.
+-- No sample is left, and the first place stays. Assumes nothing.
 use mathlib.Core.Path.{refl}
 use Rattle.emath_history.specs.Ring.{view, samples}
 use Rattle.emath_history.proofs.history.History.clear.Statement.{statement}
@@ -6,7 +6,7 @@ use Rattle.emath_history.proofs.history.History.clear.Tie as tie
 
 returns : tie.Need-returns
 unfolding view samples
-returns c = λ times positions. refl
+returns c = record { none-left = λ times positions. refl; start = refl }
 
 pub clear-spec : {M : Type 1} → statement M
 clear-spec = tie.close (tie.spec returns)
