@@ -1,12 +1,13 @@
 -- A pass refused or taken, as its parts tell. Assumes nothing.
 use mathlib.Core.Path.{_≡_, refl, sym, ap, _∙_}
 use mathlib.Core.List.{List, map}
-use mathlib.Core.Option.{Option, none, some}
+use mathlib.Core.Option.{Option, none, some, Option·map}
 use Prim.Native.Nat.{ℕ}
 use native.Mathlib.Omega.{arith}
 use lib.ListN.{getD}
 use lib.Ieee.{Float}
 use Rattle.data.specs.Limits.{max-events}
+use Rattle.data.specs.Numbers.{pass-row}
 use Rattle.feed.specs.Decode.{items}
 use Rattle.feed.specs.Feed.{events-of}
 use Rattle.model.specs.Types.{PassRefusal, MaybePos2}
@@ -138,6 +139,7 @@ module _ (i : PassInput) (ws : List ℕ) (l l' : Lent) (s : InputState) (ds : De
       let h : first ≡ some x = sym q ∙ y in
       record {
         refusal = q;
+        answer = ap (Option·map pass-row) q;
         refused = λ z. (es, ed, el);
         taken = λ z. absurd (some-not-none x h z);
         storage = λ z. absurd (some-not-none x h z);
@@ -160,6 +162,7 @@ module _ (i : PassInput) (ws : List ℕ) (l l' : Lent) (s : InputState) (ds : De
       λ n t. taken-is i ws l l' s (r .state) ds h act n t (r .devices) held time (e h) tm k in
       record {
         refusal = q;
+        answer = ap (Option·map pass-row) q;
         refused = λ z. absurd (z h);
         taken = λ z. same;
         storage = λ z. storage-is i ws l l' s (r .state) ds h act;

@@ -2,10 +2,11 @@
 use Prim.Native.Nat.{ℕ}
 use mathlib.Core.Path.{_≡_}
 use mathlib.Core.List.{List}
-use mathlib.Core.Option.{Option, none, some}
+use mathlib.Core.Option.{Option, none, some, Option·map}
 use lib.ListN.{getD}
 use lib.Ieee.{Float}
 use Rattle.data.specs.Limits.{max-events}
+use Rattle.data.specs.Numbers.{pass-row}
 use Rattle.feed.specs.Decode.{items}
 use Rattle.model.specs.Types.{PassRefusal}
 use Rattle.model.specs.Touch.{TouchState, InOrder}
@@ -40,6 +41,8 @@ outcome (some q) p = Pass.refused q
 pub record Begun (i : PassInput) (ws : List ℕ) (l : Lent) (s : InputState) (ds : Devices) (l' : Lent) (r : declared.Begun) : Type 0 where
   -- the refusal of 01's table, or none
   pub refusal : option (r .refusal) ≡ refusal-of i ws (s .clock .time) (view ds)
+  -- what 01's row of it returns: "number, word index", or the number alone
+  pub answer : Option·map pass-row (option (r .refusal)) ≡ Option·map pass-row (refusal-of i ws (s .clock .time) (view ds))
   -- refused: "all as before"
   pub refused : (refusal-of i ws (s .clock .time) (view ds) ≡ none → ⊥) → (r .state ≡ s) × (r .devices ≡ ds) × (l' ≡ l)
   -- taken: the model's `begin-pass` of the feed's events
