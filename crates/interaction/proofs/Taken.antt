@@ -13,8 +13,8 @@ use Rattle.model.specs.Types.{WidgetRect, PointerEvent, InteractRefusal}
 use Rattle.model.specs.Types.interaction.{ShortBuffer, TallyFull}
 use Rattle.model.specs.Pass.{Panel, or-else}
 use Rattle.model.specs.Interact as Model
-use Rattle.model.specs.Interact.{InteractInput, is-some, one-if, if-changed, walked, interaction-after, snapshot, tallied, interact-by, refused, answered, with-interaction}
-use Rattle.model.specs.Interact.{seen, input-refusal, buffers-refusal, hits-refusal, hit-refusal, hovered-of, contains-pointer-of}
+use Rattle.model.specs.Interact.{InteractInput, is-some, one-if, if-changed, walked, interaction-after, snapshot, tallied, interact-by, interact-seen, refused, answered, with-interaction}
+use Rattle.model.specs.Interact.{input-refusal, buffers-refusal, hits-refusal, hit-refusal, hovered-of, contains-pointer-of}
 use Rattle.hit_lists.specs.Hits.{hits-of, view}
 use Rattle.hit_refusals.specs.Refusals.{input, unknown}
 use Rattle.hit_refusals.proofs.Entries.{not-too-many}
@@ -58,17 +58,19 @@ module _ (u : Seen) (es : List PointerEvent) (x : InteractInput) (s : Interactio
 -- ---- refusal 10, or taken
 
 module _ (u : Seen) (es : List PointerEvent) (p : Panel) (x : InteractInput) (s : Interaction) (tally : ℕ) (o : Outcome)
-    (sees : seen p ≡ seen-of u es) (state : p .interaction ≡ interaction-of s) (counts : p .tally ≡ tally)
+    (state : p .interaction ≡ interaction-of s) (counts : p .tally ≡ tally)
     (a : Answers (seen-of u es) x (interaction-of s) o) where
-  started : snapshot (seen p) x (p .interaction) .drag-started ≡ option-of (o .«drag_started»)
+  started : snapshot (seen-of u es) x (p .interaction) .drag-started ≡ option-of (o .«drag_started»)
   started = cc (a .drag-started)
 
-  pub refuses : (is-some (option-of (o .«drag_started»)) && leb max-tally tally) ≡ true → interact-by none p x ≡ refused TallyFull
+  pub refuses : (is-some (option-of (o .«drag_started»)) && leb max-tally tally) ≡ true → interact-by none (seen-of u es) p x ≡ refused TallyFull
   unfolding interact-by tallied
   refuses h = rw (started, counts, h)
 
   pub takes : (is-some (option-of (o .«drag_started»)) && leb max-tally tally) ≡ false
-      → interact-by none p x ≡ answered (snapshot (seen p) x (p .interaction)) (with-interaction p (interaction-after (seen p) x (p .interaction)) (tally + one-if (option-of (o .«drag_started»))))
+      → interact-by none (seen-of u es) p x
+      ≡ answered (snapshot (seen-of u es) x (p .interaction))
+      (with-interaction p (interaction-after (seen-of u es) x (p .interaction)) (tally + one-if (option-of (o .«drag_started»))))
   unfolding interact-by tallied
   takes h = rw (started, counts, h)
 
@@ -140,29 +142,30 @@ module _ (widgets : ℕ → Option WidgetRect) (close within : List ℕ) (click 
   unfolding input-refusal buffers-refusal input
   same-refusal = refl
 
-  pub refused-by : (p : Panel) (r : InteractRefusal) → input-refusal (input unknown close within click drag h c) ≡ some r → Model.interact p x ≡ refused r
-  unfolding Model.interact interact-by
-  refused-by p r e = rw (same-refusal, e)
+  pub refused-by : (v : Model.Seen) (p : Panel) (r : InteractRefusal) → input-refusal (input unknown close within click drag h c) ≡ some r → interact-seen v p x ≡ refused r
+  unfolding interact-seen interact-by
+  refused-by v p r e = rw (same-refusal, e)
 
-  pub accepted : (p : Panel) → input-refusal (input unknown close within click drag h c) ≡ none → Model.interact p x ≡ interact-by none p x
-  unfolding Model.interact
-  accepted p e = rw (same-refusal, e)
+  pub accepted : (v : Model.Seen) (p : Panel) → input-refusal (input unknown close within click drag h c) ≡ none → interact-seen v p x ≡ interact-by none v p x
+  unfolding interact-seen
+  accepted v p e = rw (same-refusal, e)
 
 -- a taken interact, with what was written
 pub taken : (u : Seen) (es : List PointerEvent) (p : Panel) (widgets : ℕ → Option WidgetRect) (close within : List ℕ) (click drag : MaybeHit) (h c : ℕ)
-    (s : Interaction) (tally : ℕ) (o : Outcome) → seen p ≡ seen-of u es → p .interaction ≡ interaction-of s → p .tally ≡ tally
+    (s : Interaction) (tally : ℕ) (o : Outcome) → p .interaction ≡ interaction-of s → p .tally ≡ tally
     → Answers (seen-of u es) (input widgets close within click drag h c) (interaction-of s) o
     → (is-some (option-of (o .«drag_started»)) && leb max-tally tally) ≡ false → (n : ℕ) → n ≡ tally + one-if (option-of (o .«drag_started»))
     → (top all : List ℕ) (r : Answer) (top' all' : List ℕ) → Answered o n close within click drag top all r top' all'
-    → interact-by none p (input widgets close within click drag h c) ≡ answered (snapshot-of (r .snapshot) top' all') (with-interaction p (interaction-of (r .interaction)) (r .tally))
-taken u es p widgets close within click drag h c s tally o sees state counts a f n q top all r top' all' w =
+    → interact-by none (seen-of u es) p (input widgets close within click drag h c)
+    ≡ answered (snapshot-of (r .snapshot) top' all') (with-interaction p (interaction-of (r .interaction)) (r .tally))
+taken u es p widgets close within click drag h c s tally o state counts a f n q top all r top' all' w =
     let y = input widgets close within click drag h c in
-    let e₁ : snapshot (seen p) y (p .interaction) ≡ snapshot-of (r .snapshot) top' all' =
+    let e₁ : snapshot (seen-of u es) y (p .interaction) ≡ snapshot-of (r .snapshot) top' all' =
     cc (snapshot-is widgets close within click drag h c (seen-of u es) s o a n top all r top' all' w) in
-    let e₂ : interaction-after (seen p) y (p .interaction) ≡ interaction-of (r .interaction) =
+    let e₂ : interaction-after (seen-of u es) y (p .interaction) ≡ interaction-of (r .interaction) =
     cc (state-is widgets close within click drag h c (seen-of u es) s o a n top all r top' all' w) in
     let e₃ : tally + one-if (option-of (o .«drag_started»)) ≡ r .tally = sym q ∙ sym (w .tally-is) in
-    takes u es p y s tally o sees state counts a f ∙ cc
+    takes u es p y s tally o state counts a f ∙ cc
 
 both-none : {A : Type 0} (a b : Option A) → or-else a b ≡ none → (a ≡ none) × (b ≡ none)
 unfolding or-else

@@ -2,7 +2,9 @@
 use Prim.Native.Nat.{ℕ}
 use mathlib.Core.Path.{_≡_}
 use mathlib.Core.List.{List}
+use mathlib.Core.Option.{Option, none, some}
 use lib.ListN.{drop}
+use Rattle.data.specs.Numbers.{Row, interact-row}
 use Rattle.model.specs.Types.{InteractRefusal}
 use Rattle.model.specs.Pass as Pass
 use Rattle.model.specs.Interact as Model
@@ -32,15 +34,24 @@ pub record Answered (o : Outcome) (tally : ℕ) (close within : List ℕ) (click
   pub hovered-written : Written (hovered-ids close within click drag (o .clicked) (o .interaction .dragged) (o .«long_touched»)) hovered (r .snapshot .hovered) hovered'
   pub contains-written : Written (contains-ids within click drag) contains (r .snapshot .«contains_pointer») contains'
 
+-- 01's number and index of a refused interact; a taken one has none
+abbrev pub row-of : Model.Interacted → Option Row
+row-of (Model.refused why) = some (interact-row why)
+row-of (Model.answered a p) = none
+
 -- Refused, with the model's refusal: both id buffers are as before. The panel, the tally and the widget set are not written by any interact.
 pub record Refuses (model : Model.Interacted) (why : InteractRefusal) (hovered contains hovered' contains' : List ℕ) : Type 0 where
   pub answer : model ≡ Model.refused why
+  -- 01's number and index of this answer are those of the model's
+  pub row : row-of model ≡ some (interact-row why)
   pub hovered-kept : hovered' ≡ hovered
   pub contains-kept : contains' ≡ contains
 
 -- Taken, with the model's snapshot, interaction state and tally: the places beyond the lists written keep their contents.
 pub record Takes (p : Pass.Panel) (model : Model.Interacted) (a : Answer) (hovered contains hovered' contains' : List ℕ) : Type 0 where
   pub answer : model ≡ Model.answered (snapshot-of (a .snapshot) hovered' contains') (Model.with-interaction p (interaction-of (a .interaction)) (a .tally))
+  -- no row of 01's refusals
+  pub row : row-of model ≡ none
   pub hovered-kept : drop (a .snapshot .hovered) hovered' ≡ drop (a .snapshot .hovered) hovered
   pub contains-kept : drop (a .snapshot .«contains_pointer») contains' ≡ drop (a .snapshot .«contains_pointer») contains
 

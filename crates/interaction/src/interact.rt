@@ -35,7 +35,7 @@ ghost use Rattle.hit_refusals.specs.Refusals.{input};
 ghost use Rattle.id_set.specs.Ids.{option-of};
 ghost use Rattle.pointer_events.specs.Events.{events};
 ghost use Rattle.model.specs.Pass.{Panel};
-ghost use Rattle.model.specs.Interact.{InteractInput, is-some, one-if, seen, interact, interact-by};
+ghost use Rattle.model.specs.Interact.{InteractInput, is-some, one-if, interact-seen, interact-by};
 ghost use Rattle.interaction_state.specs.View.{interaction-of};
 ghost use Rattle.interaction_state.specs.Lookup.{lookup};
 ghost use Rattle.interaction_events.specs.View.{seen-of, Looks};
@@ -157,9 +157,11 @@ fn unless_full(
     all: &mut [u64],
 ) -> Interacted
     requires { ⌜ (id-places ≤ length (now top)) × (id-places ≤ length (now all)) × (length (hits-of (now within)) ≤ max-hits) ⌝ }
-    ensures { λ r. ⌜ ((positions edges : List Float) (p : Panel) → seen p ≡ seen-of view (events (now (codes .entry)) positions count)
-        → p .interaction ≡ interaction-of s → p .tally ≡ tally
-        → Interacts p (interact-by none p (input (lookup set (now (words .entry)) (now (numbers .entry)) edges) (now (close .entry)) (now (within .entry)) click drag (length (now (top .entry))) (length (now (all .entry)))))
+    ensures { λ r. ⌜ ((positions edges : List Float) (p : Panel) → p .interaction ≡ interaction-of s → p .tally ≡ tally
+        → Interacts p
+        (interact-by none (seen-of view (events (now (codes .entry)) positions count)) p
+        (input (lookup set (now (words .entry)) (now (numbers .entry)) edges)
+        (now (close .entry)) (now (within .entry)) click drag (length (now (top .entry))) (length (now (all .entry)))))
         r (now (top .entry)) (now (all .entry)) (now (top .exit)) (now (all .exit))) ⌝ }
 {
     let o = outcome(
@@ -183,8 +185,8 @@ fn unless_full(
     Interacted::Taken(answer)
 }
 
-// `interact` of a panel's input, interaction state and tally: refused, or taken as the model takes it. `top` gets the hovered ids, `all` those that
-// contain the pointer.
+// `interact` of whatever is seen of the input, of every panel with this interaction state and tally: refused, or taken as the model takes it. `top` gets
+// the hovered ids, `all` those that contain the pointer.
 pub fn interact(
     view: Seen,
     codes: &[u32; CODES],
@@ -201,9 +203,11 @@ pub fn interact(
     top: &mut [u64],
     all: &mut [u64],
 ) -> Interacted
-    ensures { λ r. ⌜ ((positions edges : List Float) (p : Panel) → seen p ≡ seen-of view (events (now (codes .entry)) positions count)
-        → p .interaction ≡ interaction-of s → p .tally ≡ tally
-        → Interacts p (interact p (input (lookup set (now (words .entry)) (now (numbers .entry)) edges) (now (close .entry)) (now (within .entry)) click drag (length (now (top .entry))) (length (now (all .entry)))))
+    ensures { λ r. ⌜ ((positions edges : List Float) (p : Panel) → p .interaction ≡ interaction-of s → p .tally ≡ tally
+        → Interacts p
+        (interact-seen (seen-of view (events (now (codes .entry)) positions count)) p
+        (input (lookup set (now (words .entry)) (now (numbers .entry)) edges)
+        (now (close .entry)) (now (within .entry)) click drag (length (now (top .entry))) (length (now (all .entry)))))
         r (now (top .entry)) (now (all .entry)) (now (top .exit)) (now (all .exit))) ⌝ }
 {
     let why = input_refusal(close, within, click, drag, top.len(), all.len());

@@ -312,10 +312,14 @@ one-if (some a) = 1
 unfoldable pub tallied : Panel → InteractionSnapshot → Interaction → Interacted
 tallied p a s = cond (is-some (a .drag-started) && leb max-tally (p .tally)) (refused TallyFull) (answered a (with-interaction p s (p .tally + one-if (a .drag-started))))
 
-unfoldable pub interact-by : Option InteractRefusal → Panel → InteractInput → Interacted
-interact-by (some r) p x = refused r
-interact-by none p x = tallied p (snapshot (seen p) x (p .interaction)) (interaction-after (seen p) x (p .interaction))
+unfoldable pub interact-by : Option InteractRefusal → Seen → Panel → InteractInput → Interacted
+interact-by (some r) v p x = refused r
+interact-by none v p x = tallied p (snapshot v x (p .interaction)) (interaction-after v x (p .interaction))
+
+-- `interact` of the panel's interaction state and tally, where v is what it reads of the input: for every v, also one that no panel shows
+unfoldable pub interact-seen : Seen → Panel → InteractInput → Interacted
+interact-seen v p x = interact-by (input-refusal x) v p x
 
 -- `interact`
 unfoldable pub interact : Panel → InteractInput → Interacted
-interact p x = interact-by (input-refusal x) p x
+interact p x = interact-seen (seen p) p x

@@ -75,7 +75,12 @@ pub fn interact(
     top: &mut [u64],
     all: &mut [u64],
 ) -> Interacted
-    ensures { λ r. ⌜ Interacts clock screen pointer devices (now (codes .entry)) (now (presses .entry)) interaction tally «set» (now (words .entry)) (now (numbers .entry)) (now (close .entry)) (now (within .entry)) click drag (now (top .entry)) (now (all .entry)) r (now (top .exit)) (now (all .exit)) ⌝ }
+    ensures { λ r. ⌜ Interacts
+        clock screen pointer devices (now (codes .entry)) (now (presses .entry)) interaction tally
+        «set» (now (words .entry)) (now (numbers .entry))
+        (now (close .entry)) (now (within .entry)) click drag
+        (now (top .entry)) (now (all .entry))
+        r (now (top .exit)) (now (all .exit)) ⌝ }
 {
     let view = seen(clock, screen, pointer, devices, codes, presses);
     let press = pointer.press;

@@ -11,7 +11,7 @@ use Rattle.model.specs.Types.{PassRefusal, InteractRefusal}
 use Rattle.model.specs.Types.interaction.{TallyFull}
 use Rattle.model.specs.Pass.{Panel, PassInput, Interaction, fresh, pass, pass-by, pass-refusal, begin-pass, no-interaction}
 use Rattle.model.specs.Interact as I
-use Rattle.model.specs.Interact.{InteractInput, InteractionSnapshot, seen, interact, interact-by, input-refusal, tallied, snapshot, interaction-after, with-interaction, if-changed, same-id, one-if, is-some}
+use Rattle.model.specs.Interact.{InteractInput, InteractionSnapshot, seen, interact, interact-seen, interact-by, input-refusal, tallied, snapshot, interaction-after, with-interaction, if-changed, same-id, one-if, is-some}
 use Rattle.model.specs.Calls.{Call, passes, interacts, Outcome, refused-pass, refused-interact, passed, answered, of-pass, of-interact, call, after, run, outcomes}
 use Rattle.theorems.specs.Balance.{one-if-is, starts, stops, last-dragged, all-starts, Balance}
 
@@ -41,7 +41,7 @@ pass-done p i = go (pass-refusal p i)
     go none = record { dragged = refl; tally = refl }
 
 interact-done : (p : Panel) (x : InteractInput) → Done p (of-interact (interact p x))
-unfolding of-interact interact interact-by tallied snapshot interaction-after with-interaction
+unfolding of-interact interact interact-seen interact-by tallied snapshot interaction-after with-interaction
 interact-done p x = go (input-refusal x)
   where
     s : InteractionSnapshot
@@ -54,7 +54,7 @@ interact-done p x = go (input-refusal x)
     full true = tt
     full false = record { now = refl; started = refl; stopped = refl; tally = refl }
 
-    go : (r : Option InteractRefusal) → Done p (of-interact (interact-by r p x))
+    go : (r : Option InteractRefusal) → Done p (of-interact (interact-by r (seen p) p x))
     go (some r) = tt
     go none = full (is-some (s .drag-started) && leb max-tally (p .tally))
 
@@ -112,7 +112,7 @@ pass-fits p i h = go (pass-refusal p i)
     go none = h
 
 interact-fits : (p : Panel) (x : InteractInput) → Fits p → Fits (after p (of-interact (interact p x)))
-unfolding of-interact interact interact-by tallied with-interaction after is-some one-if
+unfolding of-interact interact interact-seen interact-by tallied with-interaction after is-some one-if
 interact-fits p x h = go (input-refusal x)
   where
     s : InteractionSnapshot
@@ -129,7 +129,7 @@ interact-fits p x h = go (input-refusal x)
     started none = omega arith
     started (some w) = full (leb max-tally (p .tally)) (nleb→lt max-tally (p .tally))
 
-    go : (r : Option InteractRefusal) → Fits (after p (of-interact (interact-by r p x)))
+    go : (r : Option InteractRefusal) → Fits (after p (of-interact (interact-by r (seen p) p x)))
     go (some r) = h
     go none = started (s .drag-started)
 

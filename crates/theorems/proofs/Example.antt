@@ -10,7 +10,7 @@ use Rattle.emath.specs.Vec.{vec-zero}
 use Rattle.data.specs.Modifiers.{no-modifiers}
 use Rattle.model.specs.Types.{Point, Unknown, no-force}
 use Rattle.model.specs.Pass.{Panel, PassInput, fresh, pass-events, pass, pass-by, pass-refusal, begin-pass}
-use Rattle.model.specs.Interact.{InteractInput, InteractionSnapshot, interact, interact-by, input-refusal, tallied, seen, snapshot, interaction-after, with-interaction, one-if, is-some}
+use Rattle.model.specs.Interact.{InteractInput, InteractionSnapshot, interact, interact-seen, interact-by, input-refusal, tallied, seen, snapshot, interaction-after, with-interaction, one-if, is-some}
 use Rattle.model.specs.Questions.{ask, settled, dragged, widget, tally, count}
 use Rattle.model.specs.Calls.{Call, passes, interacts, passed, answered, of-pass, of-interact, call, run}
 use Rattle.data.specs.Limits.{max-tally}
@@ -30,7 +30,7 @@ abbrev then : Panel → InteractInput → Panel
 then p x = with-interaction p (interaction-after (seen p) x (p .interaction)) (p .tally + one-if (answer p x .drag-started))
 
 interact-is-answered : (p : Panel) (x : InteractInput) → input-refusal x ≡ none → (is-some (answer p x .drag-started) && leb max-tally (p .tally)) ≡ false → call p (interacts x) ≡ answered (answer p x) (then p x)
-unfolding call of-interact interact interact-by tallied
+unfolding call of-interact interact interact-seen interact-by tallied
 interact-is-answered p x e f = rw (e, f)
 
 -- ---- the example

@@ -12,7 +12,7 @@ use Rattle.model.specs.Types.{PassRefusal, OutsideDomain, TimeBelow, InteractRe
 use Rattle.model.specs.Types.interaction.{TallyFull}
 use Rattle.model.specs.Pass.{Panel, PassInput, Interaction, Passed, pass, pass-by, pass-refusal, own-refusal, own-numbers-ok, rect-given-ok, or-else, survey, begin-pass, time-of}
 use Rattle.model.specs.Pass as P
-use Rattle.model.specs.Interact.{InteractInput, InteractionSnapshot, Interacted, seen, interact, interact-by, input-refusal, tallied, snapshot, interaction-after, with-interaction, one-if, is-some}
+use Rattle.model.specs.Interact.{InteractInput, InteractionSnapshot, Interacted, seen, interact, interact-seen, interact-by, input-refusal, tallied, snapshot, interaction-after, with-interaction, one-if, is-some}
 use Rattle.model.specs.Interact as I
 use Rattle.model.specs.Calls.{Call, passes, interacts, Outcome, refused-pass, refused-interact, passed, answered, of-pass, of-interact, call}
 use Rattle.model.proofs.Ids.{impossible}
@@ -67,7 +67,7 @@ pub record Answered (p : Panel) (x : InteractInput) (s : InteractionSnapshot) (q
   pub is : q ≡ with-interaction p (interaction-after (seen p) x (p .interaction)) (p .tally + one-if (s .drag-started))
 
 interacted-is : (p : Panel) (x : InteractInput) (s : InteractionSnapshot) (q : Panel) → interact p x ≡ I.answered s q → Answered p x s q
-unfolding interact interact-by tallied
+unfolding interact interact-seen interact-by tallied
 interacted-is p x s q h = go (input-refusal x) h
   where
     t : InteractionSnapshot
@@ -83,7 +83,7 @@ interacted-is p x s q h = go (input-refusal x) h
         let b : q ≡ with-interaction p d (p .tally + one-if (t .drag-started)) = cc in
         record { answer = a; is = b ∙ ap (λ (z : InteractionSnapshot). with-interaction p d (p .tally + one-if (z .drag-started))) (sym a) }
 
-    go : (r : Option InteractRefusal) → interact-by r p x ≡ I.answered s q → Answered p x s q
+    go : (r : Option InteractRefusal) → interact-by r (seen p) p x ≡ I.answered s q → Answered p x s q
     go (some r) k = impossible (cc)
     go none k = full (is-some (t .drag-started) && leb max-tally (p .tally)) k
 
@@ -104,7 +104,7 @@ pub data CallView (p : Panel) : Call → Outcome → Type 0 where
   interact-taken : (x : InteractInput) (s : InteractionSnapshot) (q : Panel) → Answered p x s q → CallView p (interacts x) (answered s q)
 
 pub call-view : (p : Panel) (c : Call) → CallView p c (call p c)
-unfolding call of-pass of-interact pass pass-by interact interact-by tallied or-else
+unfolding call of-pass of-interact pass pass-by interact interact-seen interact-by tallied or-else
 call-view p (passes i) = go (pass p i) refl
   where
     refusal : (o : Option PassRefusal) (r : PassRefusal) → pass-by o p i ≡ P.refused r → o ≡ some r
@@ -120,7 +120,7 @@ call-view p (interacts x) = go (interact p x) refl
     full true r s q k = cc
     full false r s q k = impossible (cc)
 
-    refusal : (o : Option InteractRefusal) (r : InteractRefusal) → interact-by o p x ≡ I.refused r → or-else o (some TallyFull) ≡ some r
+    refusal : (o : Option InteractRefusal) (r : InteractRefusal) → interact-by o (seen p) p x ≡ I.refused r → or-else o (some TallyFull) ≡ some r
     refusal none r k =
         let t = snapshot (seen p) x (p .interaction) in
         full (is-some (t .drag-started) && leb max-tally (p .tally)) r t (with-interaction p (interaction-after (seen p) x (p .interaction)) (p .tally + one-if (t .drag-started))) k

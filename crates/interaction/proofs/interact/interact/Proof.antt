@@ -1,6 +1,7 @@
 -- `crate::interact::interact` meets its contract. Assumes nothing.
 use mathlib.Core.Path.{refl, sym, _∙_, ap}
 use Rattle.hit_refusals.specs.Refusals.{refusal-of}
+use Rattle.interaction.specs.Post.{row-of}
 use Rattle.interaction.proofs.Taken.{refused-by, accepted, sized}
 use borrow.Author.Needs.{needs}
 use Rattle.interaction.proofs.interact.interact.Statement.{statement}
@@ -23,9 +24,11 @@ unless-full-requires c κs = sized _ _ _ _ _ _ (sym (c .before .before .before .
 
 returns : tie.Need-returns
 unfolding refusal-of
-returns c ps edges p hv hs ht =
+returns c ps edges p hs ht =
+    let refused = refused-by _ _ _ _ _ _ _ _ p _ (sym (c .before .before .before .input-refusal .ensures) ∙ ap refusal-of (c .before .why .given .1)) in
     record {
-      answer = refused-by _ _ _ _ _ _ _ p _ (sym (c .before .before .before .input-refusal .ensures) ∙ ap refusal-of (c .before .why .given .1));
+      answer = refused;
+      row = ap row-of refused;
       hovered-kept = refl;
       contains-kept = refl;
     }
@@ -38,8 +41,8 @@ same-length-2 c = search needs
 
 returns-2 : tie.Need-returns-2
 unfolding refusal-of
-returns-2 c ps edges p hv hs ht =
-    rw (accepted _ _ _ _ _ _ _ p (sym (c .before .before .before .before .before .before .before .before .before .input-refusal .ensures) ∙ ap refusal-of (c .before .before .before .before .before .before .before .enum-told .given .1))) (c .before .before .before .before .unless-full .ensures ps edges p hv hs ht)
+returns-2 c ps edges p hs ht =
+    rw (accepted _ _ _ _ _ _ _ _ p (sym (c .before .before .before .before .before .before .before .before .before .input-refusal .ensures) ∙ ap refusal-of (c .before .before .before .before .before .before .before .enum-told .given .1))) (c .before .before .before .before .unless-full .ensures ps edges p hs ht)
 
 pub interact-spec : {M : Type 1} → statement M
 interact-spec =

@@ -1,6 +1,7 @@
 -- `crate::interact::unless_full` meets its contract. Assumes nothing.
-use mathlib.Core.Path.{refl, sym, _∙_}
+use mathlib.Core.Path.{refl, sym, ap, _∙_}
 use Rattle.id_set.proofs.Written.{beyond}
+use Rattle.interaction.specs.Post.{row-of}
 use Rattle.interaction.proofs.Taken.{refuses, taken, looks, within-is}
 use borrow.Author.Needs.{needs}
 use Rattle.interaction.proofs.interact.unless_full.Statement.{statement}
@@ -17,11 +18,13 @@ full-requires : tie.Need-full-requires
 full-requires c κs = search needs
 
 returns : tie.Need-returns
-returns c ps edges p hv hs ht =
+returns c ps edges p hs ht =
     let a = c .before .before .before .before .before .before .before .args in
     let l = looks (a .set) (a .words .now) (a .numbers .now) edges (a .close .now) (a .within .now) (a .click) (a .drag) _ _ in
+    let refused = refuses _ _ p _ _ _ _ hs ht (c .before .before .outcome .ensures ps _ l (within-is _ _ _ _ _ _ _)) (sym (c .before .full .ensures) ∙ c .if1 .taken) in
     record {
-      answer = refuses _ _ p _ _ _ _ hv hs ht (c .before .before .outcome .ensures ps _ l (within-is _ _ _ _ _ _ _)) (sym (c .before .full .ensures) ∙ c .if1 .taken);
+      answer = refused;
+      row = ap row-of refused;
       hovered-kept = refl;
       contains-kept = refl;
     }
@@ -39,13 +42,15 @@ same-length-2 : tie.Need-same-length-2
 same-length-2 c = search needs
 
 returns-2 : tie.Need-returns-2
-returns-2 c ps edges p hv hs ht =
+returns-2 c ps edges p hs ht =
     let a = c .before .before .before .before .before .before .before .before .before .before .before .before .before .before .before .args in
     let l = looks (a .set) (a .words .now) (a .numbers .now) edges (a .close .now) (a .within .now) (a .click) (a .drag) _ _ in
+    let answered =
+    taken _ _ p _ _ _ _ _ _ _ _ _ _ hs ht (c .before .before .before .before .before .before .before .before .before .before .outcome .ensures ps _ l (within-is _ _ _ _ _ _ _)) (sym (c .before .before .before .before .before .before .before .before .before .full .ensures) ∙ c .before .before .before .before .before .before .before .before .if1 .left) _
+    (c .before .before .before .before .before .before .before .tally-after .ensures) _ _ _ _ _ (c .before .before .before .before .answered .ensures) in
     record {
-      answer =
-          taken _ _ p _ _ _ _ _ _ _ _ _ _ hv hs ht (c .before .before .before .before .before .before .before .before .before .before .outcome .ensures ps _ l (within-is _ _ _ _ _ _ _)) (sym (c .before .before .before .before .before .before .before .before .before .full .ensures) ∙ c .before .before .before .before .before .before .before .before .if1 .left) _
-          (c .before .before .before .before .before .before .before .tally-after .ensures) _ _ _ _ _ (c .before .before .before .before .answered .ensures);
+      answer = answered;
+      row = ap row-of answered;
       hovered-kept = beyond _ _ _ _ (c .before .before .before .before .answered .ensures .hovered-written);
       contains-kept = beyond _ _ _ _ (c .before .before .before .before .answered .ensures .contains-written);
     }

@@ -1,4 +1,5 @@
--- The callee's contract, of the panel that shows the input; a well-formed set's lookup is the model's `get`. Assumes nothing.
+-- The callee's contract, of what the panel shows of its input; a well-formed set's lookup is the model's `get`. Assumes nothing.
+use Rattle.model.specs.Interact.{interact}
 use Rattle.panel.proofs.Seen.{sees-events}
 use Rattle.panel.proofs.Lookup.{looked-up}
 use borrow.Author.Needs.{needs}
@@ -18,10 +19,13 @@ same-length-2 : tie.Need-same-length-2
 same-length-2 c = search needs
 
 returns : tie.Need-returns
+unfolding interact
 returns c =
+    let interacted = c .before .before .before .before in
+    let viewed = interacted .before .before .before .before .before in
     record {
-      own = λ p h n t edges. c .before .before .before .before .interact .ensures (h .places) edges p (sees-events p _ _ (h .press-is) (c .before .before .before .before .before .before .before .before .before .seen .ensures p h)) n t;
-      model = λ p h n t edges wf. rw (looked-up _ _ _ _ wf) (c .before .before .before .before .interact .ensures (h .places) edges p (sees-events p _ _ (h .press-is) (c .before .before .before .before .before .before .before .before .before .seen .ensures p h)) n t);
+      own = λ p h n t edges. rw (sees-events p _ _ (h .press-is) (viewed .seen .ensures p h)) (interacted .interact .ensures (h .places) edges p n t);
+      model = λ p h n t edges wf. rw (looked-up _ _ _ _ wf, sees-events p _ _ (h .press-is) (viewed .seen .ensures p h)) (interacted .interact .ensures (h .places) edges p n t);
     }
 
 pub interact-spec : {M : Type 1} → statement M
