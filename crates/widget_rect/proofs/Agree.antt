@@ -29,12 +29,13 @@ use Rattle.widget_append.proofs.Cases as New
 use Rattle.widget_insert.proofs.Cases as C
 use Rattle.widget_rect.specs.Questions.{at-entry}
 use Rattle.widget_rect.specs.WellFormed.{Indexed, WellFormed}
-use Rattle.widget_rect.specs.Told.{told, Inserts}
+use Rattle.widget_rect.specs.Told.{told, model-row, Inserts}
 use Rattle.widget_rect.proofs.Lists.{last-is, last-none, length-firsts}
 use Rattle.widget_rect.proofs.Index.{unclamped, unlike, same-layer-is, finds-known, finds-layer}
 use Rattle.widget_rect.proofs.Records.{sense-fits, length-with-edges, length-appended-words, length-appended-numbers}
 use Rattle.widget_rect.proofs.Append.{Home, well-formed-append}
 use Rattle.widget_rect.proofs.Appended.{home-known, home-new, by-id-appended, by-layer-known, by-layer-new}
+use Rattle.widget_rect.proofs.Refused.{told-row, decide-keeps}
 use Rattle.widget_rect.proofs.Fall.{length-fall}
 use Rattle.widget_rect.proofs.Update as U
 
@@ -366,9 +367,13 @@ module _ (h : WidgetRects) (words numbers : List ℕ) (edges : List Float) (slic
 pub inserts : (h : WidgetRects) (words numbers : List ℕ) (edges : List Float) (slice : List WidgetRect) (w : WidgetRect) (top : Bool) (r : Decision) (ws ns : List ℕ) (es : List Float) (zs : List WidgetRect)
     → Gives (decide h words numbers edges (length slice) w top) r ws ns es → zs ≡ settled (r .from) (r .to) (r .widget) slice → Inserts h words numbers edges slice w top r ws ns es zs
 inserts h words numbers edges slice w top r ws ns es zs g e =
+    let agrees : WellFormed h words numbers edges → told (r .answer) (view (r .«set») ws ns es) zs ≡ M.insert top (view h words numbers edges) slice w =
+    λ wf. rw (e, g .decision, g .words, g .numbers, g .edges) (decide-right h words numbers edges slice w top (wf .indexed) (wf .words-long) (wf .numbers-long) (wf .edges-long) .agrees) in
     record {
       own = g;
       slice-after = e;
-      model = λ wf. rw (e, g .decision, g .words, g .numbers, g .edges) (decide-right h words numbers edges slice w top (wf .indexed) (wf .words-long) (wf .numbers-long) (wf .edges-long) .agrees);
+      refused = λ why q. rw (e, g .decision, g .words, g .numbers, g .edges) (decide-keeps h words numbers edges slice (length slice) w top .keeps why (sym (ap (λ (d : Decision). d .answer) (g .decision)) ∙ q));
+      model = agrees;
+      row = λ wf. told-row (r .answer) _ _ ∙ ap model-row (agrees wf);
       well-formed = λ wf. rw (g .decision, g .words, g .numbers, g .edges) (decide-right h words numbers edges slice w top (wf .indexed) (wf .words-long) (wf .numbers-long) (wf .edges-long) .well-formed);
     }

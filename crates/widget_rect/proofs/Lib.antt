@@ -9,6 +9,7 @@ pub mod Index
 pub mod Lists
 pub mod Reach
 pub mod Records
+pub mod Refused
 pub mod Settle
 pub mod Size
 pub mod Update

@@ -20,7 +20,9 @@ pub fn insert(
     w: WidgetRect,
     move_to_top: bool,
 ) -> Decision
-    ensures { λ r. ⌜ Inserts h (now (words .entry)) (now (numbers .entry)) (now (edges .entry)) (now (s .entry)) w «move_to_top» r (now (words .exit)) (now (numbers .exit)) (now (edges .exit)) (now (s .exit)) ⌝ }
+    ensures { λ r. ⌜ Inserts
+        h (now (words .entry)) (now (numbers .entry)) (now (edges .entry)) (now (s .entry)) w «move_to_top»
+        r (now (words .exit)) (now (numbers .exit)) (now (edges .exit)) (now (s .exit)) ⌝ }
 {
     let d = decide(h, words, numbers, edges, s.len(), w, move_to_top);
     settle(s, d.from, d.to, d.widget);
