@@ -1,3 +1,4 @@
 pub mod Listed
 pub mod Lookup
+pub mod Numbered
 pub mod Seen

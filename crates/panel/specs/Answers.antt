@@ -4,10 +4,13 @@ use mathlib.Core.Path.{_≡_}
 use mathlib.Core.List.{List}
 use lib.Ieee.{Float}
 use lib.ListN.{length}
-use Rattle.model.specs.Types.{WheelState, PointerEvent}
+use Rattle.data.specs.Numbers.{rotation-number, rotation-values, source-number}
+use Rattle.data.specs.Numbers.{pointer-event-number, pointer-event-position, pointer-event-button, pointer-event-click}
+use Rattle.model.specs.Types.{WheelState, PointerEvent, Rotation, MouseWheelSource, MaybeMouseWheelSource, some-source}
 use Rattle.model.specs.Pass as Model
-use Rattle.model.specs.Questions.{Question, settled, pointer-events, events, Reply, ask}
+use Rattle.model.specs.Questions.{Question, settled, pointer-events, events, rotation-delta, rotation, scroll-source, source, Reply, ask}
 use Rattle.pointer_events.specs.declared.MaybePointerEvent.{MaybePointerEvent}
+use Rattle.pointer_events.specs.declared.MaybePointerEvent.the-variants.{Some as some-event}
 use Rattle.pointer_place.specs.declared.Place.{Place}
 use Rattle.pointer_state.specs.declared.press.Press.{Press}
 use Rattle.pointer_events.specs.Events.{event-or-none}
@@ -116,3 +119,33 @@ of-waiting q c y x codes w k ds a =
 
 abbrev pub of-tally : Question → Panel → Reply → Type 0
 of-tally q x a = (l : Lent) → ask q (shown-by l x) ≡ a
+
+-- ---- 01: "If an answer is an enum, a definition states this paper's number and values for each of the enum's cases. The promises use that definition."
+-- Of the answer as of what the model replies, for every panel that shows these values.
+
+-- the number of a rotation, and its sum or its two headings
+pub record SameRotation (r x : Rotation) : Type 0 where
+  pub number : rotation-number r ≡ rotation-number x
+  pub values : rotation-values r ≡ rotation-values x
+
+abbrev pub numbered-rotation : Devices → Sums → Rotation → Type 0
+numbered-rotation ds s r =
+    (p : Model.Panel) → p .touch-states ≡ view ds → p .sums ≡ sums s → (x : Rotation) → ask (settled rotation-delta) p ≡ rotation x → SameRotation r x
+
+-- the number of what drives the scrolling, where something does
+abbrev pub numbered-source : WheelState → MaybeMouseWheelSource → Type 0
+numbered-source w a =
+    (p : Model.Panel) → p .wheel ≡ w → (x : MouseWheelSource) → ask (settled scroll-source) p ≡ source (some-source x)
+    → (s : MouseWheelSource) → a ≡ some-source s → source-number s ≡ source-number x
+
+-- the number of a pointer event; its position, the number of its button, and its click, or none where its case has none
+pub record SameEvent (e x : PointerEvent) : Type 0 where
+  pub number : pointer-event-number e ≡ pointer-event-number x
+  pub position : pointer-event-position e ≡ pointer-event-position x
+  pub button : pointer-event-button e ≡ pointer-event-button x
+  pub click : pointer-event-click e ≡ pointer-event-click x
+
+abbrev pub numbered-event-at : Press → List ℕ → List Float → ℕ → MaybePointerEvent → Type 0
+numbered-event-at s codes places i a =
+    (p : Model.Panel) → p .press ≡ press codes places s → (l : List PointerEvent) → ask (settled pointer-events) p ≡ events l
+    → (x : PointerEvent) → event-or-none l i ≡ some-event x → (e : PointerEvent) → a ≡ some-event e → SameEvent e x

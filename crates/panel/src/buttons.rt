@@ -11,7 +11,7 @@ use pointer_events::PLACES;
 use pointer_state::press::Press;
 ghost use Rattle.model.specs.Questions.{settled, bool, number, maybe-position, maybe-seconds};
 ghost use Rattle.model.specs.Questions as ask;
-ghost use Rattle.panel.specs.Answers.{of-press, of-events, of-click-past, of-pressing, of-long-press, of-event-at, of-event-count};
+ghost use Rattle.panel.specs.Answers.{of-press, of-events, of-click-past, of-pressing, of-long-press, of-event-at, of-event-count, numbered-event-at};
 
 pub fn press_origin(press: Press) -> MaybePos2
     ensures { λ r. ⌜ of-press (settled ask.press-origin) press (maybe-position r) ⌝ }
@@ -160,6 +160,7 @@ pub fn pointer_event(
     i: usize,
 ) -> MaybePointerEvent
     ensures { λ r. ⌜ of-event-at press (now (codes .entry)) (now (places .entry)) i r ⌝ }
+    ensures numbered { λ r. ⌜ numbered-event-at press (now (codes .entry)) (now (places .entry)) i r ⌝ }
 {
     let held = press.held;
     pointer_questions::buttons::pointer_event(held, codes, places, i)

@@ -6,7 +6,7 @@ use input_state::clock::Clock;
 use input_state::sums::Sums;
 ghost use Rattle.model.specs.Questions.{settled, bool, number, vector, source};
 ghost use Rattle.model.specs.Questions as ask;
-ghost use Rattle.panel.specs.Answers.{of-sums, of-wheel, of-wheel-at};
+ghost use Rattle.panel.specs.Answers.{of-sums, of-wheel, of-wheel-at, numbered-source};
 
 pub fn smooth_scroll_delta(sums: Sums) -> Vec2
     ensures { λ r. ⌜ of-sums (settled ask.smooth-scroll-delta) sums (vector r) ⌝ }
@@ -23,6 +23,7 @@ pub fn is_scrolling(wheel: WheelState) -> bool
 // What drives the scrolling, if there is one.
 pub fn scroll_source(wheel: WheelState) -> MaybeMouseWheelSource
     ensures { λ r. ⌜ of-wheel (settled ask.scroll-source) wheel (source r) ⌝ }
+    ensures numbered { λ r. ⌜ numbered-source wheel r ⌝ }
 {
     scroll_questions::scrolling::scroll_source(wheel)
 }

@@ -30,7 +30,9 @@ pub fn insert(
     widget: WidgetRect,
     move_to_top: bool,
 ) -> Decision
-    ensures { λ r. ⌜ Inserts «set» (now (words .entry)) (now (numbers .entry)) (now (edges .entry)) (now (layer .entry)) widget «move_to_top» r (now (words .exit)) (now (numbers .exit)) (now (edges .exit)) (now (layer .exit)) ⌝ }
+    ensures { λ r. ⌜ Inserts
+        «set» (now (words .entry)) (now (numbers .entry)) (now (edges .entry)) (now (layer .entry)) widget «move_to_top»
+        r (now (words .exit)) (now (numbers .exit)) (now (edges .exit)) (now (layer .exit)) ⌝ }
 {
     widget_rect::insert::insert(set, words, numbers, edges, layer, widget, move_to_top)
 }

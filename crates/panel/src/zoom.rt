@@ -10,7 +10,7 @@ use touch_state::devices::Devices;
 ghost use Rattle.model.specs.Questions.{settled, vector, rotation};
 ghost use Rattle.model.specs.Questions as ask;
 ghost use Rattle.scroll_questions.specs.Answers.{zoom-answer, zoom-2d-answer};
-ghost use Rattle.panel.specs.Answers.{of-gesture, of-gesture-by-axis};
+ghost use Rattle.panel.specs.Answers.{of-gesture, of-gesture-by-axis, numbered-rotation};
 
 pub fn zoom_delta(devices: Devices, sums: Sums) -> Zoom
     ensures { λ r. ⌜ of-gesture (settled ask.zoom-delta) devices sums (zoom-answer r) ⌝ }
@@ -35,6 +35,7 @@ pub fn zoom_delta_2d(devices: Devices, sums: Sums, keys: Keys, screen: Screen) -
 
 pub fn rotation_delta(devices: Devices, sums: Sums) -> Rotation
     ensures { λ r. ⌜ of-gesture (settled ask.rotation-delta) devices sums (rotation r) ⌝ }
+    ensures numbered { λ r. ⌜ numbered-rotation devices sums r ⌝ }
 {
     scroll_questions::zoom::rotation_delta(devices, sums.rotation_radians)
 }

@@ -1,4 +1,5 @@
--- The callee's reply, of the sums. Assumes nothing.
+-- The callee's reply, of the sums; equal rotations have the same number and values. Assumes nothing.
+use Rattle.panel.proofs.Numbered.{same-rotation}
 use Rattle.model.specs.Questions.{ask, reply, shown}
 use borrow.Author.Needs.{needs}
 use Rattle.panel.proofs.zoom.rotation_delta.Statement.{statement}
@@ -9,7 +10,10 @@ rotation-delta-requires c κs = search needs
 
 returns : tie.Need-returns
 unfolding ask reply shown
-returns c p d s = c .rotation-delta .ensures p d (rw s)
+returns c = (
+  (λ p d s. c .rotation-delta .ensures p d (rw s)),
+  (λ p d s x h. same-rotation (c .rotation-delta .ensures p d (rw s)) h),
+)
 
 pub rotation-delta-spec : {M : Type 1} → statement M
 rotation-delta-spec = tie.close (tie.spec rotation-delta-requires returns)
