@@ -9,6 +9,7 @@ use pointer_events::CODES;
 use pointer_events::MaybePointerEvent;
 use pointer_events::PLACES;
 use pointer_state::press::Press;
+ghost use Rattle.model.specs.Types.{Primary, Secondary, Middle};
 ghost use Rattle.model.specs.Questions.{settled, bool, number, maybe-position, maybe-seconds};
 ghost use Rattle.model.specs.Questions as ask;
 ghost use Rattle.panel.specs.Answers.{of-press, of-events, of-click-past, of-pressing, of-long-press, of-event-at, of-event-count, numbered-event-at};
@@ -164,4 +165,60 @@ pub fn pointer_event(
 {
     let held = press.held;
     pointer_questions::buttons::pointer_event(held, codes, places, i)
+}
+
+// ---- egui's names for one button
+
+pub fn primary_pressed(press: Press, codes: &[u32; CODES]) -> bool
+    ensures { λ r. ⌜ of-events (settled (ask.button-pressed Primary)) press (now (codes .entry)) (bool r) ⌝ }
+{
+    button_pressed(press, codes, PointerButton::Primary)
+}
+
+pub fn secondary_pressed(press: Press, codes: &[u32; CODES]) -> bool
+    ensures { λ r. ⌜ of-events (settled (ask.button-pressed Secondary)) press (now (codes .entry)) (bool r) ⌝ }
+{
+    button_pressed(press, codes, PointerButton::Secondary)
+}
+
+pub fn primary_released(press: Press, codes: &[u32; CODES]) -> bool
+    ensures { λ r. ⌜ of-events (settled (ask.button-released Primary)) press (now (codes .entry)) (bool r) ⌝ }
+{
+    button_released(press, codes, PointerButton::Primary)
+}
+
+pub fn secondary_released(press: Press, codes: &[u32; CODES]) -> bool
+    ensures { λ r. ⌜ of-events (settled (ask.button-released Secondary)) press (now (codes .entry)) (bool r) ⌝ }
+{
+    button_released(press, codes, PointerButton::Secondary)
+}
+
+pub fn primary_clicked(press: Press, codes: &[u32; CODES]) -> bool
+    ensures { λ r. ⌜ of-events (settled (ask.button-clicked Primary)) press (now (codes .entry)) (bool r) ⌝ }
+{
+    button_clicked(press, codes, PointerButton::Primary)
+}
+
+pub fn secondary_clicked(press: Press, codes: &[u32; CODES]) -> bool
+    ensures { λ r. ⌜ of-events (settled (ask.button-clicked Secondary)) press (now (codes .entry)) (bool r) ⌝ }
+{
+    button_clicked(press, codes, PointerButton::Secondary)
+}
+
+pub fn primary_down(press: Press) -> bool
+    ensures { λ r. ⌜ of-press (settled (ask.button-down Primary)) press (bool r) ⌝ }
+{
+    button_down(press, PointerButton::Primary)
+}
+
+pub fn secondary_down(press: Press) -> bool
+    ensures { λ r. ⌜ of-press (settled (ask.button-down Secondary)) press (bool r) ⌝ }
+{
+    button_down(press, PointerButton::Secondary)
+}
+
+pub fn middle_down(press: Press) -> bool
+    ensures { λ r. ⌜ of-press (settled (ask.button-down Middle)) press (bool r) ⌝ }
+{
+    button_down(press, PointerButton::Middle)
 }
