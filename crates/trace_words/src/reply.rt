@@ -4,6 +4,10 @@ use crate::words::count;
 use data::refusal::InsertRefusal;
 use data::refusal::InteractRefusal;
 use data::refusal::PassRefusal;
+ghost use mathlib.Core.Option.{some};
+ghost use mathlib.Core.Path.{_≡_};
+ghost use Rattle.data.specs.Numbers.{pass-row, insert-row, interact-row};
+ghost use Rattle.trace_words.specs.Reply.{Answers};
 
 pub struct Reply {
     pub code: u32,
@@ -24,21 +28,27 @@ pub fn taken(words: usize) -> Reply {
     Reply { code: 0, words }
 }
 
-fn refused(number: u32) -> Reply {
+fn refused(number: u32) -> Reply
+    ensures { λ r. ⌜ (r .code ≡ number) × (r .words ≡ 0) ⌝ }
+{
     Reply {
         code: number,
         words: 0,
     }
 }
 
-fn refused_at(a: &mut Answer, number: u32, index: usize) -> Reply {
+fn refused_at(a: &mut Answer, number: u32, index: usize) -> Reply
+    ensures { λ r. ⌜ Answers (record { number = number; index = some index }) (now (a .entry)) r (now (a .exit)) ⌝ }
+{
     Reply {
         code: number,
         words: count(a, 0, index),
     }
 }
 
-pub fn refused_pass(a: &mut Answer, why: PassRefusal) -> Reply {
+pub fn refused_pass(a: &mut Answer, why: PassRefusal) -> Reply
+    ensures { λ r. ⌜ Answers (pass-row why) (now (a .entry)) r (now (a .exit)) ⌝ }
+{
     let number = why.number();
     match why {
         PassRefusal::Malformed(i) => refused_at(a, number, i),
@@ -49,7 +59,9 @@ pub fn refused_pass(a: &mut Answer, why: PassRefusal) -> Reply {
     }
 }
 
-pub fn refused_insert(a: &mut Answer, why: InsertRefusal) -> Reply {
+pub fn refused_insert(a: &mut Answer, why: InsertRefusal) -> Reply
+    ensures { λ r. ⌜ Answers (insert-row why) (now (a .entry)) r (now (a .exit)) ⌝ }
+{
     let number = why.number();
     match why {
         InsertRefusal::Malformed => refused_at(a, number, 0),
@@ -61,7 +73,9 @@ pub fn refused_insert(a: &mut Answer, why: InsertRefusal) -> Reply {
     }
 }
 
-pub fn refused_interact(a: &mut Answer, why: InteractRefusal) -> Reply {
+pub fn refused_interact(a: &mut Answer, why: InteractRefusal) -> Reply
+    ensures { λ r. ⌜ Answers (interact-row why) (now (a .entry)) r (now (a .exit)) ⌝ }
+{
     let number = why.number();
     match why {
         InteractRefusal::Malformed(i) => refused_at(a, number, i),

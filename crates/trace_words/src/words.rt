@@ -7,12 +7,16 @@ use emath::pos2::Pos2;
 use emath::rect::Rect;
 use emath::vec2::MaybeVec2;
 use emath::vec2::Vec2;
+ghost use Prim.Native.Nat.{_%_};
+ghost use Rattle.trace_words.specs.Words.{Written};
 
 pub const ROOM: usize = 65536;
 
 pub type Answer = [u32; 65536];
 
-pub fn word(a: &mut Answer, n: usize, w: u32) -> usize {
+pub fn word(a: &mut Answer, n: usize, w: u32) -> usize
+    ensures { λ r. ⌜ Written n w (now (a .entry)) r (now (a .exit)) ⌝ }
+{
     if n < ROOM {
         a[n] = w;
         return n + 1;
@@ -26,7 +30,9 @@ pub fn id(a: &mut Answer, n: usize, d: u64) -> usize {
     word(a, m, (d / 0x1_0000_0000) as u32)
 }
 
-pub fn count(a: &mut Answer, n: usize, c: usize) -> usize {
+pub fn count(a: &mut Answer, n: usize, c: usize) -> usize
+    ensures { λ r. ⌜ Written n (c % 0x1_0000_0000) (now (a .entry)) r (now (a .exit)) ⌝ }
+{
     word(a, n, (c % 0x1_0000_0000) as u32)
 }
 
