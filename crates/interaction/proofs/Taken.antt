@@ -13,7 +13,7 @@ use Rattle.model.specs.Types.{WidgetRect, PointerEvent, InteractRefusal}
 use Rattle.model.specs.Types.interaction.{ShortBuffer, TallyFull}
 use Rattle.model.specs.Pass.{Panel, or-else}
 use Rattle.model.specs.Interact as Model
-use Rattle.model.specs.Interact.{InteractInput, is-some, one-if, if-changed, walked, interaction-after, snapshot, tallied, interact-by, interact-seen, refused, answered, with-interaction}
+use Rattle.model.specs.Interact.{InteractInput, is-some, one-if, if-changed, walked, interaction-after, snapshot, tallied, tallied-by, tally-after, tally-refusal, interact-by, interact-seen, refused, answered, with-interaction}
 use Rattle.model.specs.Interact.{input-refusal, buffers-refusal, hits-refusal, hit-refusal, hovered-of, contains-pointer-of}
 use Rattle.hit_lists.specs.Hits.{hits-of, view}
 use Rattle.hit_refusals.specs.Refusals.{input, unknown}
@@ -64,14 +64,14 @@ module _ (u : Seen) (es : List PointerEvent) (p : Panel) (x : InteractInput) (s 
   started = cc (a .drag-started)
 
   pub refuses : (is-some (option-of (o .«drag_started»)) && leb max-tally tally) ≡ true → interact-by none (seen-of u es) p x ≡ refused TallyFull
-  unfolding interact-by tallied
+  unfolding interact-by tallied tallied-by tally-after tally-refusal
   refuses h = rw (started, counts, h)
 
   pub takes : (is-some (option-of (o .«drag_started»)) && leb max-tally tally) ≡ false
       → interact-by none (seen-of u es) p x
       ≡ answered (snapshot (seen-of u es) x (p .interaction))
       (with-interaction p (interaction-after (seen-of u es) x (p .interaction)) (tally + one-if (option-of (o .«drag_started»))))
-  unfolding interact-by tallied
+  unfolding interact-by tallied tallied-by tally-after tally-refusal
   takes h = rw (started, counts, h)
 
 -- a snapshot is its seven parts

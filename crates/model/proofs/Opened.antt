@@ -81,7 +81,7 @@ unfolding model-Calls.of-pass model-Calls.of-interact model-Calls.call model-Cal
 model-calls = Type 0
 
 unfoldable pub model-interact : Type 1
-unfolding model-Interact.has-pos model-Interact.long-press model-Interact.could-click model-Interact.seen model-Interact.is-some model-Interact.has-click model-Interact.get model-Interact.widget-id model-Interact.hit-id model-Interact.kept-if model-Interact.forget-gone-click model-Interact.abort-if model-Interact.long-touch-on model-Interact.long-touch-if model-Interact.pointer-event model-Interact.pointer-events model-Interact.has-hit model-Interact.is-hit model-Interact.could-still-be-clicked model-Interact.is-dragged model-Interact.new-drag model-Interact.dragged-after model-Interact.insert-id model-Interact.insert-some model-Interact.insert-hits model-Interact.order-from model-Interact.order model-Interact.order-of model-Interact.insert-on-top model-Interact.contains-pointer-of model-Interact.hovered-of model-Interact.same-id model-Interact.walked model-Interact.interaction-after model-Interact.if-changed model-Interact.snapshot model-Interact.entry-refusal model-Interact.hits-refusal model-Interact.hit-refusal model-Interact.buffers-refusal model-Interact.input-refusal model-Interact.with-interaction model-Interact.one-if model-Interact.tallied model-Interact.interact-by model-Interact.interact-seen model-Interact.interact
+unfolding model-Interact.has-pos model-Interact.long-press model-Interact.could-click model-Interact.seen model-Interact.is-some model-Interact.has-click model-Interact.get model-Interact.widget-id model-Interact.hit-id model-Interact.kept-if model-Interact.forget-gone-click model-Interact.abort-if model-Interact.long-touch-on model-Interact.long-touch-if model-Interact.pointer-event model-Interact.pointer-events model-Interact.has-hit model-Interact.is-hit model-Interact.could-still-be-clicked model-Interact.is-dragged model-Interact.new-drag model-Interact.dragged-after model-Interact.insert-id model-Interact.insert-some model-Interact.insert-hits model-Interact.order-from model-Interact.order model-Interact.order-of model-Interact.insert-on-top model-Interact.contains-pointer-of model-Interact.hovered-of model-Interact.same-id model-Interact.walked model-Interact.interaction-after model-Interact.if-changed model-Interact.snapshot model-Interact.entry-refusal model-Interact.hits-refusal model-Interact.hit-refusal model-Interact.buffers-refusal model-Interact.input-refusal model-Interact.with-interaction model-Interact.one-if model-Interact.tally-after model-Interact.tally-refusal model-Interact.tallied-by model-Interact.tallied model-Interact.interact-by model-Interact.interact-seen model-Interact.interact
 model-interact = Type 0
 
 unfoldable pub model-numbers : Type 1

@@ -10,7 +10,7 @@ use Rattle.model.specs.Types.{MaybePos2, no-pos, some-pos, MaybeClick, n
 use Rattle.model.specs.Types.interaction.{Malformed, TooManyHits, ShortBuffer, ZeroId, TallyFull}
 use Rattle.model.specs.Pointer.{any-down, could-any-button-be-click, is-long-press}
 use Rattle.model.specs.Touch.{any-touches}
-use Rattle.model.specs.Pass.{Panel, Interaction, no-interaction, decidedly-dragging, or-else}
+use Rattle.model.specs.Pass.{Panel, Interaction, no-interaction, decidedly-dragging, or-else, Tally}
 
 -- an entry of a hit list
 pub record Hit : Type 0 where
@@ -288,7 +288,7 @@ pub data Interacted : Type 0 where
   refused : InteractRefusal → Interacted
   answered : InteractionSnapshot → Panel → Interacted
 
-unfoldable pub with-interaction : Panel → Interaction → ℕ → Panel
+unfoldable pub with-interaction : Panel → Interaction → Tally → Panel
 with-interaction p s n =
     record {
       clock = p .clock;
@@ -308,9 +308,22 @@ unfoldable pub one-if : {A : Type 0} → Option A → ℕ
 one-if none = 0
 one-if (some a) = 1
 
--- the last step counts a start in the 32-bit tally, or refuses with 10
+-- the tally after an answer
+unfoldable pub tally-after : InteractionSnapshot → Tally → Tally
+tally-after a n = n + one-if (a .drag-started)
+
+-- 10: the answer would start a drag with the 32-bit tally full
+unfoldable pub tally-refusal : InteractionSnapshot → Tally → Option InteractRefusal
+tally-refusal a n = cond (is-some (a .drag-started) && leb max-tally n) (some TallyFull) none
+
+-- refused by the tally, or answered with what it counts then
+unfoldable pub tallied-by : Option InteractRefusal → Panel → InteractionSnapshot → Interaction → Interacted
+tallied-by (some r) p a s = refused r
+tallied-by none p a s = answered a (with-interaction p s (tally-after a (p .tally)))
+
+-- the last step counts in the tally, or refuses
 unfoldable pub tallied : Panel → InteractionSnapshot → Interaction → Interacted
-tallied p a s = cond (is-some (a .drag-started) && leb max-tally (p .tally)) (refused TallyFull) (answered a (with-interaction p s (p .tally + one-if (a .drag-started))))
+tallied p a s = tallied-by (tally-refusal a (p .tally)) p a s
 
 unfoldable pub interact-by : Option InteractRefusal → Seen → Panel → InteractInput → Interacted
 interact-by (some r) v p x = refused r

@@ -57,6 +57,10 @@ pub record Interaction : Type 0 where
   pub potential-drag-id : Option ℕ
   pub dragged : Option ℕ
 
+-- what is counted of drags: their starts
+abbrev pub Tally : Type 0
+Tally = ℕ
+
 pub record Panel : Type 0 where
   pub clock : Clock
   pub screen : Screen
@@ -68,7 +72,7 @@ pub record Panel : Type 0 where
   pub keys : Keys
   pub sums : Sums
   pub interaction : Interaction
-  pub tally : ℕ
+  pub tally : Tally
 
 unfoldable pub no-keys : ℕ → Bool
 no-keys k = false

@@ -1,5 +1,4 @@
 -- Two panels from the next taken pass on: they differ in the click past, in devices without a touch and in the tally, and answer alike. Assumes nothing.
-use Prim.Native.Nat.{ℕ, _+_}
 use mathlib.Core.Path.{_≡_, refl, sym, ap, _∙_, subst}
 use mathlib.Core.Bool.{Bool, true, false, not, _&&_, _||_}
 use mathlib.Core.Option.{Option, none, some}
@@ -12,8 +11,8 @@ use Rattle.ieee_laws.proofs.Order.{le-trans, le-refl}
 use Rattle.model.specs.Types.{InputOptions, ButtonsDown, Primary, Event}
 use Rattle.model.specs.Pointer.{Held, ClickPast, Press, any, is-click, any-down, button-down, press-too-long, could-any-button-be-click, is-decidedly-dragging, is-long-press, clear-events, press-events, press-pass}
 use Rattle.model.specs.Touch.{TouchState, touch-pass, multi-touch, any-touches, find-device, info-at, any-touches-at}
-use Rattle.model.specs.Pass.{Panel, PassInput, Interaction, begin-pass, clock-pass, decidedly-dragging, pass-events, time-of}
-use Rattle.model.specs.Interact.{InteractInput, InteractionSnapshot, seen, snapshot, interaction-after, with-interaction, one-if, long-press, could-click, has-pos}
+use Rattle.model.specs.Pass.{Panel, PassInput, Interaction, Tally, begin-pass, clock-pass, decidedly-dragging, pass-events, time-of}
+use Rattle.model.specs.Interact.{InteractInput, InteractionSnapshot, seen, snapshot, interaction-after, with-interaction, tally-after, long-press, could-click, has-pos}
 use Rattle.model.specs.Questions.{Question, settled, time-since-last-click, has-touch-screen, tally, shown, reply, ask}
 use Rattle.theorems.specs.Clearing.{FirstIsPress, Unless, first-button, button-came, may-differ}
 use Rattle.model.proofs.InOrder.{Ascend, touch-pass-ascending}
@@ -23,7 +22,7 @@ use Rattle.theorems.proofs.Trace.{Trace, unpressed, pressed, clicked, e
 use Rattle.theorems.proofs.Taken.{Taken, Answered}
 
 -- p with another click past, other devices and another tally
-unfoldable pub but-for : Panel → ClickPast → List TouchState → ℕ → Panel
+unfoldable pub but-for : Panel → ClickPast → List TouchState → Tally → Panel
 but-for p b vs n =
     record {
       clock = p .clock;
@@ -43,7 +42,7 @@ but-for p b vs n =
 pub record Agreeing (D tc : Float) (pr k : Bool) (p q : Panel) : Type 0 where
   pub past : ClickPast
   pub devices : List TouchState
-  pub count : ℕ
+  pub count : Tally
   pub is : q ≡ but-for p past devices count
   pub same-live : live (p .touch-states) ≡ live devices
   pub ascend-p : Ascend (p .touch-states)
@@ -94,7 +93,7 @@ press-together D tc old now o es h a b false c delay ft fn l m u t = go c (next-
         (first D tc now o delay ft fn (le-trans tc old now l m) (le-refl now fn) es (clear-events h) a b q la lb u)
 
 -- the state after it, of p and of p with another click past
-begin-but-for : (p : Panel) (i : PassInput) (b : ClickPast) (vs : List TouchState) (n : ℕ) (D tc : Float) (pr c : Bool)
+begin-but-for : (p : Panel) (i : PassInput) (b : ClickPast) (vs : List TouchState) (n : Tally) (D tc : Float) (pr c : Bool)
     → (t : Together D tc (time-of i (p .clock .time)) pr c (press-pass (i .options) (time-of i (p .clock .time)) (pass-events i) (p .press)) (press-pass (i .options) (time-of i (p .clock .time)) (pass-events i) (pair (p .press .held) b)))
     → decidedly-dragging (p .clock) (p .screen) (p .press) ≡ decidedly-dragging (p .clock) (p .screen) (pair (p .press .held) b)
     → begin-pass (but-for p b vs n) i
@@ -300,8 +299,8 @@ module _ (D tc : Float) (pr k : Bool) (p q : Panel) (g : Agreeing D tc pr k p q)
   unfolding but-for with-interaction
   agreeing-interact x s t p' q' hp hq =
       let d = interaction-after (seen p) x (p .interaction) in
-      let n = p .tally + one-if (s .drag-started) in
-      let n' = q .tally + one-if (t .drag-started) in
+      let n = tally-after s (p .tally) in
+      let n' = tally-after t (q .tally) in
       let same-snapshot : snapshot (seen p) x (p .interaction) ≡ snapshot (seen q) x (q .interaction) = λ j. snapshot (seen-same j) x (interaction-same j) in
       let same-after : d ≡ interaction-after (seen q) x (q .interaction) = λ j. interaction-after (seen-same j) x (interaction-same j) in
       let e : q' ≡ but-for (with-interaction p d n) (g .past) (g .devices) n' =

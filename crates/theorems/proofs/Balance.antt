@@ -11,7 +11,7 @@ use Rattle.model.specs.Types.{PassRefusal, InteractRefusal}
 use Rattle.model.specs.Types.interaction.{TallyFull}
 use Rattle.model.specs.Pass.{Panel, PassInput, Interaction, fresh, pass, pass-by, pass-refusal, begin-pass, no-interaction}
 use Rattle.model.specs.Interact as I
-use Rattle.model.specs.Interact.{InteractInput, InteractionSnapshot, seen, interact, interact-seen, interact-by, input-refusal, tallied, snapshot, interaction-after, with-interaction, if-changed, same-id, one-if, is-some}
+use Rattle.model.specs.Interact.{InteractInput, InteractionSnapshot, seen, interact, interact-seen, interact-by, input-refusal, tally-after, tally-refusal, tallied, tallied-by, snapshot, interaction-after, with-interaction, if-changed, same-id, one-if, is-some}
 use Rattle.model.specs.Calls.{Call, passes, interacts, Outcome, refused-pass, refused-interact, passed, answered, of-pass, of-interact, call, after, run, outcomes}
 use Rattle.theorems.specs.Balance.{one-if-is, starts, stops, last-dragged, all-starts, Balance}
 
@@ -24,7 +24,7 @@ pub record Dragged (p : Panel) (s : InteractionSnapshot) (q : Panel) : Type 0 wh
   pub now : s .dragged ≡ q .interaction .dragged
   pub started : s .drag-started ≡ if-changed (p .interaction .dragged) (q .interaction .dragged) (q .interaction .dragged)
   pub stopped : s .drag-stopped ≡ if-changed (p .interaction .dragged) (q .interaction .dragged) (p .interaction .dragged)
-  pub tally : q .tally ≡ p .tally + one-if (s .drag-started)
+  pub tally : q .tally ≡ tally-after s (p .tally)
 
 abbrev Done : Panel → Outcome → Type 0
 Done p (refused-pass r) = Unit {0}
@@ -41,7 +41,7 @@ pass-done p i = go (pass-refusal p i)
     go none = record { dragged = refl; tally = refl }
 
 interact-done : (p : Panel) (x : InteractInput) → Done p (of-interact (interact p x))
-unfolding of-interact interact interact-seen interact-by tallied snapshot interaction-after with-interaction
+unfolding of-interact interact interact-seen interact-by tallied tallied-by snapshot interaction-after with-interaction
 interact-done p x = go (input-refusal x)
   where
     s : InteractionSnapshot
@@ -50,13 +50,13 @@ interact-done p x = go (input-refusal x)
     d : Interaction
     d = interaction-after (seen p) x (p .interaction)
 
-    full : (b : Bool) → Done p (of-interact (cond b (I.refused TallyFull) (I.answered s (with-interaction p d (p .tally + one-if (s .drag-started))))))
-    full true = tt
-    full false = record { now = refl; started = refl; stopped = refl; tally = refl }
+    full : (r : Option InteractRefusal) → Done p (of-interact (tallied-by r p s d))
+    full (some r) = tt
+    full none = record { now = refl; started = refl; stopped = refl; tally = refl }
 
     go : (r : Option InteractRefusal) → Done p (of-interact (interact-by r (seen p) p x))
     go (some r) = tt
-    go none = full (is-some (s .drag-started) && leb max-tally (p .tally))
+    go none = full (tally-refusal s (p .tally))
 
 call-done : (p : Panel) (c : Call) → Done p (call p c)
 unfolding call
@@ -87,7 +87,7 @@ pub record BalancedFrom (w : ℕ) (p : Panel) (os : List Outcome) (q : Panel) : 
   pub tally : p .tally + all-starts os ≡ q .tally
 
 balanced-from : (w : ℕ) (p : Panel) (cs : List Call) → BalancedFrom w p (outcomes p cs) (run p cs)
-unfolding outcomes starts stops run last-dragged all-starts after
+unfolding outcomes starts stops run last-dragged all-starts after tally-after
 balanced-from w p [] = record { counts = refl; last = refl; tally = omega arith }
 balanced-from w p (c ∷ cs) = go (call p c) (call-done p c) (λ q. balanced-from w q cs)
   where
@@ -112,7 +112,7 @@ pass-fits p i h = go (pass-refusal p i)
     go none = h
 
 interact-fits : (p : Panel) (x : InteractInput) → Fits p → Fits (after p (of-interact (interact p x)))
-unfolding of-interact interact interact-seen interact-by tallied with-interaction after is-some one-if
+unfolding of-interact interact interact-seen interact-by tallied tallied-by tally-after tally-refusal with-interaction after is-some one-if
 interact-fits p x h = go (input-refusal x)
   where
     s : InteractionSnapshot
@@ -121,17 +121,14 @@ interact-fits p x h = go (input-refusal x)
     d : Interaction
     d = interaction-after (seen p) x (p .interaction)
 
-    full : (b : Bool) → (T (not b) → p .tally < max-tally) → Fits (after p (of-interact (cond b (I.refused TallyFull) (I.answered s (with-interaction p d (p .tally + 1))))))
-    full true k = h
-    full false k = let z = k tt in omega arith
-
-    started : (o : Option ℕ) → Fits (after p (of-interact (cond (is-some o && leb max-tally (p .tally)) (I.refused TallyFull) (I.answered s (with-interaction p d (p .tally + one-if o))))))
-    started none = omega arith
-    started (some w) = full (leb max-tally (p .tally)) (nleb→lt max-tally (p .tally))
+    full : (o : Option ℕ) (b : Bool) → (T (not b) → p .tally < max-tally) → s .drag-started ≡ o → Fits (after p (of-interact (tallied-by (cond (is-some o && b) (some TallyFull) none) p s d)))
+    full none b k e = rw e (omega arith)
+    full (some w) true k e = h
+    full (some w) false k e = let z = k tt in rw e (omega arith)
 
     go : (r : Option InteractRefusal) → Fits (after p (of-interact (interact-by r (seen p) p x)))
     go (some r) = h
-    go none = started (s .drag-started)
+    go none = full (s .drag-started) (leb max-tally (p .tally)) (nleb→lt max-tally (p .tally)) refl
 
 call-fits : (p : Panel) (c : Call) → Fits p → Fits (after p (call p c))
 unfolding call

@@ -1,5 +1,4 @@
 -- The clearing pass and its interact clear a panel, further interacts leave it cleared, and the next taken pass makes two of them agree. Assumes nothing.
-use Prim.Native.Nat.{ℕ, _+_}
 use mathlib.Core.Path.{_≡_, refl, sym, ap, _∙_, subst}
 use mathlib.Core.Bool.{Bool, true, false, not, _&&_, _||_, true≢false, false≢true}
 use mathlib.Core.Option.{Option, none, some}
@@ -14,8 +13,8 @@ use Rattle.model.specs.Pointer.{Place, with-place, place-event, place-events, c
 use Rattle.model.specs.Pointer.{Held, ClickPast, Press, any, is-press, is-release, is-click, any-down, no-buttons, could-any-button-be-click, is-decidedly-dragging, add-event, press-button, release-button, click-of, release}
 use Rattle.model.specs.Pointer.{press-event, press-events, clear-events, press-pass}
 use Rattle.model.specs.Touch.{touch-pass}
-use Rattle.model.specs.Pass.{Panel, PassInput, Interaction, no-interaction, begin-pass, clock-pass, decidedly-dragging, pass-events, time-of, or-else}
-use Rattle.model.specs.Interact.{InteractInput, InteractionSnapshot, Seen, seen, Going, pointer-event, pointer-events, walked, interaction-after, forget-gone-click, abort-if, long-touch-on, long-touch-if, get, is-some, kept-if, dragged-after, new-drag, with-interaction, one-if}
+use Rattle.model.specs.Pass.{Panel, PassInput, Interaction, Tally, no-interaction, begin-pass, clock-pass, decidedly-dragging, pass-events, time-of, or-else}
+use Rattle.model.specs.Interact.{InteractInput, InteractionSnapshot, Seen, seen, Going, pointer-event, pointer-events, walked, interaction-after, forget-gone-click, abort-if, long-touch-on, long-touch-if, get, is-some, kept-if, dragged-after, new-drag, with-interaction, tally-after}
 use Rattle.theorems.specs.Reach.{NotAfter, Reached}
 use Rattle.theorems.specs.Clearing.{TouchEnd, end-event, EndsAll, Rest, rest-events, FirstIsPress, button-event, first-button, button-came}
 use Rattle.theorems.proofs.Pointer.{PointerView, a-move, a-press, a-release, nothing, pointer-view}
@@ -29,7 +28,7 @@ use Rattle.theorems.proofs.Agreeing.{but-for, Together, together, Agree
 use Rattle.theorems.proofs.ClearingPass.{Undecided, undecided-of, cleared-panel, pass-clears, touches-cleared, press-ends}
 use Rattle.theorems.proofs.ClearingPass as C
 
-unfoldable pub with-tally : ℕ → Undecided → Undecided
+unfoldable pub with-tally : Tally → Undecided → Undecided
 with-tally n w =
     record {
       unstable-dt = w .unstable-dt;
@@ -101,7 +100,7 @@ stays-none v x h =
     untouched false false = refl
 
 module _ (c : PassInput) (tc : Float) (rect : Rect) (r : Rest) where
-  interact-is : (w : Undecided) (d e : Interaction) (n : ℕ) → with-interaction (cleared-panel c tc rect r w d) e n ≡ cleared-panel c tc rect r (with-tally n w) e
+  interact-is : (w : Undecided) (d e : Interaction) (n : Tally) → with-interaction (cleared-panel c tc rect r w d) e n ≡ cleared-panel c tc rect r (with-tally n w) e
   unfolding with-interaction cleared-panel with-tally
   interact-is w d e n = refl
 
@@ -115,10 +114,10 @@ module _ (c : PassInput) (tc : Float) (rect : Rect) (r : Rest) where
 
   interacted : (p p' : Panel) (w : Undecided) (d : Interaction) (x : InteractInput) (s : InteractionSnapshot) → p ≡ cleared-panel c tc rect r w d
       → interaction-after (seen (cleared-panel c tc rect r w d)) x d ≡ no-interaction → Answered p x s p'
-      → p' ≡ cleared-panel c tc rect r (with-tally (p .tally + one-if (s .drag-started)) w) no-interaction
+      → p' ≡ cleared-panel c tc rect r (with-tally (tally-after s (p .tally)) w) no-interaction
   interacted p p' w d x s e n i =
       let z = cleared-panel c tc rect r w d in
-      let m = p .tally + one-if (s .drag-started) in
+      let m = tally-after s (p .tally) in
       i .is ∙ ap (λ (y : Panel). with-interaction y (interaction-after (seen y) x (y .interaction)) m) e
       ∙ ap (λ (y : Interaction). with-interaction z (interaction-after (seen z) x y) m) (interaction-is w d) ∙ ap (λ (y : Interaction). with-interaction z y m) n ∙ interact-is w d no-interaction m
 
@@ -126,7 +125,7 @@ module _ (c : PassInput) (tc : Float) (rect : Rect) (r : Rest) where
   unfolding with-tally
   cleared-interact p p' x s h i =
       record {
-        own = with-tally (p .tally + one-if (s .drag-started)) (h .own);
+        own = with-tally (tally-after s (p .tally)) (h .own);
         is =
             interacted p p' (h .own) no-interaction x s (h .is)
             (stays-none (seen (cleared-panel c tc rect r (h .own) no-interaction)) x (rw (events-are (h .own) no-interaction) (h .no-press))) i;
@@ -142,7 +141,7 @@ module _ (c : PassInput) (tc : Float) (rect : Rect) (r : Rest) where
     unfolding undecided-of with-tally walked begin-pass clock-pass press-pass
     clears p p₁ p₂ x s reached ended t i =
         record {
-          own = with-tally (p₁ .tally + one-if (s .drag-started)) w;
+          own = with-tally (tally-after s (p₁ .tally)) w;
           is =
               interacted p₁ p₂ w (p .interaction) x s (t .is ∙ pass-clears p c tc rect es r gives-time gives-rect feed)
               (nothing-left (seen (cleared-panel c tc rect r w (p .interaction))) x (p .interaction) ends) i;

@@ -19,11 +19,11 @@ use Rattle.model.specs.Interact.{InteractInput, InteractionSnapshot}
 use Rattle.model.specs.Questions.{Question, ask}
 use Rattle.model.specs.Calls.{Call, passes, interacts, Outcome, refused-pass, refused-interact, passed, answered, call, after, run}
 use Rattle.theorems.specs.Reach.{Reached}
-use Rattle.theorems.specs.Clearing.{Rest, Clears, Takes, FirstIsPress, Unless, first-button, button-came, is-refused, Fair, done, both-refused, both-passed, both-answered}
-use Rattle.theorems.specs.Clearing.{is-no-place, SameAnswer, same-pass-refusal, same-interact-refusal, both-taken, same-snapshot, Same, is-passed, has-click, When, Alike, may-differ, twice, Clearing}
+use Rattle.theorems.specs.Clearing.{Rest, Clears, TakesFrom, FirstIsPress, Unless, first-button, button-came, is-refused, Fair, done, both-refused, both-passed, both-answered}
+use Rattle.theorems.specs.Clearing.{is-no-place, SameAnswer, same-pass-refusal, same-interact-refusal, both-taken, same-snapshot, Same, is-passed, has-click, When, Alike, may-differ, twice, ClearingReached, Clearing}
 use Rattle.model.proofs.Ids.{impossible}
 use Rattle.theorems.proofs.Times.{InRange, in-range, time-in-range}
-use Rattle.theorems.proofs.Taken.{passed-is, answered-is, CallView, pass-refused, pass-taken, interact-refused, interact-taken, call-view}
+use Rattle.theorems.proofs.Taken.{passed-is, answered-is, CallView, pass-refused, pass-taken, interact-refused, interact-full, interact-taken, call-view, tally-refuses}
 use Rattle.theorems.proofs.Reach.{pass-later, pass-reaches, interact-reaches, reach}
 use Rattle.theorems.proofs.ClearingPass.{time-is}
 use Rattle.theorems.proofs.Cleared.{Cleared, clears, cleared-interact, cleared-pass, cleared-time}
@@ -75,7 +75,12 @@ same-refusal p q c e = go (call-view p c) (call-view q c)
     go (pass-refused i r h) (pass-taken j q' t) x y = absurd y
     go (pass-taken i p' t) v x y = absurd x
     go (interact-refused z r h) (interact-refused w s k) x y = subst (λ (u : InteractRefusal). SameAnswer (refused-interact r) (refused-interact u)) (cc) (same-interact-refusal r)
+    go (interact-refused z r h) (interact-full w s k l) x y = impossible (cc)
     go (interact-refused z r h) (interact-taken w u q' t) x y = absurd y
+    go (interact-full z r h l) (interact-refused w s k) x y = impossible (cc)
+    go (interact-full z r h l) (interact-full w s k m) x y =
+        let e : r ≡ s = tally-refuses _ _ r l ∙ sym (tally-refuses _ _ s m) in subst (λ (u : InteractRefusal). SameAnswer (refused-interact r) (refused-interact u)) e (same-interact-refusal r)
+    go (interact-full z r h l) (interact-taken w u q' t) x y = absurd y
     go (interact-taken z u p' t) v x y = absurd x
 
 -- ---- one call of the list
@@ -155,11 +160,9 @@ module _ (D tc : Float) where
       (tt, cleared-on c rect rest p' q' ds fin (interact-reaches p i s p' r ip) (cleared-interact c tc rect rest p p' i s hp ip) (cleared-interact c tc rect rest q q' i t hq (answered-is q i t q' y)) f)
 
 -- More than demand 3 asks: later passes may bring any options whose delay is at most D, and a gap of D is enough.
-pub clearing-within : (D : Float) (past₁ past₂ later : List Call) (c : PassInput) (x : InteractInput) (p q : Panel) (h : Clears c (run fresh past₁) (run fresh past₂))
-    → Takes past₁ c x p → Takes past₂ c x q → Fair (λ o. T (le (o .«max_double_click_delay») D)) D (h .time) false p q later → Alike false false p q later
-clearing-within D past₁ past₂ later c x p q h tp tq f =
-    let p₀ = run fresh past₁ in
-    let q₀ = run fresh past₂ in
+pub clearing-within : (D : Float) (p₀ q₀ : Panel) → Reached p₀ → Reached q₀ → (later : List Call) (c : PassInput) (x : InteractInput) (p q : Panel) (h : Clears c p₀ q₀)
+    → TakesFrom p₀ c x p → TakesFrom q₀ c x q → Fair (λ o. T (le (o .«max_double_click_delay») D)) D (h .time) false p q later → Alike false false p q later
+clearing-within D p₀ q₀ rp rq later c x p q h tp tq f =
     let takes-p = passed-is p₀ c (tp .cleared) (tp .takes-pass) in
     let takes-q = passed-is q₀ c (tq .cleared) (tq .takes-pass) in
     let answers-p = answered-is (tp .cleared) x (tp .snapshot) p (tp .takes-interact) in
@@ -167,9 +170,9 @@ clearing-within D past₁ past₂ later c x p q h tp tq f =
     let fin : T (finite (h .time)) =
     subst (λ (z : Float). T (finite z)) (time-is p₀ c (h .time) (h .screen-rect) (h .ends) (h .rest) (h .gives-time) (h .gives-rect) (h .feed))
     (time-in-range (time-of c (p₀ .clock .time)) (takes-p .in-domain) .is-finite) in
-    cleared-on D (h .time) c (h .screen-rect) (h .rest) p q later fin (interact-reaches (tp .cleared) x (tp .snapshot) p (pass-reaches p₀ c (tp .cleared) (reach past₁) takes-p) answers-p)
-    (clears c (h .time) (h .screen-rect) (h .rest) (h .ends) (h .gives-time) (h .gives-rect) (h .feed) p₀ (tp .cleared) p x (tp .snapshot) (reach past₁) (h .ends-p) takes-p answers-p)
-    (clears c (h .time) (h .screen-rect) (h .rest) (h .ends) (h .gives-time) (h .gives-rect) (h .feed) q₀ (tq .cleared) q x (tq .snapshot) (reach past₂) (h .ends-q) takes-q answers-q) f
+    cleared-on D (h .time) c (h .screen-rect) (h .rest) p q later fin (interact-reaches (tp .cleared) x (tp .snapshot) p (pass-reaches p₀ c (tp .cleared) rp takes-p) answers-p)
+    (clears c (h .time) (h .screen-rect) (h .rest) (h .ends) (h .gives-time) (h .gives-rect) (h .feed) p₀ (tp .cleared) p x (tp .snapshot) rp (h .ends-p) takes-p answers-p)
+    (clears c (h .time) (h .screen-rect) (h .rest) (h .ends) (h .gives-time) (h .gives-rect) (h .feed) q₀ (tq .cleared) q x (tq .snapshot) rq (h .ends-q) takes-q answers-q) f
 
 -- ---- twice the delay is no sooner than the delay
 max-duration-finite : T (finite max-duration)
@@ -209,8 +212,11 @@ fixed-within o tc b p q cs n (both-passed {i = i} {cs = ds} p' q' x y e u f) =
 fixed-within o tc b p q cs n (both-answered {cs = ds} s t p' q' x y f) = both-answered s t p' q' x y (fixed-within o tc b p' q' ds n f)
 
 -- ---- demand 3, second half
-pub clearing : Clearing
-clearing past₁ past₂ later c x p q h tp tq f =
-    let taken = passed-is (run fresh past₁) c (tp .cleared) (tp .takes-pass) in
-    clearing-within (c .options .«max_double_click_delay») past₁ past₂ later c x p q h tp tq
+pub clearing-reached : ClearingReached
+clearing-reached p₀ q₀ rp rq later c x p q h tp tq f =
+    let taken = passed-is p₀ c (tp .cleared) (tp .takes-pass) in
+    clearing-within (c .options .«max_double_click_delay») p₀ q₀ rp rq later c x p q h tp tq
     (fixed-within (c .options) (h .time) false p q later (delay-in-range (c .options) (taken .options)) f)
+
+pub clearing : Clearing
+clearing past₁ past₂ = clearing-reached (run fresh past₁) (run fresh past₂) (reach past₁) (reach past₂)

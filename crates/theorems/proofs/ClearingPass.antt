@@ -16,7 +16,7 @@ use Rattle.model.specs.Pointer.{Place, unwrap-or-default, zero-motion, add-moti
 use Rattle.model.specs.Pointer.{ClickPast, Press, no-buttons, set-down, release-button, release, press-event, press-events, clear-events, press-pass}
 use Rattle.model.specs.Touch.{TouchState, remove-touch, on-touch, new-device, touch-device, at-device, some-touch, calc-dynamic-state, update-gesture, forget-previous-if, touch-event, touch-events, end-device, end-touches, touch-pass}
 use Rattle.model.specs.Wheel.{on-phase, on-wheel-event, wheel-event, wheel-events, stopped-wheel, after-events, clear-smooth, wheel-pass}
-use Rattle.model.specs.Pass.{Panel, PassInput, Keys, Interaction, fresh, pass-events, key-event, key-events, is-empty, keys-pass, zoom-event, zoom-of, rotation-event, rotation-of, sums-of, time-or, time-of, rect-or, clock-pass, screen-pass, begin-pass}
+use Rattle.model.specs.Pass.{Panel, PassInput, Keys, Interaction, Tally, fresh, pass-events, key-event, key-events, is-empty, keys-pass, zoom-event, zoom-of, rotation-event, rotation-of, sums-of, time-or, time-of, rect-or, clock-pass, screen-pass, begin-pass}
 use Rattle.theorems.specs.Clearing.{TouchEnd, end-event, is-ended, EndsTouches, EndsAll, Rest, rest-events}
 use Rattle.model.proofs.Ids.{eqb-no, eqb-yes, less, equal, more, order, above-down}
 use Rattle.model.specs.Touch.{device-id-of}
@@ -76,7 +76,7 @@ pub record Undecided : Type 0 where
   pub past : ClickPast
   pub started-decidedly-dragging : Bool
   pub touch-states : List TouchState
-  pub tally : ℕ
+  pub tally : Tally
 
 unfoldable pub cleared-wheel : PassInput → Float → Rest → WheelState
 cleared-wheel c tc r = after-events tc (c .smoothing-factor) (stopped-wheel tc (r .wheel-source))

@@ -1,19 +1,17 @@
 -- The example meets what Clearing supposes: evaluated. Assumes nothing.
-use Prim.Native.Nat.{ℕ, _+_}
 use mathlib.Core.Path.{_≡_, refl, sym, ap, subst}
-use mathlib.Core.Bool.{Bool, true, false, _&&_}
+use mathlib.Core.Bool.{Bool, true, false}
 use mathlib.Core.Option.{Option, none, some}
 use mathlib.Core.List.{List, [], _∷_, _++_, map}
-use lib.Dec.{T, leb}
+use lib.Dec.{T}
 use lib.Ieee.{binary64, ofBits}
 use Rattle.emath.specs.Vec.{vec-zero}
 use Rattle.data.specs.Modifiers.{no-modifiers}
 use Rattle.model.specs.Types.{Point, Unknown, no-force}
-use Rattle.model.specs.Pass.{Panel, PassInput, fresh, pass-events, pass, pass-by, pass-refusal, begin-pass}
-use Rattle.model.specs.Interact.{InteractInput, InteractionSnapshot, interact, interact-seen, interact-by, input-refusal, tallied, seen, snapshot, interaction-after, with-interaction, one-if, is-some}
+use Rattle.model.specs.Pass.{Panel, PassInput, fresh, pass-events, pass, pass-by, pass-refusal, begin-pass, Tally}
+use Rattle.model.specs.Interact.{InteractInput, InteractionSnapshot, interact, interact-seen, interact-by, input-refusal, tally-after, tally-refusal, tallied, tallied-by, seen, snapshot, interaction-after, with-interaction}
 use Rattle.model.specs.Questions.{ask, settled, dragged, widget, tally, count}
 use Rattle.model.specs.Calls.{Call, passes, interacts, passed, answered, of-pass, of-interact, call, run}
-use Rattle.data.specs.Limits.{max-tally}
 use Rattle.theorems.specs.Clearing.{TouchEnd, end-event, is-ended, EndsAll, Rest, rest-events, Clears, FirstIsPress, button-event, first-button, button-came, is-refused, twice, Fair, done, both-refused, both-passed, both-answered}
 use Rattle.theorems.specs.Example.{Example, two-seconds, hundred, zero32, corner, screen, pass-at, on-widget, on-nothing, drag-without-end, clearing-pass, press-pass, malformed-pass, release-pass, later}
 use Rattle.theorems.proofs.Opened.{opened}
@@ -27,11 +25,14 @@ abbrev answer : Panel → InteractInput → InteractionSnapshot
 answer p x = snapshot (seen p) x (p .interaction)
 
 abbrev then : Panel → InteractInput → Panel
-then p x = with-interaction p (interaction-after (seen p) x (p .interaction)) (p .tally + one-if (answer p x .drag-started))
+then p x = with-interaction p (interaction-after (seen p) x (p .interaction)) (tally-after (answer p x) (p .tally))
 
-interact-is-answered : (p : Panel) (x : InteractInput) → input-refusal x ≡ none → (is-some (answer p x .drag-started) && leb max-tally (p .tally)) ≡ false → call p (interacts x) ≡ answered (answer p x) (then p x)
-unfolding call of-interact interact interact-seen interact-by tallied
+interact-is-answered : (p : Panel) (x : InteractInput) → input-refusal x ≡ none → tally-refusal (answer p x) (p .tally) ≡ none → call p (interacts x) ≡ answered (answer p x) (then p x)
+unfolding call of-interact interact interact-seen interact-by tallied tallied-by
 interact-is-answered p x e f = rw (e, f)
+
+abbrev NotFull : Panel → InteractInput → Type 0
+NotFull p x = tally-refusal (answer p x) (p .tally) ≡ none
 
 -- ---- the example
 unfoldable pub example : Type 1
@@ -60,10 +61,6 @@ taken-p = refl
 taken-q : pass-refusal fresh clearing-pass ≡ none
 unfolding opened example
 taken-q = refl
-
-not-full : (b : Bool) (n : ℕ) → leb max-tally n ≡ false → (b && leb max-tally n) ≡ false
-not-full true n e = e
-not-full false n e = refl
 
 nothing-refused : input-refusal on-nothing ≡ none
 unfolding opened example
@@ -162,8 +159,7 @@ malformed-q : T (is-refused (call q₄ (passes malformed-pass)))
 unfolding opened example states
 malformed-q = tt
 
-tallies : (leb max-tally (p₁ .tally) ≡ false) × (leb max-tally (q₁ .tally) ≡ false) × (leb max-tally (p₃ .tally) ≡ false) × (leb max-tally (q₃ .tally) ≡ false) × (leb max-tally (p₅ .tally) ≡ false)
-    × (leb max-tally (q₅ .tally) ≡ false)
+tallies : NotFull p₁ on-nothing × NotFull q₁ on-nothing × NotFull p₃ on-widget × NotFull q₃ on-widget × NotFull p₅ on-widget × NotFull q₅ on-widget
 unfolding opened example states
 tallies = (refl, refl, refl, refl, refl, refl)
 
@@ -171,10 +167,6 @@ tallies = (refl, refl, refl, refl, refl, refl)
 waits : FirstIsPress (twice (clearing-pass .options .«max_double_click_delay»)) (ofBits binary64 two-seconds) (p₃ .clock .time) (first-button (pass-events press-pass))
 unfolding opened example states first-button button-event
 waits = tt
-
--- an interact whose tally is not full
-answers : (p : Panel) (x : InteractInput) → input-refusal x ≡ none → leb max-tally (p .tally) ≡ false → call p (interacts x) ≡ answered (answer p x) (then p x)
-answers p x e f = interact-is-answered p x e (not-full (is-some (answer p x .drag-started)) (p .tally) f)
 
 press-first : first-button (pass-events press-pass) ≡ some true
 unfolding opened example first-button button-event
@@ -187,11 +179,11 @@ FairFrom b p q cs = Fair (λ o. o ≡ clearing-pass .options) (twice (clearing-p
 fair-after : FairFrom true p₃ q₃ (interacts on-widget ∷ passes malformed-pass ∷ passes release-pass ∷ interacts on-widget ∷ [])
 unfolding example p₃ q₃ p₄ q₄ p₅ q₅
 fair-after =
-    both-answered (answer p₃ on-widget) (answer q₃ on-widget) p₄ q₄ (answers p₃ on-widget widget-not-refused (tallies .2)) (answers q₃ on-widget widget-not-refused (tallies .3))
+    both-answered (answer p₃ on-widget) (answer q₃ on-widget) p₄ q₄ (interact-is-answered p₃ on-widget widget-not-refused (tallies .2)) (interact-is-answered q₃ on-widget widget-not-refused (tallies .3))
     (both-refused malformed-p malformed-q
     (both-passed p₅ q₅ (pass-is-taken p₄ release-pass release-p) (pass-is-taken q₄ release-pass release-q) refl tt
-    (both-answered (answer p₅ on-widget) (answer q₅ on-widget) (then p₅ on-widget) (then q₅ on-widget) (answers p₅ on-widget widget-not-refused (tallies .4))
-    (answers q₅ on-widget widget-not-refused (tallies .5)) done)))
+    (both-answered (answer p₅ on-widget) (answer q₅ on-widget) (then p₅ on-widget) (then q₅ on-widget) (interact-is-answered p₅ on-widget widget-not-refused (tallies .4))
+    (interact-is-answered q₅ on-widget widget-not-refused (tallies .5)) done)))
 
 fair-later : FairFrom false p₂ q₂ later
 unfolding later p₃ q₃
@@ -207,7 +199,7 @@ dragged-q : ask (settled dragged) fresh ≡ widget none
 unfolding opened
 dragged-q = refl
 
-asked-tally : (p : Panel) (n : ℕ) → p .tally ≡ n → ask tally p ≡ count n
+asked-tally : (p : Panel) (n : Tally) → p .tally ≡ n → ask tally p ≡ count n
 unfolding ask
 asked-tally p n e = ap count e
 
@@ -218,8 +210,8 @@ example-meets =
       p = p₂;
       q = q₂;
       clears = clears-both;
-      takes-p = record { cleared = p₁; takes-pass = pass-is-taken p₀ clearing-pass taken-p; snapshot = answer p₁ on-nothing; takes-interact = answers p₁ on-nothing nothing-refused (tallies .0) };
-      takes-q = record { cleared = q₁; takes-pass = pass-is-taken fresh clearing-pass taken-q; snapshot = answer q₁ on-nothing; takes-interact = answers q₁ on-nothing nothing-refused (tallies .1) };
+      takes-p = record { cleared = p₁; takes-pass = pass-is-taken p₀ clearing-pass taken-p; snapshot = answer p₁ on-nothing; takes-interact = interact-is-answered p₁ on-nothing nothing-refused (tallies .0) };
+      takes-q = record { cleared = q₁; takes-pass = pass-is-taken fresh clearing-pass taken-q; snapshot = answer q₁ on-nothing; takes-interact = interact-is-answered q₁ on-nothing nothing-refused (tallies .1) };
       fair = fair-later;
       p-drags = dragged-p;
       q-drags-none = dragged-q;

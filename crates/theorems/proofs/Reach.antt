@@ -22,7 +22,7 @@ use Rattle.theorems.proofs.Pointer.{PointerView, a-move, a-press, a-rel
 use Rattle.theorems.proofs.Times.{time-in-range, +0-time-ok, not-after-later}
 use Rattle.model.proofs.InOrder.{none-in-order}
 use Rattle.theorems.proofs.TouchLimits.{touch-pass-in-order}
-use Rattle.theorems.proofs.Taken.{Taken, Answered, CallView, pass-refused, pass-taken, interact-refused, interact-taken, call-view}
+use Rattle.theorems.proofs.Taken.{Taken, Answered, CallView, pass-refused, pass-taken, interact-refused, interact-full, interact-taken, call-view}
 
 -- ---- clicks
 remembered : (c : Bool) (now : Float) (v : Pos2) (p : ClickPast) → NotAfter now now → NotAfter now (p .last-click-time) → NotAfter now (remember-click c now v p .last-click-time)
@@ -78,6 +78,7 @@ call-reaches p c r = go (call-view p c)
     go (pass-refused i e k) = r
     go (pass-taken i q t) = pass-reaches p i q r t
     go (interact-refused x e k) = r
+    go (interact-full x e k l) = r
     go (interact-taken x s q t) = interact-reaches p x s q r t
 
 run-reaches : (p : Panel) (cs : List Call) → Reached p → Reached (run p cs)
@@ -101,6 +102,7 @@ call-later p c r = go (call-view p c)
     go (pass-refused i e k) = same
     go (pass-taken i q t) = subst (λ (z : Panel). T (le (p .clock .time) (z .clock .time))) (sym (t .is)) (pass-later p i q r t)
     go (interact-refused x e k) = same
+    go (interact-full x e k l) = same
     go (interact-taken x s q t) = subst (λ (z : Panel). T (le (p .clock .time) (z .clock .time))) (sym (t .is)) same
 
 run-later : (p : Panel) (cs : List Call) → Reached p → T (le (p .clock .time) (run p cs .clock .time))

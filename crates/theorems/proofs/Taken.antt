@@ -1,5 +1,4 @@
 -- What a taken pass and a taken interact are, and what both-refused calls answer. Assumes nothing.
-use Prim.Native.Nat.{ℕ, _+_}
 use mathlib.Core.Path.{_≡_, refl, sym, ap, _∙_}
 use mathlib.Core.Bool.{Bool, true, false, not, _&&_, cond}
 use mathlib.Core.Option.{Option, none, some}
@@ -10,9 +9,9 @@ use Rattle.data.specs.Limits.{max-events, max-tally, time-ok, unit-interval-ok,
 use Rattle.feed.specs.Decode.{items}
 use Rattle.model.specs.Types.{PassRefusal, OutsideDomain, TimeBelow, InteractRefusal}
 use Rattle.model.specs.Types.interaction.{TallyFull}
-use Rattle.model.specs.Pass.{Panel, PassInput, Interaction, Passed, pass, pass-by, pass-refusal, own-refusal, own-numbers-ok, rect-given-ok, or-else, survey, begin-pass, time-of}
+use Rattle.model.specs.Pass.{Panel, PassInput, Interaction, Tally, Passed, pass, pass-by, pass-refusal, own-refusal, own-numbers-ok, rect-given-ok, or-else, survey, begin-pass, time-of}
 use Rattle.model.specs.Pass as P
-use Rattle.model.specs.Interact.{InteractInput, InteractionSnapshot, Interacted, seen, interact, interact-seen, interact-by, input-refusal, tallied, snapshot, interaction-after, with-interaction, one-if, is-some}
+use Rattle.model.specs.Interact.{InteractInput, InteractionSnapshot, Interacted, seen, interact, interact-seen, interact-by, input-refusal, tally-after, tally-refusal, tallied, tallied-by, snapshot, interaction-after, with-interaction, is-some}
 use Rattle.model.specs.Interact as I
 use Rattle.model.specs.Calls.{Call, passes, interacts, Outcome, refused-pass, refused-interact, passed, answered, of-pass, of-interact, call}
 use Rattle.model.proofs.Ids.{impossible}
@@ -64,10 +63,10 @@ passed-is p i q h = taken-is p i q (go (pass p i) h)
 -- ---- a taken interact writes the interaction and the tally
 pub record Answered (p : Panel) (x : InteractInput) (s : InteractionSnapshot) (q : Panel) : Type 0 where
   pub answer : s ≡ snapshot (seen p) x (p .interaction)
-  pub is : q ≡ with-interaction p (interaction-after (seen p) x (p .interaction)) (p .tally + one-if (s .drag-started))
+  pub is : q ≡ with-interaction p (interaction-after (seen p) x (p .interaction)) (tally-after s (p .tally))
 
 interacted-is : (p : Panel) (x : InteractInput) (s : InteractionSnapshot) (q : Panel) → interact p x ≡ I.answered s q → Answered p x s q
-unfolding interact interact-seen interact-by tallied
+unfolding interact interact-seen interact-by tallied tallied-by
 interacted-is p x s q h = go (input-refusal x) h
   where
     t : InteractionSnapshot
@@ -76,16 +75,16 @@ interacted-is p x s q h = go (input-refusal x) h
     d : Interaction
     d = interaction-after (seen p) x (p .interaction)
 
-    full : (b : Bool) → cond b (I.refused TallyFull) (I.answered t (with-interaction p d (p .tally + one-if (t .drag-started)))) ≡ I.answered s q → Answered p x s q
-    full true k = impossible (cc)
-    full false k =
+    full : (r : Option InteractRefusal) → tallied-by r p t d ≡ I.answered s q → Answered p x s q
+    full (some r) k = impossible (cc)
+    full none k =
         let a : s ≡ t = cc in
-        let b : q ≡ with-interaction p d (p .tally + one-if (t .drag-started)) = cc in
-        record { answer = a; is = b ∙ ap (λ (z : InteractionSnapshot). with-interaction p d (p .tally + one-if (z .drag-started))) (sym a) }
+        let b : q ≡ with-interaction p d (tally-after t (p .tally)) = cc in
+        record { answer = a; is = b ∙ ap (λ (z : InteractionSnapshot). with-interaction p d (tally-after z (p .tally))) (sym a) }
 
     go : (r : Option InteractRefusal) → interact-by r (seen p) p x ≡ I.answered s q → Answered p x s q
     go (some r) k = impossible (cc)
-    go none k = full (is-some (t .drag-started) && leb max-tally (p .tally)) k
+    go none k = full (tally-refusal t (p .tally)) k
 
 pub answered-is : (p : Panel) (x : InteractInput) (s : InteractionSnapshot) (q : Panel) → call p (interacts x) ≡ answered s q → Answered p x s q
 unfolding call of-interact
@@ -95,16 +94,26 @@ answered-is p x s q h = interacted-is p x s q (go (interact p x) h)
     go (I.refused r) k = impossible (cc)
     go (I.answered t y) k = cc
 
+-- the tally refuses with 10 alone
+pub tally-refuses : (s : InteractionSnapshot) (n : Tally) (r : InteractRefusal) → tally-refusal s n ≡ some r → r ≡ TallyFull
+unfolding tally-refusal
+tally-refuses s n r e = go (is-some (s .drag-started) && leb max-tally n) e
+  where
+    go : (b : Bool) → cond b (some TallyFull) none ≡ some r → r ≡ TallyFull
+    go true k = cc
+    go false k = impossible (cc)
+
 -- ---- a call
--- its refusal: a pass's is what the panel makes of it, an interact's is decided by its input, or is 10
+-- its refusal: a pass's is what the panel makes of it, an interact's is decided by its input, or else by the tally
 pub data CallView (p : Panel) : Call → Outcome → Type 0 where
   pass-refused : (i : PassInput) (r : PassRefusal) → pass-refusal p i ≡ some r → CallView p (passes i) (refused-pass r)
   pass-taken : (i : PassInput) (q : Panel) → Taken p i q → CallView p (passes i) (passed q)
-  interact-refused : (x : InteractInput) (r : InteractRefusal) → or-else (input-refusal x) (some TallyFull) ≡ some r → CallView p (interacts x) (refused-interact r)
+  interact-refused : (x : InteractInput) (r : InteractRefusal) → input-refusal x ≡ some r → CallView p (interacts x) (refused-interact r)
+  interact-full : (x : InteractInput) (r : InteractRefusal) → input-refusal x ≡ none → tally-refusal (snapshot (seen p) x (p .interaction)) (p .tally) ≡ some r → CallView p (interacts x) (refused-interact r)
   interact-taken : (x : InteractInput) (s : InteractionSnapshot) (q : Panel) → Answered p x s q → CallView p (interacts x) (answered s q)
 
 pub call-view : (p : Panel) (c : Call) → CallView p c (call p c)
-unfolding call of-pass of-interact pass pass-by interact interact-seen interact-by tallied or-else
+unfolding call of-pass of-interact pass pass-by interact interact-seen interact-by tallied tallied-by
 call-view p (passes i) = go (pass p i) refl
   where
     refusal : (o : Option PassRefusal) (r : PassRefusal) → pass-by o p i ≡ P.refused r → o ≡ some r
@@ -116,16 +125,17 @@ call-view p (passes i) = go (pass p i) refl
     go (P.taken q) k = pass-taken i q (taken-is p i q k)
 call-view p (interacts x) = go (interact p x) refl
   where
-    full : (b : Bool) (r : InteractRefusal) (s : InteractionSnapshot) (q : Panel) → cond b (I.refused TallyFull) (I.answered s q) ≡ I.refused r → some TallyFull ≡ some r
-    full true r s q k = cc
-    full false r s q k = impossible (cc)
+    t : InteractionSnapshot
+    t = snapshot (seen p) x (p .interaction)
 
-    refusal : (o : Option InteractRefusal) (r : InteractRefusal) → interact-by o (seen p) p x ≡ I.refused r → or-else o (some TallyFull) ≡ some r
-    refusal none r k =
-        let t = snapshot (seen p) x (p .interaction) in
-        full (is-some (t .drag-started) && leb max-tally (p .tally)) r t (with-interaction p (interaction-after (seen p) x (p .interaction)) (p .tally + one-if (t .drag-started))) k
-    refusal (some s) r k = cc
+    full : (o : Option InteractRefusal) (r : InteractRefusal) → tallied-by o p t (interaction-after (seen p) x (p .interaction)) ≡ I.refused r → o ≡ some r
+    full none r k = impossible (cc)
+    full (some s) r k = cc
+
+    refusal : (o : Option InteractRefusal) (r : InteractRefusal) → input-refusal x ≡ o → interact-by o (seen p) p x ≡ I.refused r → CallView p (interacts x) (refused-interact r)
+    refusal none r e k = interact-full x r e (full (tally-refusal t (p .tally)) r k)
+    refusal (some s) r e k = interact-refused x r (cc)
 
     go : (r : Interacted) → interact p x ≡ r → CallView p (interacts x) (of-interact r)
-    go (I.refused r) k = interact-refused x r (refusal (input-refusal x) r k)
+    go (I.refused r) k = refusal (input-refusal x) r refl k
     go (I.answered s q) k = interact-taken x s q (interacted-is p x s q k)

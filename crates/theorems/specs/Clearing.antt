@@ -15,6 +15,7 @@ use Rattle.model.specs.Pass.{Panel, PassInput, fresh, pass-events, or-else}
 use Rattle.model.specs.Interact.{InteractInput, InteractionSnapshot}
 use Rattle.model.specs.Questions.{Question, settled, time-since-last-click, has-touch-screen, tally, ask}
 use Rattle.model.specs.Calls.{Call, passes, interacts, Outcome, refused-pass, refused-interact, passed, answered, call, after, run}
+use Rattle.theorems.specs.Reach.{Reached}
 
 -- ---- the clearing pass
 
@@ -84,12 +85,16 @@ pub record Clears (c : PassInput) (p q : Panel) : Type 0 where
   pub ends-p : EndsAll ends (p .touch-states)
   pub ends-q : EndsAll ends (q .touch-states)
 
--- "two panels, each with any such list as its past, take the same clearing pass and then the same interact": one of them, and the panel p it is then
-pub record Takes (past : List Call) (c : PassInput) (x : InteractInput) (p : Panel) : Type 0 where
+-- a panel takes the clearing pass and then the interact, and is then p
+pub record TakesFrom (before : Panel) (c : PassInput) (x : InteractInput) (p : Panel) : Type 0 where
   pub cleared : Panel
-  pub takes-pass : call (run fresh past) (passes c) ≡ passed cleared
+  pub takes-pass : call before (passes c) ≡ passed cleared
   pub snapshot : InteractionSnapshot
   pub takes-interact : call cleared (interacts x) ≡ answered snapshot p
+
+-- "two panels, each with any such list as its past, take the same clearing pass and then the same interact": one of them
+abbrev pub Takes : List Call → PassInput → InteractInput → Panel → Type 0
+Takes past c x p = TakesFrom (run fresh past) c x p
 
 -- ---- the later list
 
@@ -214,13 +219,21 @@ Alike came clicked p q (c ∷ cs) =
 abbrev pub twice : Float → Float
 twice delay = add binary64 delay delay
 
+-- of two panels, wherever they come from
+abbrev pub ClearingFrom : Panel → Panel → Type 0
+ClearingFrom before₁ before₂ =
+    (later : List Call) (c : PassInput) (x : InteractInput) (p q : Panel) (clears : Clears c before₁ before₂)
+    → TakesFrom before₁ c x p → TakesFrom before₂ c x q
+    → Fair (λ o. o ≡ c .options) (twice (c .options .«max_double_click_delay»)) (clears .time) false p q later
+    → Alike false false p q later
+
+-- the core: of any two panels that have what every panel reached has
+abbrev pub ClearingReached : Type 0
+ClearingReached = (before₁ before₂ : Panel) → Reached before₁ → Reached before₂ → ClearingFrom before₁ before₂
+
 -- Demand 3: "let two panels, each with any such list as its past, take the same clearing pass and then the same interact, and then get any one list
 -- of passes and interacts, the same for both, each call taken by both or refused by both, under options fixed from the clearing pass on. If the first
 -- later button event, where there is one, is a press no sooner than twice the double-click delay, then from the next taken pass on all their later
 -- answers are equal"
 abbrev pub Clearing : Type 0
-Clearing =
-    (past₁ past₂ later : List Call) (c : PassInput) (x : InteractInput) (p q : Panel) (clears : Clears c (run fresh past₁) (run fresh past₂))
-    → Takes past₁ c x p → Takes past₂ c x q
-    → Fair (λ o. o ≡ c .options) (twice (c .options .«max_double_click_delay»)) (clears .time) false p q later
-    → Alike false false p q later
+Clearing = (past₁ past₂ : List Call) → ClearingFrom (run fresh past₁) (run fresh past₂)
