@@ -9,7 +9,7 @@ use lib.Ieee.Scale.{finite}
 use Rattle.ieee_narrow.specs.Narrow.{narrow}
 use Rattle.ieee_laws.proofs.Order.{le-trans, le-refl}
 use Rattle.model.specs.Types.{InputOptions, ButtonsDown, Primary, Event}
-use Rattle.model.specs.Pointer.{Held, ClickPast, Press, any, is-click, any-down, button-down, press-too-long, could-any-button-be-click, is-decidedly-dragging, is-long-press, clear-events, press-events, press-pass}
+use Rattle.model.specs.Pointer.{Held, ClickPast, Press, any, is-click, no-buttons, button-down, press-too-long, could-any-button-be-click, is-decidedly-dragging, is-long-press, clear-events, press-events, press-pass}
 use Rattle.model.specs.Touch.{TouchState, touch-pass, multi-touch, any-touches, find-device, info-at, any-touches-at}
 use Rattle.model.specs.Pass.{Panel, PassInput, Interaction, Tally, begin-pass, clock-pass, decidedly-dragging, pass-events, time-of}
 use Rattle.model.specs.Interact.{InteractInput, InteractionSnapshot, seen, snapshot, interaction-after, with-interaction, tally-after, long-press, could-click, has-pos}
@@ -184,14 +184,6 @@ agreeing-pass i D tc pr k p q p' q' g tp tq delay later opens =
         }
 
 -- ---- what they show
-primary-up : (d : ButtonsDown) → any-down d ≡ false → button-down Primary d ≡ false
-unfolding any-down button-down
-primary-up d e = go (d .primary) e
-  where
-    go : (b : Bool) → (b || d .secondary || d .middle || d .extra1 || d .extra2) ≡ false → b ≡ false
-    go true k = k
-    go false k = refl
-
 not-down : (st a b x : Bool) → (st && (not a && (false && x))) ≡ (st && (not b && (false && x)))
 not-down true true true x = refl
 not-down true true false x = refl
@@ -201,9 +193,9 @@ not-down false a b x = refl
 
 long-press-same : (D tc now : Float) (o : InputOptions) (time : Float) (h : Held) (a b : ClickPast) (pr fl st : Bool) → Trace D tc now h a b pr fl
     → is-long-press o time (pair h a) st ≡ is-long-press o time (pair h b) st
-unfolding is-long-press
+unfolding is-long-press button-down no-buttons
 long-press-same D tc now o time h a b pr fl st (unpressed q la lb) =
-    rw (primary-up (h .down) (q .none-down)) (not-down st (a .has-moved-too-much-for-a-click) (b .has-moved-too-much-for-a-click) (press-too-long o time (h .press-start-time)))
+    rw (q .none-down) (not-down st (a .has-moved-too-much-for-a-click) (b .has-moved-too-much-for-a-click) (press-too-long o time (h .press-start-time)))
 long-press-same D tc now o time h a b pr fl st (pressed t times none-yet m la lb) = ap (λ (z : Bool). st && (not z && (button-down Primary (h .down) && press-too-long o time (h .press-start-time)))) m
 long-press-same D tc now o time h a b pr fl st (clicked m s l x y) = ap (λ (z : Bool). st && (not z && (button-down Primary (h .down) && press-too-long o time (h .press-start-time)))) m
 long-press-same D tc now o time h a b pr fl st (equal e) = ap (λ (z : ClickPast). is-long-press o time (pair h z) st) e

@@ -269,7 +269,7 @@ pressed-undecided o time h m e = rw e (go (any-down (h .down) || any is-release 
     go false b c = refl
 
 unpressed-undecided : (o : InputOptions) (time : Float) (h : Held) (m : Bool) → NoButton h → is-decidedly-dragging o time h m ≡ false
-unfolding is-decidedly-dragging
+unfolding is-decidedly-dragging any-down no-buttons
 unpressed-undecided o time h m q = rw (q .none-down, q .no-release)
 
 undecided : (D tc now : Float) (o : InputOptions) (es : List Event) (s : Press) (b : ClickPast) (c m : Bool) (f : Option Bool) → first-button es ≡ f → FirstIsPress D tc now f

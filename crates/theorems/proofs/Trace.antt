@@ -9,7 +9,7 @@ use Rattle.ieee_laws.proofs.Order.{le-trans, le-not-lt}
 use Rattle.ieee_laws.proofs.Differences.{sub-spans}
 use Rattle.model.specs.Numbers.{neg-infinity}
 use Rattle.model.specs.Types.{Pos2, Modifiers, InputOptions, PointerButton, Event, PointerMoved, Button, no-click, some-click, PointerEvent, Moved, Pressed, Released}
-use Rattle.model.specs.Pointer.{Held, ClickPast, Press, any, is-release, is-click, any-down, could-any-button-be-click, is-decidedly-dragging, count-of, click-count, too-far}
+use Rattle.model.specs.Pointer.{Held, ClickPast, Press, any, is-release, is-click, any-down, no-buttons, could-any-button-be-click, is-decidedly-dragging, count-of, click-count, too-far}
 use Rattle.model.specs.Pointer.{add-event, press-button, release-button, with-moved, remember-click, click-of, release, press-event, press-events, clear-events}
 use Rattle.model.specs.Pass.{or-else}
 use Rattle.theorems.specs.Reach.{NotAfter, never, by}
@@ -50,7 +50,7 @@ not-sooner delay D x h k = false-of (lt x delay) (le-not-lt delay x (le-trans de
 
 -- no button is down, and the pass has no release and no click
 pub record NoButton (h : Held) : Type 0 where
-  pub none-down : any-down (h .down) ≡ false
+  pub none-down : h .down ≡ no-buttons
   pub no-release : any is-release (h .pointer-events) ≡ false
   pub no-click : any is-click (h .pointer-events) ≡ false
 
@@ -292,7 +292,7 @@ module _ (D tc now : Float) (o : InputOptions) (delay : T (le (o .«max_double_c
 module _ (D tc now : Float) (h : Held) (a b : ClickPast) where
   pub could-same : (o : InputOptions) (time : Float) (pr c : Bool) → Trace D tc now h a b pr c
       → could-any-button-be-click o time h (a .has-moved-too-much-for-a-click) ≡ could-any-button-be-click o time h (b .has-moved-too-much-for-a-click)
-  unfolding could-any-button-be-click
+  unfolding could-any-button-be-click any-down no-buttons
   could-same o time pr c (unpressed q la lb) = rw (q .none-down, q .no-release)
   could-same o time pr c (pressed t times none-yet m la lb) = rw m
   could-same o time pr c (clicked m s l x y) = rw m
