@@ -8,13 +8,14 @@ use lib.Ieee.{Float, binary32, binary64, sub, le}
 use lib.Ieee.Scale.{finite}
 use Rattle.ieee_narrow.specs.Narrow.{narrow}
 use Rattle.ieee_laws.proofs.Order.{le-trans, le-refl}
-use Rattle.model.specs.Types.{InputOptions, ButtonsDown, Primary, Event}
-use Rattle.model.specs.Pointer.{Held, ClickPast, Press, any, is-click, no-buttons, button-down, press-too-long, could-any-button-be-click, is-decidedly-dragging, is-long-press, clear-events, press-events, press-pass}
+use Rattle.model.specs.Types.{InputOptions, Primary, Event}
+use Rattle.model.specs.Pointer.{Held, ClickPast, Press, any, is-click, any-down, no-buttons, button-down, press-too-long, could-any-button-be-click, is-decidedly-dragging, is-long-press, clear-events, press-events, press-pass}
 use Rattle.model.specs.Touch.{TouchState, touch-pass, multi-touch, any-touches, find-device, info-at, any-touches-at}
 use Rattle.model.specs.Pass.{Panel, PassInput, Interaction, Tally, begin-pass, clock-pass, decidedly-dragging, pass-events, time-of}
 use Rattle.model.specs.Interact.{InteractInput, InteractionSnapshot, seen, snapshot, interaction-after, with-interaction, tally-after, long-press, could-click, has-pos}
+use Rattle.model.specs.Calls.{passed}
 use Rattle.model.specs.Questions.{Question, settled, time-since-last-click, has-touch-screen, tally, shown, reply, ask}
-use Rattle.theorems.specs.Clearing.{FirstIsPress, Unless, first-button, button-came, may-differ}
+use Rattle.theorems.specs.Clearing.{FirstIsPress, Unless, first-button, button-came, Since, then-since, may-differ}
 use Rattle.model.proofs.InOrder.{Ascend, touch-pass-ascending}
 use Rattle.theorems.proofs.Devices.{live, touch-pass-live, info-live, any-touches-at-live, multi-touch-live, any-touches-live}
 use Rattle.theorems.proofs.Times.{time-in-range}
@@ -38,8 +39,8 @@ but-for p b vs n =
       tally = n;
     }
 
--- The relation, for later delays of at most D. `pr` says whether a button event came since the clearing pass, `k` whether a click came from the next taken pass on.
-pub record Agreeing (D tc : Float) (pr k : Bool) (p q : Panel) : Type 0 where
+-- The relation, for later delays of at most D. `pr` says whether a button event came since the clearing pass, `k` what came from the next taken pass on.
+pub record Agreeing (D tc : Float) (pr : Bool) (k : Since) (p q : Panel) : Type 0 where
   pub past : ClickPast
   pub devices : List TouchState
   pub count : Tally
@@ -49,7 +50,7 @@ pub record Agreeing (D tc : Float) (pr k : Bool) (p q : Panel) : Type 0 where
   pub ascend-q : Ascend devices
   pub flag : Bool
   pub trace : Trace D tc (p .clock .time) (p .press .held) (p .press .past) past pr flag
-  pub clicks : T k → T flag
+  pub clicks : T (k .clicked) → T flag
   pub fin-tc : T (finite tc)
   pub timed : T (finite (p .clock .time))
   pub from : T (le tc (p .clock .time))
@@ -123,15 +124,15 @@ begin-but-for p i b vs n D tc pr c t e =
       tally = n;
     }
 
-pub agreeing-pass : (i : PassInput) (D tc : Float) (pr k : Bool) (p q p' q' : Panel) → Agreeing D tc pr k p q → Taken p i p' → Taken q i q' → T (le (i .options .«max_double_click_delay») D)
+pub agreeing-pass : (i : PassInput) (D tc : Float) (pr : Bool) (k : Since) (p q p' q' : Panel) → Agreeing D tc pr k p q → Taken p i p' → Taken q i q' → T (le (i .options .«max_double_click_delay») D)
     → T (le (p .clock .time) (time-of i (p .clock .time))) → Unless pr (FirstIsPress D tc (p' .clock .time) (first-button (pass-events i)))
-    → Agreeing D tc (button-came pr (first-button (pass-events i))) (any is-click (p' .press .held .pointer-events) || k) p' q'
+    → Agreeing D tc (button-came pr (first-button (pass-events i))) (then-since (passed p') k) p' q'
 unfolding but-for begin-pass clock-pass decidedly-dragging
 agreeing-pass i D tc pr k p q p' q' g tp tq delay later opens =
-    let core : Unless pr (FirstIsPress D tc now (first-button es)) → Agreeing D tc (button-came pr (first-button es)) (any is-click (m .press .held .pointer-events) || k) m q' =
+    let core : Unless pr (FirstIsPress D tc now (first-button es)) → Agreeing D tc (button-came pr (first-button es)) (then-since (passed m) k) m q' =
     λ u. built (press-together D tc (p .clock .time) now o es (p .press .held) (p .press .past) (g .past) pr (g .flag) delay (g .fin-tc) fin-now (g .from) later u (g .trace)) in
     subst
-    (λ (z : Panel). Unless pr (FirstIsPress D tc (z .clock .time) (first-button es)) → Agreeing D tc (button-came pr (first-button es)) (any is-click (z .press .held .pointer-events) || k) z q')
+    (λ (z : Panel). Unless pr (FirstIsPress D tc (z .clock .time) (first-button es)) → Agreeing D tc (button-came pr (first-button es)) (then-since (passed z) k) z q')
     (sym (tp .is)) core opens
   where
     o : InputOptions
@@ -161,11 +162,11 @@ agreeing-pass i D tc pr k p q p' q' g tp tq delay later opens =
         ∙ begin-but-for p i (g .past) (g .devices) (g .count) D tc (button-came pr (first-button es)) (g .flag) t
         (decidedly-same D tc (p .clock .time) (p .press .held) (p .press .past) (g .past) (p .screen .options) (p .clock .pointer-time) pr (g .flag) (g .trace))
 
-    flags : (t : Together D tc now (button-came pr (first-button es)) (g .flag) x y) (c' : Bool) → (T c' → T (t .flag)) → T (c' || k) → T (t .flag)
+    flags : (t : Together D tc now (button-came pr (first-button es)) (g .flag) x y) (c' : Bool) → (T c' → T (t .flag)) → T (c' || k .clicked) → T (t .flag)
     flags t true v z = v tt
     flags t false v z = t .grows (g .clicks z)
 
-    built : Together D tc now (button-came pr (first-button es)) (g .flag) x y → Agreeing D tc (button-came pr (first-button es)) (any is-click (m .press .held .pointer-events) || k) m q'
+    built : Together D tc now (button-came pr (first-button es)) (g .flag) x y → Agreeing D tc (button-came pr (first-button es)) (then-since (passed m) k) m q'
     built t =
         record {
           past = y .past;
@@ -200,7 +201,7 @@ long-press-same D tc now o time h a b pr fl st (pressed t times none-yet m la lb
 long-press-same D tc now o time h a b pr fl st (clicked m s l x y) = ap (λ (z : Bool). st && (not z && (button-down Primary (h .down) && press-too-long o time (h .press-start-time)))) m
 long-press-same D tc now o time h a b pr fl st (equal e) = ap (λ (z : ClickPast). is-long-press o time (pair h z) st) e
 
-module _ (D tc : Float) (pr k : Bool) (p q : Panel) (g : Agreeing D tc pr k p q) where
+module _ (D tc : Float) (pr : Bool) (k : Since) (p q : Panel) (g : Agreeing D tc pr k p q) where
   devices-same : {A : Type 0} (f : List TouchState → A) → ((vs : List TouchState) → Ascend vs → f vs ≡ f (live vs)) → f (p .touch-states) ≡ f (g .devices)
   devices-same f h = h (p .touch-states) (g .ascend-p) ∙ ap f (g .same-live) ∙ sym (h (g .devices) (g .ascend-q))
 
@@ -270,7 +271,7 @@ module _ (D tc : Float) (pr k : Bool) (p q : Panel) (g : Agreeing D tc pr k p q)
   pub agreeing-replies : (question : Question) → T (not (may-differ k question)) → ask question p ≡ ask question q
   unfolding ask may-differ
   agreeing-replies (settled a) t = ap (reply a) shown-same
-  agreeing-replies time-since-last-click t = since-click-same (g .clicks (doubly k t))
+  agreeing-replies time-since-last-click t = since-click-same (g .clicks (doubly (k .clicked) t))
     where
       doubly : (b : Bool) → T (not (not b)) → T b
       doubly true t = tt

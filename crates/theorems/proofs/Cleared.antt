@@ -16,7 +16,8 @@ use Rattle.model.specs.Touch.{touch-pass}
 use Rattle.model.specs.Pass.{Panel, PassInput, Interaction, Tally, no-interaction, begin-pass, clock-pass, decidedly-dragging, pass-events, time-of, or-else}
 use Rattle.model.specs.Interact.{InteractInput, InteractionSnapshot, Seen, seen, Going, pointer-event, pointer-events, walked, interaction-after, forget-gone-click, abort-if, long-touch-on, long-touch-if, get, is-some, kept-if, dragged-after, new-drag, with-interaction, tally-after}
 use Rattle.theorems.specs.Reach.{NotAfter, Reached}
-use Rattle.theorems.specs.Clearing.{TouchEnd, end-event, EndsAll, Rest, rest-events, FirstIsPress, button-event, first-button, button-came}
+use Rattle.model.specs.Calls.{passed}
+use Rattle.theorems.specs.Clearing.{TouchEnd, end-event, EndsAll, Rest, rest-events, FirstIsPress, button-event, first-button, button-came, nothing-since, then-since}
 use Rattle.theorems.proofs.Pointer.{PointerView, a-move, a-press, a-release, nothing, pointer-view}
 use Rattle.model.proofs.InOrder.{Ascend, touch-pass-ascending}
 use Rattle.theorems.proofs.Devices.{live, touch-pass-live}
@@ -340,7 +341,7 @@ module _ (c : PassInput) (tc : Float) (rect : Rect) (r : Rest) (i : PassInput) (
       }
 
   begin-agreeing : Ascend (w .touch-states) → Ascend (u .touch-states) → live (w .touch-states) ≡ live (u .touch-states)
-      → Agreeing D tc (button-came false (first-button (pass-events i))) (any is-click (begin-pass (cleared-panel c tc rect r w no-interaction) i .press .held .pointer-events) || false)
+      → Agreeing D tc (button-came false (first-button (pass-events i))) (then-since (passed (begin-pass (cleared-panel c tc rect r w no-interaction) i)) nothing-since)
       (begin-pass (cleared-panel c tc rect r w no-interaction) i) (begin-pass (cleared-panel c tc rect r u no-interaction) i)
   unfolding begin-pass cleared-panel clock-pass press-pass clear-events no-held
   begin-agreeing a b e =
@@ -373,11 +374,11 @@ cleared-time c tc rect r p h = ap (λ (z : Panel). z .clock .time) (h .is) ∙ t
 
 pub cleared-pass : (c : PassInput) (tc : Float) (rect : Rect) (r : Rest) (i : PassInput) (D : Float) (p q p' q' : Panel) → T (finite tc) → Cleared c tc rect r p → Cleared c tc rect r q
     → Taken p i p' → Taken q i q' → T (le (i .options .«max_double_click_delay») D) → T (le tc (time-of i (p .clock .time))) → FirstIsPress D tc (p' .clock .time) (first-button (pass-events i))
-    → Agreeing D tc (button-came false (first-button (pass-events i))) (any is-click (p' .press .held .pointer-events) || false) p' q'
+    → Agreeing D tc (button-came false (first-button (pass-events i))) (then-since (passed p') nothing-since) p' q'
 unfolding begin-pass clock-pass
 cleared-pass c tc rect r i D p q p' q' fin-tc hp hq tp tq delay from opens =
-    subst (λ (z : Panel). Agreeing D tc (button-came false (first-button es)) (any is-click (z .press .held .pointer-events) || false) z q') (sym (is-then p p' hp tp))
-    (subst (λ (z : Panel). Agreeing D tc (button-came false (first-button es)) (any is-click (pp .press .held .pointer-events) || false) pp z) (sym (is-then q q' hq tq))
+    subst (λ (z : Panel). Agreeing D tc (button-came false (first-button es)) (then-since (passed z) nothing-since) z q') (sym (is-then p p' hp tp))
+    (subst (λ (z : Panel). Agreeing D tc (button-came false (first-button es)) (then-since (passed pp) nothing-since) pp z) (sym (is-then q q' hq tq))
     (begin-agreeing c tc rect r i (hp .own) (hq .own) D delay fin-tc (subst (λ (z : Float). T (finite (time-of i z))) (cleared-time c tc rect r p hp) (time-in-range (time-of i (p .clock .time)) (tp .in-domain) .is-finite))
     (subst (λ (z : Float). T (le tc (time-of i z))) (cleared-time c tc rect r p hp) from) (hp .last-click) (hq .last-click) (subst (λ (z : Float). FirstIsPress D tc z (first-button es)) when opens)
     (hp .ascend) (hq .ascend) (hp .none-live ∙ sym (hq .none-live))))

@@ -20,7 +20,7 @@ use Rattle.model.specs.Questions.{Question, ask}
 use Rattle.model.specs.Calls.{Call, passes, interacts, Outcome, refused-pass, refused-interact, passed, answered, call, after, run}
 use Rattle.theorems.specs.Reach.{Reached}
 use Rattle.theorems.specs.Clearing.{Rest, Clears, TakesFrom, FirstIsPress, Unless, first-button, button-came, is-refused, Fair, done, both-refused, both-passed, both-answered}
-use Rattle.theorems.specs.Clearing.{is-no-place, SameAnswer, same-pass-refusal, same-interact-refusal, both-taken, same-snapshot, Same, is-passed, has-click, When, Alike, may-differ, twice, ClearingReached, Clearing}
+use Rattle.theorems.specs.Clearing.{is-no-place, SameAnswer, same-pass-refusal, same-interact-refusal, both-taken, same-snapshot, Same, is-passed, Since, nothing-since, then-since, When, Alike, may-differ, twice, ClearingReached, Clearing}
 use Rattle.model.proofs.Ids.{impossible}
 use Rattle.theorems.proofs.Times.{InRange, in-range, time-in-range}
 use Rattle.theorems.proofs.Taken.{passed-is, answered-is, CallView, pass-refused, pass-taken, interact-refused, interact-full, interact-taken, call-view, tally-refuses}
@@ -84,17 +84,17 @@ same-refusal p q c e = go (call-view p c) (call-view q c)
     go (interact-taken z u p' t) v x y = absurd x
 
 -- ---- one call of the list
-abbrev From : Bool → Bool → Panel → Panel → List Call → Outcome → Outcome → Type 0
-From n k p q cs a b = When (is-passed a || n) (Same (has-click a || k) p q a b) × Alike (is-passed a || n) (has-click a || k) (after p a) (after q b) cs
+abbrev From : Bool → Since → Panel → Panel → List Call → Outcome → Outcome → Type 0
+From n k p q cs a b = When (is-passed a || n) (Same (then-since a k) p q a b) × Alike (is-passed a || n) (then-since a k) (after p a) (after q b) cs
 
-from : (n k : Bool) (p q : Panel) (c : Call) (cs : List Call) (a b : Outcome) → call p c ≡ a → call q c ≡ b → From n k p q cs a b → Alike n k p q (c ∷ cs)
+from : (n : Bool) (k : Since) (p q : Panel) (c : Call) (cs : List Call) (a b : Outcome) → call p c ≡ a → call q c ≡ b → From n k p q cs a b → Alike n k p q (c ∷ cs)
 from n k p q c cs a b e f h = subst (λ (z : Outcome). From n k p q cs z (call q c)) (sym e) (subst (λ (z : Outcome). From n k p q cs a z) (sym f) h)
 
-abbrev Replies : Bool → Panel → Panel → Type 0
+abbrev Replies : Since → Panel → Panel → Type 0
 Replies k p q = (question : Question) → T (not (may-differ k question)) → ask question p ≡ ask question q
 
 -- refused calls leave both panels
-refused-on : (n k : Bool) (p q : Panel) (cs : List Call) (a b : Outcome) → T (is-refused a) → T (is-refused b) → When n (SameAnswer a b × Replies k p q) → Alike n k p q cs → From n k p q cs a b
+refused-on : (n : Bool) (k : Since) (p q : Panel) (cs : List Call) (a b : Outcome) → T (is-refused a) → T (is-refused b) → When n (SameAnswer a b × Replies k p q) → Alike n k p q cs → From n k p q cs a b
 unfolding after
 refused-on n k p q cs a b x y w h = go a b x y w
   where
@@ -119,7 +119,7 @@ module _ (D tc : Float) where
   abbrev Within : InputOptions → Type 0
   Within o = T (le (o .«max_double_click_delay») D)
 
-  agree-on : (pr k : Bool) (p q : Panel) (cs : List Call) → Reached p → Agreeing D tc pr k p q → Fair Within D tc pr p q cs → Alike true k p q cs
+  agree-on : (pr : Bool) (k : Since) (p q : Panel) (cs : List Call) → Reached p → Agreeing D tc pr k p q → Fair Within D tc pr p q cs → Alike true k p q cs
   unfolding after
   agree-on pr k p q cs r g done = tt
   agree-on pr k p q cs r g (both-refused {c = c} {cs = ds} x y f) =
@@ -128,7 +128,7 @@ module _ (D tc : Float) where
   agree-on pr k p q cs r g (both-passed {i = i} {cs = ds} p' q' x y e u f) =
       let tp = passed-is p i p' x in
       let pr' = button-came pr (first-button (pass-events i)) in
-      let k' = has-click (passed p') || k in
+      let k' = then-since (passed p') k in
       let h : Agreeing D tc pr' k' p' q' = agreeing-pass i D tc pr k p q p' q' g tp (passed-is q i q' y) e (pass-later p i p' r tp) u in
       from true k p q (passes i) ds (passed p') (passed q') x y
       (record { answers = both-taken p' q'; replies = agreeing-replies D tc pr' k' p' q' h }, agree-on pr' k' p' q' ds (pass-reaches p i p' r tp) h f)
@@ -141,27 +141,27 @@ module _ (D tc : Float) where
 
   -- ---- and up to it
   cleared-on : (c : PassInput) (rect : Rect) (rest : Rest) (p q : Panel) (cs : List Call) → T (finite tc) → Reached p → Cleared c tc rect rest p → Cleared c tc rect rest q
-      → Fair Within D tc false p q cs → Alike false false p q cs
+      → Fair Within D tc false p q cs → Alike false nothing-since p q cs
   unfolding after
   cleared-on c rect rest p q cs fin r hp hq done = tt
   cleared-on c rect rest p q cs fin r hp hq (both-refused {c = d} {cs = ds} x y f) =
-      refused-on false false p q ds (call p d) (call q d) x y tt (cleared-on c rect rest p q ds fin r hp hq f)
+      refused-on false nothing-since p q ds (call p d) (call q d) x y tt (cleared-on c rect rest p q ds fin r hp hq f)
   cleared-on c rect rest p q cs fin r hp hq (both-passed {i = i} {cs = ds} p' q' x y e u f) =
       let tp = passed-is p i p' x in
       let pr' = button-came false (first-button (pass-events i)) in
-      let k' = has-click (passed p') || false in
+      let k' = then-since (passed p') nothing-since in
       let later : T (le tc (time-of i (p .clock .time))) = subst (λ (z : Float). T (le z (time-of i (p .clock .time)))) (cleared-time c tc rect rest p hp) (pass-later p i p' r tp) in
       let h : Agreeing D tc pr' k' p' q' = cleared-pass c tc rect rest i D p q p' q' fin hp hq tp (passed-is q i q' y) e later u in
-      from false false p q (passes i) ds (passed p') (passed q') x y
+      from false nothing-since p q (passes i) ds (passed p') (passed q') x y
       (record { answers = both-taken p' q'; replies = agreeing-replies D tc pr' k' p' q' h }, agree-on pr' k' p' q' ds (pass-reaches p i p' r tp) h f)
   cleared-on c rect rest p q cs fin r hp hq (both-answered {x = i} {cs = ds} s t p' q' x y f) =
       let ip = answered-is p i s p' x in
-      from false false p q (interacts i) ds (answered s p') (answered t q') x y
+      from false nothing-since p q (interacts i) ds (answered s p') (answered t q') x y
       (tt, cleared-on c rect rest p' q' ds fin (interact-reaches p i s p' r ip) (cleared-interact c tc rect rest p p' i s hp ip) (cleared-interact c tc rect rest q q' i t hq (answered-is q i t q' y)) f)
 
 -- More than demand 3 asks: later passes may bring any options whose delay is at most D, and a gap of D is enough.
 pub clearing-within : (D : Float) (p₀ q₀ : Panel) → Reached p₀ → Reached q₀ → (later : List Call) (c : PassInput) (x : InteractInput) (p q : Panel) (h : Clears c p₀ q₀)
-    → TakesFrom p₀ c x p → TakesFrom q₀ c x q → Fair (λ o. T (le (o .«max_double_click_delay») D)) D (h .time) false p q later → Alike false false p q later
+    → TakesFrom p₀ c x p → TakesFrom q₀ c x q → Fair (λ o. T (le (o .«max_double_click_delay») D)) D (h .time) false p q later → Alike false nothing-since p q later
 clearing-within D p₀ q₀ rp rq later c x p q h tp tq f =
     let takes-p = passed-is p₀ c (tp .cleared) (tp .takes-pass) in
     let takes-q = passed-is q₀ c (tq .cleared) (tq .takes-pass) in

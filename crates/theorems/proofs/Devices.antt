@@ -30,7 +30,8 @@ unfoldable pub live : List TouchState → List TouchState
 live [] = []
 live (v ∷ vs) = keep v (live vs)
 
-dead-is : (v : TouchState) → is-live v ≡ false → v ≡ new-device (v .device-id)
+-- a device that is not live is as it was when it became known
+pub dead-is : (v : TouchState) → is-live v ≡ false → v ≡ new-device (v .device-id)
 unfolding is-live some-touch has-gesture new-device
 dead-is v h = go (v .active-touches) (v .gesture-state) h
   where
@@ -111,7 +112,8 @@ live-at d f (v ∷ vs) a =
         ap live (at-more d f v vs l) ∙ live-no v (live (at-device d f vs)) n ∙ ih ∙ ap (λ (z : List TouchState). live (at-device d f z)) (sym (live-no v (live vs) n))
 
 -- ---- the events of a feed
-event-live : (e : Event) (vs ws : List TouchState) → Ascend vs → Ascend ws → live vs ≡ live ws → live (touch-event e vs) ≡ live (touch-event e ws)
+-- devices with the same live ones have them after any event
+pub event-live : (e : Event) (vs ws : List TouchState) → Ascend vs → Ascend ws → live vs ≡ live ws → live (touch-event e vs) ≡ live (touch-event e ws)
 event-live e vs ws a b h = go (touch-view e)
   where
     go : {e : Event} → TouchView e → live (touch-event e vs) ≡ live (touch-event e ws)
@@ -152,7 +154,8 @@ touch-pass-live time p es vs ws a b h =
 
 -- ---- what devices answer, those that are not live do not
 module _ {A : Type 0} (f : Option TouchState → A) (mute : (v : TouchState) → is-live v ≡ false → f (some v) ≡ f none) where
-  find-live : (d : ℕ) (vs : List TouchState) → Ascend vs → f (find-device d vs) ≡ f (find-device d (live vs))
+  -- an answer that no device gives which is not live is that of the live ones
+  pub find-live : (d : ℕ) (vs : List TouchState) → Ascend vs → f (find-device d vs) ≡ f (find-device d (live vs))
   unfolding find-device live
   find-live d [] a = refl
   find-live d (v ∷ vs) a =

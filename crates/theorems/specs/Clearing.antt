@@ -175,19 +175,26 @@ pub data SameAnswer : Outcome → Outcome → Type 0 where
   -- the snapshot, with the ids written
   same-snapshot : (s : InteractionSnapshot) (p q : Panel) → SameAnswer (answered s p) (answered s q)
 
+-- what has come since the clearing pass: a click
+pub record Since : Type 0 where
+  pub clicked : Bool
+
+abbrev pub nothing-since : Since
+nothing-since = record { clicked = false }
+
 -- "save .. the tally, the known devices and, up to the first later click, the seconds since the last one": which questions may be answered differently.
 -- 01: the devices known, "and with them has_touch_screen"
-unfoldable pub may-differ : Bool → Question → Bool
-may-differ clicked (settled q) = false
-may-differ clicked time-since-last-click = not clicked
-may-differ clicked has-touch-screen = true
-may-differ clicked tally = true
+unfoldable pub may-differ : Since → Question → Bool
+may-differ since (settled q) = false
+may-differ since time-since-last-click = not (since .clicked)
+may-differ since has-touch-screen = true
+may-differ since tally = true
 
 -- 01: "Compared are the answers of each pass and interact, the ids written, and what `InputState`'s questions, `TouchState::info` and every other question
 -- of a panel's state, asked alike after any call, answer"
-pub record Same (clicked : Bool) (p q : Panel) (a b : Outcome) : Type 0 where
+pub record Same (since : Since) (p q : Panel) (a b : Outcome) : Type 0 where
   pub answers : SameAnswer a b
-  pub replies : (question : Question) → T (not (may-differ clicked question)) → ask question (after p a) ≡ ask question (after q b)
+  pub replies : (question : Question) → T (not (may-differ since question)) → ask question (after p a) ≡ ask question (after q b)
 
 abbrev pub is-passed : Outcome → Bool
 is-passed (refused-pass r) = false
@@ -202,16 +209,20 @@ has-click (refused-interact r) = false
 has-click (passed p) = any is-click (p .press .held .pointer-events)
 has-click (answered s p) = false
 
+-- and what has come after one call more
+abbrev pub then-since : Outcome → Since → Since
+then-since o since = record { clicked = has-click o || since .clicked }
+
 abbrev pub When : Bool → Type 0 → Type 0
 When true A = A
 When false A = Unit {0}
 
--- "from the next taken pass on": `came` says whether it has come, `clicked` whether a later taken pass had a click
-abbrev pub Alike : Bool → Bool → Panel → Panel → List Call → Type 0
-Alike came clicked p q [] = Unit {0}
-Alike came clicked p q (c ∷ cs) =
-    When (is-passed (call p c) || came) (Same (has-click (call p c) || clicked) p q (call p c) (call q c))
-    × Alike (is-passed (call p c) || came) (has-click (call p c) || clicked) (after p (call p c)) (after q (call q c)) cs
+-- "from the next taken pass on": `came` says whether it has come
+abbrev pub Alike : Bool → Since → Panel → Panel → List Call → Type 0
+Alike came since p q [] = Unit {0}
+Alike came since p q (c ∷ cs) =
+    When (is-passed (call p c) || came) (Same (then-since (call p c) since) p q (call p c) (call q c))
+    × Alike (is-passed (call p c) || came) (then-since (call p c) since) (after p (call p c)) (after q (call q c)) cs
 
 -- ---- the whole
 
@@ -225,7 +236,7 @@ ClearingFrom before₁ before₂ =
     (later : List Call) (c : PassInput) (x : InteractInput) (p q : Panel) (clears : Clears c before₁ before₂)
     → TakesFrom before₁ c x p → TakesFrom before₂ c x q
     → Fair (λ o. o ≡ c .options) (twice (c .options .«max_double_click_delay»)) (clears .time) false p q later
-    → Alike false false p q later
+    → Alike false nothing-since p q later
 
 -- the core: of any two panels that have what every panel reached has
 abbrev pub ClearingReached : Type 0
