@@ -36,7 +36,7 @@ shape-head k f ws h =
     rw (kinds, lows, forces)
 
 -- ---- fields
-bit-le : (b : Bool) → bit-number b ≤ 1
+pub bit-le : (b : Bool) → bit-number b ≤ 1
 bit-le true = omega arith
 bit-le false = omega arith
 
@@ -44,7 +44,7 @@ bit-back : (b : Bool) (n : ℕ) → n ≡ bit-number b → eqb n 1 ≡ b
 bit-back true n h = rw h
 bit-back false n h = rw h
 
-modifiers-lt : (m : Modifiers) → modifiers-number m < 32
+pub modifiers-lt : (m : Modifiers) → modifiers-number m < 32
 unfolding modifiers-number
 modifiers-lt m = omega (arith, bit-le (m .alt), bit-le (m .ctrl), bit-le (m .shift), bit-le (m .«mac_cmd»), bit-le (m .command))
 
@@ -64,7 +64,7 @@ modifiers-back m f rest h =
       bit-back (m .command) (f / 16 % 2) (omega arith),
     )
 
-button-le : (b : PointerButton) → button-number b ≤ 4
+pub button-le : (b : PointerButton) → button-number b ≤ 4
 button-le Primary = omega arith
 button-le Secondary = omega arith
 button-le Middle = omega arith
@@ -79,7 +79,7 @@ button-back Middle = refl
 button-back Extra1 = refl
 button-back Extra2 = refl
 
-phase-le : (p : TouchPhase) → phase-number p ≤ 3
+pub phase-le : (p : TouchPhase) → phase-number p ≤ 3
 phase-le Start = omega arith
 phase-le Move = omega arith
 phase-le End = omega arith
@@ -92,7 +92,7 @@ phase-back Move = refl
 phase-back End = refl
 phase-back Cancel = refl
 
-unit-le : (u : MouseWheelUnit) → unit-number u ≤ 2
+pub unit-le : (u : MouseWheelUnit) → unit-number u ≤ 2
 unit-le Point = omega arith
 unit-le Line = omega arith
 unit-le Page = omega arith
@@ -103,7 +103,7 @@ unit-back Point = refl
 unit-back Line = refl
 unit-back Page = refl
 
-source-le : (s : MouseWheelSource) → source-number s ≤ 3
+pub source-le : (s : MouseWheelSource) → source-number s ≤ 3
 source-le Unknown = omega arith
 source-le Wheel = omega arith
 source-le Trackpad = omega arith

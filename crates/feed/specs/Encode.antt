@@ -1,7 +1,7 @@
 -- The words of an event: what `decode` reads.
 use Prim.Native.Nat.{ℕ, _+_, _*_, _/_, _%_}
 use mathlib.Core.Bool.{Bool, true}
-use mathlib.Core.List.{List, [], _∷_, _++_}
+use mathlib.Core.List.{List, [], _∷_, _++_, map}
 use lib.Dec.{ltb}
 use lib.Ieee.{Float, binary32, toBits}
 use Rattle.data.specs.Limits.{key-count}
@@ -65,6 +65,15 @@ words-after Other = []
 
 unfoldable pub encode : Event → List ℕ
 encode e = (kind-number e * 0x1000_0000 + fields e) ∷ words-after e
+
+-- lists of words, one after the other
+unfoldable pub join : List (List ℕ) → List ℕ
+join [] = []
+join (ws ∷ rest) = ws ++ join rest
+
+-- the words of a feed that holds these events
+unfoldable pub encode-all : List Event → List ℕ
+encode-all es = join (map encode es)
 
 -- a Key's place is one of egui's Key; every other field of an event can be said in a feed
 unfoldable pub fields-ok : Event → Bool

@@ -1,0 +1,2 @@
+-- The laws of specs/Events.
+pub mod Events
