@@ -24,7 +24,7 @@ unfolding edges-PassEdges.dec32 edges-PassEdges.past edges-PassEdges.past32 edge
 edges-passedges = Type 0
 
 unfoldable pub edges-steps : Type 1
-unfolding edges-Steps.feed-of edges-Steps.with-panel edges-Steps.with-widgets edges-Steps.same-row edges-Steps.kept-if edges-Steps.if-taken edges-Steps.if-pass-refused edges-Steps.drags-as edges-Steps.if-drags edges-Steps.if-answered edges-Steps.if-interact-refused edges-Steps.if-inserted edges-Steps.if-insert-refused edges-Steps.is-at edges-Steps.is-record edges-Steps.is-reply edges-Steps.step edges-Steps.go-on edges-Steps.steps edges-Steps.check-all
+unfolding edges-Steps.with-panel edges-Steps.with-widgets edges-Steps.same-row edges-Steps.kept-if edges-Steps.if-taken edges-Steps.if-pass-refused edges-Steps.drags-as edges-Steps.if-drags edges-Steps.if-answered edges-Steps.if-interact-refused edges-Steps.if-inserted edges-Steps.if-insert-refused edges-Steps.is-at edges-Steps.is-record edges-Steps.is-reply edges-Steps.step edges-Steps.go-on edges-Steps.steps edges-Steps.check-all
 edges-steps = Type 0
 
 unfoldable pub edges-words : Type 1

@@ -7,6 +7,7 @@ use lib.Dec.{eqb}
 use lib.ListN.{replicate}
 use lib.Ieee.{Float, nan, binary64, round}
 use Rattle.data.specs.Modifiers.{no-modifiers}
+use Rattle.feed.specs.Encode.{encode-all}
 use Rattle.model.specs.Options.{default-options}
 use Rattle.model.specs.Types.{Pos2, Vec2, Rect, InputOptions, WidgetRect, Primary, Point, Unknown, Trackpad, Start, Move, no-force, no-click, some-click}
 use Rattle.model.specs.Types.{PointerEvent, Moved, Pressed, Released, Event, PointerMoved, Button, Touch, MouseWheel}
@@ -14,7 +15,7 @@ use Rattle.model.specs.Pass.{PassInput, fresh}
 use Rattle.model.specs.Widgets.{no-widgets}
 use Rattle.model.specs.Interact.{InteractInput}
 use Rattle.model.specs.Questions.{bool, vector, zoom, zoom-2d, events, any-click, pointer-events, smooth-scroll-delta, is-scrolling, zoom-delta, zoom-delta-2d, translation-delta}
-use Rattle.edges.specs.Steps.{Step, passes, answers, unprocessed, interacts, inserts, stands-at, State, feed-of}
+use Rattle.edges.specs.Steps.{Step, passes, answers, unprocessed, interacts, inserts, stands-at, State}
 
 -- ---- how a case is written
 
@@ -68,7 +69,7 @@ given t rect factor o ws =
 
 -- a pass at a time, with the smoothing factor 0.5
 unfoldable pub pass-at : Float → InputOptions → List Event → PassInput
-pass-at t o es = given (some t) (some (record { min = pos 0 0; max = pos 640 480 })) (dec 0 5000) o (feed-of es)
+pass-at t o es = given (some t) (some (record { min = pos 0 0; max = pos 640 480 })) (dec 0 5000) o (encode-all es)
 
 unfoldable pub at : Float → InputOptions → List Event → Step
 at t o es = passes (pass-at t o es)

@@ -7,6 +7,7 @@ use lib.ListN.{replicate}
 use lib.Ieee.{Float, binary32, binary64, round, ofBits, toBits}
 use Rattle.data.specs.Modifiers.{no-modifiers}
 use Rattle.data.specs.Numbers.{Row}
+use Rattle.feed.specs.Encode.{encode-all}
 use Rattle.model.specs.Options.{default-options}
 use Rattle.model.specs.Types.{Pos2, Vec2, Rect, Modifiers, InputOptions, Primary, Secondary, Point, Line, Page, Unknown, Wheel, Trackpad, Momentum, Start, Move, End, Cancel}
 use Rattle.model.specs.Types.{TouchPhase, MouseWheelUnit, MouseWheelSource, no-force, some-force, no-pos, some-pos, no-vec, some-vec, no-time, some-time, no-source, some-source}
@@ -15,7 +16,7 @@ use Rattle.model.specs.Types.{Event, Key, ModifiersChanged, PointerMoved, Mouse
 use Rattle.model.specs.Pass.{PassInput}
 use Rattle.model.specs.Questions.{bool, count, number, vector, maybe-vector, maybe-position, maybe-seconds, rectangle, flags, source, zoom, zoom-2d, rotation, gesture, events, has-touch-screen}
 use Rattle.model.specs.Questions as Q
-use Rattle.edges.specs.Steps.{Step, passes, refuses-pass, answers, replies, unprocessed, feed-of}
+use Rattle.edges.specs.Steps.{Step, passes, refuses-pass, answers, replies, unprocessed}
 use Rattle.edges.specs.Cases.{dec, pos, vec, given, pass-at, at, options, click-distance, click-duration, delay, press, release, clicks, click, point, finger-starts, finger-moves}
 
 -- ---- how a case is written
@@ -426,14 +427,14 @@ axes =
 -- no time given: the old one and predicted dt; no rectangle given: the old one, whose height is a page
 unfoldable pub not-given : List Step
 not-given =
-    then (dec 1 0) [] ∷ passes (given none none (dec 0 5000) default-options (feed-of (MouseWheel Page (vec 0 1) Move Wheel no-modifiers ∷ [])))
+    then (dec 1 0) [] ∷ passes (given none none (dec 0 5000) default-options (encode-all (MouseWheel Page (vec 0 1) Move Wheel no-modifiers ∷ [])))
     ∷ answers Q.time (number (dec 1 625)) ∷ answers Q.unstable-dt (number (dec 0 625)) ∷ answers Q.stable-dt (number (dec 0 625))
     ∷ answers Q.viewport-rect (rectangle (record { min = pos 0 0; max = pos 640 480 })) ∷ answers Q.smooth-scroll-delta (vector (vec 0 240))
     ∷ then (dec 3 625) [] ∷ answers Q.unstable-dt (number (dec 2 0)) ∷ answers Q.stable-dt (number (dec 0 625)) ∷ []
 
 unfoldable pub never-given : List Step
 never-given =
-    passes (given none none (dec 0 5000) default-options (feed-of (MouseWheel Page (vec 0 1) Move Wheel no-modifiers ∷ [])))
+    passes (given none none (dec 0 5000) default-options (encode-all (MouseWheel Page (vec 0 1) Move Wheel no-modifiers ∷ [])))
     ∷ answers Q.time (number (dec 0 625)) ∷ answers Q.smooth-scroll-delta (vector (vec 0 5000)) ∷ []
 
 -- ---- refusals of a pass
@@ -460,17 +461,17 @@ unfoldable pub malformed : List (List Step)
 malformed =
     refused (0x0000_0000 ∷ []) (row 1 0) ∷ refused (0xd000_0000 ∷ []) (row 1 0) ∷ refused (0x3000_0000 ∷ 0 ∷ []) (row 1 0) ∷ refused (0x6000_0001 ∷ []) (row 1 0)
     ∷ refused (0x1000_0091 ∷ []) (row 1 0) ∷ taken (0x1000_0090 ∷ []) ∷ refused (0x5000_00a0 ∷ 0 ∷ 0 ∷ []) (row 1 0) ∷ refused (0xa000_0060 ∷ 0 ∷ 0 ∷ []) (row 1 0)
-    ∷ refused (feed-of (press (pos 0 0) ∷ PointerGone ∷ []) ++ (0 ∷ [])) (row 1 4) ∷ []
+    ∷ refused (encode-all (press (pos 0 0) ∷ PointerGone ∷ []) ++ (0 ∷ [])) (row 1 4) ∷ []
 
 -- an event at a limit of the domain is taken, and one unit past it is 2
 unfoldable pub limit-of : (Float → Event) → Float → List (List Step)
-limit-of e x = taken (feed-of (e x ∷ [])) ∷ refused (feed-of (e (past32 x) ∷ [])) (row 2 0) ∷ []
+limit-of e x = taken (encode-all (e x ∷ [])) ∷ refused (encode-all (e (past32 x) ∷ [])) (row 2 0) ∷ []
 
 unfoldable pub domain : List (List Step)
 domain =
     limit-of (λ x. PointerMoved (on-x x)) (dec 65536 0) ++ (limit-of Zoom (dec 1024 0) ++ (limit-of Rotate (dec 64 0)
     ++ (limit-of (λ x. Touch 1 1 Start (pos 0 0) (some-force x)) (dec 1 0) ++ (limit-of (λ x. MouseMoved (record { x = x; y = x })) (dec 65536 0)
-    ++ (refused (feed-of (Zoom (dec 0 0) ∷ [])) (row 2 0) ∷ [])))))
+    ++ (refused (encode-all (Zoom (dec 0 0) ∷ [])) (row 2 0) ∷ [])))))
 
 -- device d, touch i
 unfoldable pub touch : ℕ → ℕ → TouchPhase → Event
@@ -482,9 +483,9 @@ four-devices = touch 1 1 Start ∷ touch 2 1 Move ∷ touch 3 1 End ∷ touch 4 
 -- 5: "a fifth device", by an event of any phase, in the feed of the fourth or later
 unfoldable pub fifth-device : List Step
 fifth-device =
-    refuses-pass (words (feed-of (four-devices ++ (touch 5 1 Move ∷ [])))) (row 5 28)
-    ∷ passes (words (feed-of four-devices)) ∷ refuses-pass (words (feed-of (touch 5 1 Move ∷ []))) (row 5 0) ∷ refuses-pass (words (feed-of (touch 5 1 End ∷ []))) (row 5 0)
-    ∷ passes (words (feed-of (touch 4 1 Start ∷ []))) ∷ []
+    refuses-pass (words (encode-all (four-devices ++ (touch 5 1 Move ∷ [])))) (row 5 28)
+    ∷ passes (words (encode-all four-devices)) ∷ refuses-pass (words (encode-all (touch 5 1 Move ∷ []))) (row 5 0) ∷ refuses-pass (words (encode-all (touch 5 1 End ∷ []))) (row 5 0)
+    ∷ passes (words (encode-all (touch 4 1 Start ∷ []))) ∷ []
 
 -- fingers 1 to n start
 unfoldable pub fingers : ℕ → List Event
@@ -494,10 +495,10 @@ fingers (suc n) = touch 1 (suc n) Start ∷ fingers n
 -- 5: "Start of an eleventh touch": not of a held one, not a Move, and not if one ends before it
 unfoldable pub eleventh-touch : List Step
 eleventh-touch =
-    passes (words (feed-of (fingers 10)))
-    ∷ refuses-pass (words (feed-of (PointerGone ∷ touch 1 11 Start ∷ []))) (row 5 1)
-    ∷ passes (words (feed-of (touch 1 10 Start ∷ touch 1 11 Move ∷ touch 2 1 Start ∷ touch 1 3 End ∷ touch 1 11 Start ∷ [])))
-    ∷ refuses-pass (words (feed-of (touch 1 3 Start ∷ []))) (row 5 0) ∷ []
+    passes (words (encode-all (fingers 10)))
+    ∷ refuses-pass (words (encode-all (PointerGone ∷ touch 1 11 Start ∷ []))) (row 5 1)
+    ∷ passes (words (encode-all (touch 1 10 Start ∷ touch 1 11 Move ∷ touch 2 1 Start ∷ touch 1 3 End ∷ touch 1 11 Start ∷ [])))
+    ∷ refuses-pass (words (encode-all (touch 1 3 Start ∷ []))) (row 5 0) ∷ []
 
 -- 4: event 65, also if it is malformed; the earlier event comes first
 unfoldable pub crowds : List (List Step)
@@ -516,8 +517,8 @@ pass-order =
     ∷ passes (given (some (dec 4294967296 0)) none (dec 1 0) default-options []) ∷ [])
     ∷ refused (0x3000_0001 ∷ 0x7fc0_0000 ∷ 0 ∷ []) (row 1 0)
     ∷ refused (0x3000_0000 ∷ 0x7fc0_0000 ∷ 0 ∷ 0 ∷ []) (row 2 0)
-    ∷ refused (feed-of (four-devices ++ (Touch 5 1 Start (on-x (past32 (dec 65536 0))) no-force ∷ []))) (row 2 28)
-    ∷ refused (feed-of (four-devices ++ (touch 5 1 Start ∷ PointerMoved (on-x (past32 (dec 65536 0))) ∷ []))) (row 5 28) ∷ []
+    ∷ refused (encode-all (four-devices ++ (Touch 5 1 Start (on-x (past32 (dec 65536 0))) no-force ∷ []))) (row 2 28)
+    ∷ refused (encode-all (four-devices ++ (touch 5 1 Start ∷ PointerMoved (on-x (past32 (dec 65536 0))) ∷ []))) (row 5 28) ∷ []
 
 unfoldable pub of-a-pass : List (List Step)
 of-a-pass =

@@ -1,14 +1,14 @@
 -- A case is a list of steps, each with what is expected there; one check computes them on the model. Definitions only.
 use Prim.Native.Nat.{ℕ}
 use mathlib.Core.Bool.{Bool, true, false, _&&_}
-use mathlib.Core.List.{List, [], _∷_, _++_, map}
+use mathlib.Core.List.{List, [], _∷_, map}
 use mathlib.Core.Option.{Option, none, some}
 use lib.Dec.{eqb}
 use lib.Ieee.{binary64}
 use lib.ListN.{take, drop}
 use Rattle.data.specs.Numbers.{Row, pass-row, insert-row, interact-row}
-use Rattle.feed.specs.Encode.{encode, vec-words}
-use Rattle.model.specs.Types.{Vec2, Event, WidgetRect}
+use Rattle.feed.specs.Encode.{vec-words}
+use Rattle.model.specs.Types.{Vec2, WidgetRect}
 use Rattle.model.specs.Pass.{Panel, PassInput, Passed, pass}
 use Rattle.model.specs.Pass as P
 use Rattle.model.specs.Interact.{InteractInput, InteractionSnapshot, Interacted, interact, same-id, is-some, with-interaction}
@@ -59,11 +59,6 @@ pub record State : Type 0 where
   pub panel : Panel
   pub widgets : WidgetRects
   pub slice : List WidgetRect
-
--- the words of a feed
-unfoldable pub feed-of : List Event → List ℕ
-feed-of [] = []
-feed-of (e ∷ es) = encode e ++ feed-of es
 
 unfoldable pub with-panel : State → Panel → State
 with-panel s p = record { panel = p; widgets = s .widgets; slice = s .slice }

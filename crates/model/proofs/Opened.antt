@@ -57,7 +57,7 @@ unfolding feed-Decode.check-floats feed-Decode.decode feed-Decode.item-of feed-D
 feed-decode = Type 0
 
 unfoldable pub feed-encode : Type 1
-unfolding feed-Encode.float-word feed-Encode.pos-words feed-Encode.vec-words feed-Encode.id-words feed-Encode.force-words feed-Encode.fields feed-Encode.words-after feed-Encode.encode feed-Encode.fields-ok
+unfolding feed-Encode.float-word feed-Encode.pos-words feed-Encode.vec-words feed-Encode.id-words feed-Encode.force-words feed-Encode.fields feed-Encode.words-after feed-Encode.encode feed-Encode.join feed-Encode.encode-all feed-Encode.fields-ok
 feed-encode = Type 0
 
 unfoldable pub feed-feed : Type 1
