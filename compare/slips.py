@@ -11,7 +11,9 @@ import sys
 import tempfile
 
 HERE = os.path.dirname(os.path.abspath(__file__))
-MOD, TOUCH, WHEEL = ('egui-src/src/input_state/%s.rs' % f for f in ('mod', 'touch_state', 'wheel_state'))
+MOD, WHEEL = ('egui-src/src/input_state/%s.rs' % f for f in ('mod', 'wheel_state'))
+# the copy that is built: see build.sh
+TOUCH = 'egui-src/wrap/input_state/touch_state.rs'
 ACT, RECT = 'egui-src/src/interaction.rs', 'egui-src/src/widget_rect.rs'
 EMATH, DOMAIN, PANEL = 'src/shim/emath_types.rs', 'src/domain.rs', 'src/panel.rs'
 
@@ -98,12 +100,12 @@ SLIPS = [
     ('-0.0 is refused', DOMAIN, 'v >= 0.0 && v <= top\n}\npub fn zero_to_f64', 'v.is_sign_positive() && v >= 0.0 && v <= top\n}\npub fn zero_to_f64'),
     ('zoom 0 is taken', DOMAIN, '7 => f(0) > 0.0', '7 => f(0) >= 0.0'),
     ('radians 64 are refused', DOMAIN, 'f(0).abs() <= 64.0', 'f(0).abs() < 64.0'),
-    ('event 64 is refused', DOMAIN, 'MAX_EVENTS: usize = 64', 'MAX_EVENTS: usize = 63'),
-    ('event 65 is taken', DOMAIN, 'MAX_EVENTS: usize = 64', 'MAX_EVENTS: usize = 65'),
+    ('event 64 is refused', DOMAIN, 'events: 64,', 'events: 63,'),
+    ('event 65 is taken', DOMAIN, 'events: 64,', 'events: 65,'),
     ('key 145 is taken', DOMAIN, '(low & 0xFF) <= 144', '(low & 0xFF) <= 145'),
     ('a fifth device is taken', DOMAIN, 'MAX_DEVICES: usize = 4', 'MAX_DEVICES: usize = 5'),
-    ('a tenth touch is refused', DOMAIN, 'MAX_TOUCHES: usize = 10', 'MAX_TOUCHES: usize = 9'),
-    ('an eleventh touch is taken', DOMAIN, 'MAX_TOUCHES: usize = 10', 'MAX_TOUCHES: usize = 11'),
+    ('a tenth touch is refused', DOMAIN, 'touches: 10,', 'touches: 9,'),
+    ('an eleventh touch is taken', DOMAIN, 'touches: 10,', 'touches: 11,'),
     ('a freed place is not found', DOMAIN, '                    touches.remove(p);', ''),
     ('widget 1,024 is refused', DOMAIN, 'MAX_WIDGETS: usize = 1024', 'MAX_WIDGETS: usize = 1023'),
     ('layer 33 is taken', DOMAIN, 'MAX_LAYERS: usize = 32', 'MAX_LAYERS: usize = 33'),
@@ -112,8 +114,8 @@ SLIPS = [
     ('a slice too short by one does', PANEL, 'if (places as usize) < after {', 'if (places as usize) + 1 < after {'),
     ('a parent of 0 is taken', PANEL, '(Some(id), Some(_parent), Some(layer)) =\n            (Id::from_u64(w.id), Id::from_u64(w.parent), ', '(Some(id), Some(_parent), Some(layer)) =\n            (Id::from_u64(w.id), Id::from_u64(1), '),
     ('a time before is taken', PANEL, 'p.time.is_some_and(|t| t < self.input.time)', 'p.time.is_some_and(|t| t + 1e-9 < self.input.time)'),
-    ('a drag start at the end of the tally is taken', PANEL, 'if tally == u32::MAX {\n                return refuse(10);\n            }\n            tally += 1;', 'tally = tally.wrapping_add(1);'),
-    ('a refused start changes the potential ids', PANEL, '                return refuse(10);', '                self.interaction = interaction;\n                return refuse(10);'),
+    ('a drag start at the end of the tally is taken', PANEL, 'if tally == u32::MAX {\n                    return refuse(10);\n                }\n                tally += 1;', 'tally = tally.wrapping_add(1);'),
+    ('a refused start changes the potential ids', PANEL, '                    return refuse(10);', '                    self.interaction = interaction;\n                    return refuse(10);'),
 ]
 # slips after which a clearing pass no longer makes two panels alike
 UNCLEARED = ['focus lost keeps the keys', 'focus lost keeps the modifiers', 'End keeps what is unprocessed', 'a press keeps "moved too much"', 'motion stays']

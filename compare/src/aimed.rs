@@ -2,8 +2,9 @@
 //! them, clicks, double and triple clicks, drags, pinches with 1 to 10 fingers, wheel in each unit,
 //! phase and source, damaged feeds for each refusal, widgets and hits that belong to the positions.
 //!
-//! A `Stream` keeps egui's own panel beside it, so that what it makes next can lean on the state.
-use crate::panel::{Hit, Hits, Panel, Pass, Widget};
+//! `Aimed` keeps egui's own panel beside it, so that what it makes next can lean on the state.
+use crate::panel::{Hit, Hits, Pass, Widget};
+use crate::words::Stream;
 use crate::{InputOptions, Modifiers, Pos2, Rect, words};
 use std::collections::VecDeque;
 
@@ -81,9 +82,9 @@ const PLANS: [&[Step]; 9] = [
     &[Step::Press, Step::MoveFar],
 ];
 
-pub struct Stream {
+pub struct Aimed {
     plan: VecDeque<Step>,
-    pub panel: Panel,
+    pub stream: Stream,
     pub rng: Rng,
     pub(crate) time: f64,
     pub(crate) options: InputOptions,
@@ -93,14 +94,14 @@ pub struct Stream {
     damage: u64,
 }
 
-impl Stream {
+impl Aimed {
     pub fn new(seed: u64) -> Self {
         let mut rng = Rng::new(seed);
         let damage = rng.pick(&[6, 12, 50, 1000]);
         let options = some_options(&mut rng);
         Self {
             plan: VecDeque::new(),
-            panel: Panel::default(),
+            stream: Stream::default(),
             rng,
             time: 0.0,
             options,
@@ -113,7 +114,7 @@ impl Stream {
     /// The next request that changes the state, as a record; it is applied to the stream's own panel.
     pub fn next_call(&mut self) -> Vec<u32> {
         let record = self.make();
-        words::answer(&mut self.panel, record[0] >> 24, &record[1..], &mut Vec::new());
+        words::answer(&mut self.stream, record[0] >> 24, &record[1..], &mut Vec::new());
         record
     }
 
@@ -126,8 +127,8 @@ impl Stream {
         }
         let record = match self.plan.pop_front() {
             // the end of time, and of the tally, are left again soon
-            None if self.panel.input.time > 4e9 && self.rng.once_in(6) => words::record(words::RESET, &[]),
-            None if self.panel.tally > 1 << 31 && self.rng.once_in(10) => words::record(words::SET_TALLY, &[0]),
+            None if self.stream.panel.input.time > 4e9 && self.rng.once_in(6) => words::record(words::RESET, &[]),
+            None if self.stream.panel.tally > 1 << 31 && self.rng.once_in(10) => words::record(words::SET_TALLY, &[0]),
             Some(step) => self.planned(step),
             None => self.unplanned(),
         };
@@ -188,7 +189,7 @@ impl Stream {
             Step::Escape => put(&mut feed, 1, 4 | 1 << 8, &[]),
             Step::Touch => self.touch(&mut feed),
             Step::LiftAll => {
-                for (device, touches) in self.panel.held() {
+                for (device, touches) in self.stream.panel.held() {
                     for touch in touches {
                         feed.push(9 << 28 | 2);
                         feed.extend([device as u32, (device >> 32) as u32, touch as u32, (touch >> 32) as u32, 0, 0]);
@@ -205,7 +206,7 @@ impl Stream {
 
     /// A point of a known widget, or the last one.
     fn pos_in_widget(&mut self) -> Pos2 {
-        let known = self.panel.known_widgets();
+        let known = self.stream.panel.known_widgets();
         if known.is_empty() {
             return self.next_pos();
         }
@@ -249,12 +250,12 @@ impl Stream {
         let o = self.options;
         let near = [o.max_double_click_delay, o.max_click_duration, 0.15, 1.0, 0.1f32 as f64, 0.01];
         let from = [
-            self.panel.input.pointer.press_start_time().unwrap_or(self.time),
-            self.panel.last_click_time(),
-            self.panel.last_wheel_event(),
-            self.panel.oldest_sample_time().unwrap_or(self.time),
+            self.stream.panel.input.pointer.press_start_time().unwrap_or(self.time),
+            self.stream.panel.last_click_time(),
+            self.stream.panel.last_wheel_event(),
+            self.stream.panel.oldest_sample_time().unwrap_or(self.time),
         ];
-        let now = self.panel.input.time;
+        let now = self.stream.panel.input.time;
         let t = match self.rng.below(12) {
             0 => return None,
             1 => now,
@@ -295,7 +296,7 @@ impl Stream {
             }
             8..=17 => {
                 let button = if self.rng.once_in(3) { self.rng.below(5) as u32 } else { 0 };
-                let down = self.panel.input.pointer.any_down();
+                let down = self.stream.panel.input.pointer.any_down();
                 let pressed = if self.rng.once_in(4) { self.rng.once_in(2) } else { !down };
                 if self.rng.once_in(5) {
                     self.at = self.next_pos();
@@ -380,7 +381,7 @@ impl Stream {
     fn damage_pass(&mut self, p: &mut Pass, feed: &mut Vec<u32>) {
         let bad = self.rng.pick(&[f32::NAN, f32::INFINITY, -1.0, 65_537.0, 1e30]);
         match self.rng.below(14) {
-            0 => p.time = Some(nudge(self.panel.input.time, -1)),
+            0 => p.time = Some(nudge(self.stream.panel.input.time, -1)),
             1 => p.time = Some(self.rng.pick(&[f64::NAN, -1.0, f64::INFINITY, 4_294_967_297.0])),
             2 => p.predicted_dt = bad,
             3 => p.smooth = bad,
@@ -414,7 +415,7 @@ impl Stream {
     // ---------------------------------------------------------------- widgets
 
     pub fn insert(&mut self) -> Vec<u32> {
-        let known = self.panel.known_widgets();
+        let known = self.stream.panel.known_widgets();
         let many = self.rng.once_in(3);
         let id = match known.len() {
             n if n > 0 && self.rng.once_in(2) => known[self.rng.below(n as u64) as usize].0.value(),
@@ -455,8 +456,8 @@ impl Stream {
     // ---------------------------------------------------------------- interacts
 
     pub fn interact(&mut self) -> Vec<u32> {
-        let at = self.panel.input.pointer.interact_pos().unwrap_or(self.at);
-        let known = self.panel.known_widgets();
+        let at = self.stream.panel.input.pointer.interact_pos().unwrap_or(self.at);
+        let known = self.stream.panel.known_widgets();
         let mut hits = Hits::default();
         let loose = self.rng.once_in(3);
         for (id, _, w) in &known {

@@ -5,7 +5,7 @@ use crate::interaction::{InteractionSnapshot, interact};
 use crate::memory::InteractionState;
 use crate::panel::{Hit, Hits, Panel, Pass};
 use crate::{
-    Id, InputState, InteractOptions, Key, LayerId, Order, PointerButton, Pos2, RawInput, Rect, Sense,
+    Id, InputState, InteractOptions, Key, LEVEL, LayerId, Order, PointerButton, Pos2, RawInput, Rect, Sense,
     Vec2, WidgetRect, WidgetRects,
 };
 use std::hint::black_box;
@@ -101,8 +101,9 @@ fn asked(i: &InputState) -> u64 {
 
 fn passes(n: u32, feed: &[u32], checked: bool, ask: bool) -> u64 {
     let p = Pass { repaint_requested: true, ..Default::default() };
-    let mut panel = Panel::default();
-    let ready = domain::decode_feed(feed, panel.held()).expect("in the domain");
+    let mut panel = Panel::new(LEVEL);
+    panel.enter();
+    let ready = domain::decode_feed(feed, panel.held(), panel.limits()).expect("in the domain");
     crate::set_smooth_factor(p.smooth);
     let mut answers = if ask { asked(black_box(&panel.input)) } else { 0 };
     for _ in 0..n {
@@ -226,7 +227,7 @@ fn ends(sum: u64, hovered: &[u64], contains: &[u64]) -> u64 {
 }
 
 fn interacts_checked(n: u32, hits: &mut Hits) -> u64 {
-    let mut panel = Panel::default();
+    let mut panel = Panel::new(LEVEL);
     panel.run_pass(&Pass::default(), vec![crate::Event::PointerMoved(Pos2::new(10.0, 20.0))]);
     let mut sum = 0;
     let mut last = Default::default();

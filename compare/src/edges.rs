@@ -83,23 +83,23 @@ fn history(s: &mut Script) {
         s.taken(1.0 + f64::from(k) / 16_384.0, &moved(k as f32, 0.0));
     }
     s.quiet = false;
-    let oldest = s.panel.oldest_sample_time().expect("samples");
+    let oldest = s.stream.panel.oldest_sample_time().expect("samples");
     assert_eq!(oldest, 1.0 + 2.0 / 16_384.0);
     let age = f64::from(0.1f32);
     s.taken(oldest + age, &[]);
-    assert_eq!(s.panel.oldest_sample_time(), Some(1.0 + 3.0 / 16_384.0));
+    assert_eq!(s.stream.panel.oldest_sample_time(), Some(1.0 + 3.0 / 16_384.0));
     s.taken(1.0 + 900.0 / 16_384.0 + age, &[]);
-    assert_eq!(s.panel.oldest_sample_time(), Some(1.0 + 900.0 / 16_384.0));
+    assert_eq!(s.stream.panel.oldest_sample_time(), Some(1.0 + 900.0 / 16_384.0));
     s.taken(crate::aimed::nudge(1.0 + 900.0 / 16_384.0 + age, 2), &[]);
-    assert_eq!(s.panel.oldest_sample_time(), Some(1.0 + 901.0 / 16_384.0));
+    assert_eq!(s.stream.panel.oldest_sample_time(), Some(1.0 + 901.0 / 16_384.0));
 }
 
 fn wheels(s: &mut Script) {
     for (y, smooth, rest) in [(8.0, 4.0, 4.0), (7.5, 7.5, 0.0)] {
         s.show(&format!("Edges: one Point delta (0,{y}), factor 0.5: smooth {smooth}, unprocessed {rest}"));
         s.taken(1.0, &wheel(0, 1, 1, 0, 0.0, y));
-        assert_eq!(s.panel.input.smooth_scroll_delta(), Vec2::new(0.0, smooth));
-        assert_eq!(s.panel.input.x_wheel().unprocessed_wheel_delta, Vec2::new(0.0, rest));
+        assert_eq!(s.stream.panel.input.smooth_scroll_delta(), Vec2::new(0.0, smooth));
+        assert_eq!(s.stream.panel.input.x_wheel().unprocessed_wheel_delta, Vec2::new(0.0, rest));
     }
     for (source, phase, wait, lasts, name) in [
         (2, 0, 1.0, true, "InTouch Trackpad, 1.0 s later the action lasts"),
@@ -110,7 +110,7 @@ fn wheels(s: &mut Script) {
         s.show(&format!("Edges: {name}"));
         s.taken(1.0, &wheel(0, phase, source, 0, 0.0, 1.0));
         s.taken(1.0 + wait, &[]);
-        assert_eq!(s.panel.input.is_scrolling(), lasts);
+        assert_eq!(s.stream.panel.input.is_scrolling(), lasts);
     }
     for unit in 0..3 {
         for phase in 0..4 {
@@ -124,8 +124,8 @@ fn wheels(s: &mut Script) {
     }
     s.show("01 item 6: zoom by the wheel: factor, and exponent speed · (x + y); a suppressed axis");
     s.taken(1.0, &feed(&[&wheel(0, 1, 1, 16, 2.0, 5.0), &event(7, 0, &[1.5]), &event(2, 4, &[])]));
-    assert_eq!(s.panel.zoom().0, 1.5);
-    assert_eq!(s.panel.zoom_2d().0, Vec2::new(1.5, 1.0));
+    assert_eq!(s.stream.panel.zoom().0, 1.5);
+    assert_eq!(s.stream.panel.zoom_2d().0, Vec2::new(1.5, 1.0));
 }
 
 fn touches(s: &mut Script) {
@@ -133,14 +133,14 @@ fn touches(s: &mut Script) {
     s.taken(1.0, &moved(1.0, 1.0));
     s.taken(1.125, &feed(&[&touch(7, 1, 0, 0.0, 0.0), &touch(7, 2, 0, 4.0, 0.0)]));
     s.taken(1.25, &touch(7, 2, 1, 8.0, 0.0));
-    let m = s.panel.input.multi_touch().expect("a gesture");
+    let m = s.stream.panel.input.multi_touch().expect("a gesture");
     assert_eq!((m.zoom_delta, m.zoom_delta_2d, m.translation_delta), (2.0, Vec2::new(2.0, 1.0), Vec2::new(2.0, 0.0)));
-    assert!(matches!(s.panel.rotation(), Rotation::Headings { .. }));
+    assert!(matches!(s.stream.panel.rotation(), Rotation::Headings { .. }));
     s.show("Edges: pinch dx 3, dy 1 is Proportional");
     s.taken(1.0, &moved(1.0, 1.0));
     s.taken(1.125, &feed(&[&touch(7, 1, 0, 0.0, 0.0), &touch(7, 2, 0, 3.0, 1.0)]));
     s.taken(1.25, &touch(7, 2, 1, 6.0, 2.0));
-    assert_eq!(s.panel.input.multi_touch().expect("a gesture").zoom_delta_2d.y, s.panel.zoom().0);
+    assert_eq!(s.stream.panel.input.multi_touch().expect("a gesture").zoom_delta_2d.y, s.stream.panel.zoom().0);
     s.show("Near an edge: pinch dx 1, dy 3 is Proportional; dx 1, dy 3.25 is Vertical");
     for (y, id) in [(3.0, 1), (3.25, 5)] {
         s.taken(1.0 + y, &moved(1.0, 1.0));
@@ -152,12 +152,12 @@ fn touches(s: &mut Script) {
     s.taken(1.0, &moved(1.0, 1.0));
     s.taken(1.125, &feed(&[&touch(7, 1, 0, 3.0, 3.0), &touch(7, 2, 0, 3.0, 3.0)]));
     s.taken(1.25, &[]);
-    assert!(s.panel.zoom().0.is_nan());
+    assert!(s.stream.panel.zoom().0.is_nan());
     s.show("Near an edge: a gesture needs a pointer known the pass before");
     s.taken(1.0, &feed(&[&touch(7, 1, 0, 0.0, 0.0), &touch(7, 2, 0, 4.0, 0.0), &moved(2.0, 2.0)]));
-    assert!(s.panel.input.multi_touch().is_none());
+    assert!(s.stream.panel.input.multi_touch().is_none());
     s.taken(1.125, &[]);
-    assert!(s.panel.input.multi_touch().is_some());
+    assert!(s.stream.panel.input.multi_touch().is_some());
     for n in 1..=10u64 {
         s.show(&format!("The issue: a pinch with {n} finger{}, by ascending id", if n == 1 { "" } else { "s" }));
         s.taken(1.0, &moved(1.0, 1.0));
@@ -174,14 +174,14 @@ fn widgets(s: &mut Script) {
         assert_eq!(s.insert(&widget(id, 1), false, 3), (0, 0));
     }
     assert_eq!(s.insert(&Widget { sense: 2, enabled: false, ..widget(10, 1) }, true, 3), (0, 0));
-    let at: Vec<(u64, usize)> = s.panel.known_widgets().iter().map(|(i, n, _)| (i.value(), *n)).collect();
+    let at: Vec<(u64, usize)> = s.stream.panel.known_widgets().iter().map(|(i, n, _)| (i.value(), *n)).collect();
     assert_eq!(at, [(10, 2), (11, 0), (12, 1)]);
     s.show("01 item 5: a known id takes the new rectangles and the union; its parent stays");
     s.insert(&Widget { enabled: false, visible: false, ..widget(10, 1) }, false, 1);
     let other = Rect::from_min_max(Pos2::new(-1.0, -0.0), Pos2::new(2.0, 65_536.0));
     s.insert(&Widget { parent: 9, rect: other, interact_rect: other, visible: true, enabled: false, ..widget(10, 4) }, false, 1);
     s.insert(&Widget { visible: false, ..widget(10, 0) }, false, 1);
-    let w = s.panel.known_widgets()[0].2;
+    let w = s.stream.panel.known_widgets()[0].2;
     assert_eq!((w.sense.bits(), w.parent_id.value(), w.enabled, w.visible), (5, 1, true, true));
     s.show("01 item 5: the first places of the lent slice are read whatever they hold");
     for id in [10, 11, 12] {
@@ -293,12 +293,12 @@ fn slips(s: &mut Script) {
     s.show("Slips: using the new interact position for a gesture");
     s.taken(1.0, &moved(1.0, 1.0));
     s.taken(1.125, &feed(&[&moved(50.0, 60.0), &touch(7, 1, 0, 0.0, 0.0), &touch(7, 2, 0, 4.0, 0.0)]));
-    assert_eq!(s.panel.input.multi_touch().expect("a gesture").start_pos, Pos2::new(1.0, 1.0));
+    assert_eq!(s.stream.panel.input.multi_touch().expect("a gesture").start_pos, Pos2::new(1.0, 1.0));
     s.show("Slips: clearing interact position on pointer gone");
     s.taken(1.0, &feed(&[&moved(3.0, 4.0), &event(6, 0, &[])]));
-    assert_eq!((s.panel.input.pointer.interact_pos(), s.panel.input.pointer.latest_pos()), (Some(Pos2::new(3.0, 4.0)), None));
+    assert_eq!((s.stream.panel.input.pointer.interact_pos(), s.stream.panel.input.pointer.latest_pos()), (Some(Pos2::new(3.0, 4.0)), None));
     s.taken(1.125, &[]);
-    assert_eq!(s.panel.input.pointer.interact_pos(), None);
+    assert_eq!(s.stream.panel.input.pointer.interact_pos(), None);
     s.show("Slips: removing a dragged widget's drag when the widget vanishes");
     let h = pressed_on(s, 2);
     s.answered(&h);
@@ -310,7 +310,7 @@ fn slips(s: &mut Script) {
     assert_eq!(s.answered(&Hits::default()).drag_stopped, 10);
     s.show("Slips: testing Point smoothness before the axis swap");
     s.taken(1.0, &wheel(0, 1, 1, 4, 5.0, 5.0));
-    assert_eq!(s.panel.input.x_wheel().unprocessed_wheel_delta, Vec2::new(5.0, 0.0));
+    assert_eq!(s.stream.panel.input.x_wheel().unprocessed_wheel_delta, Vec2::new(5.0, 0.0));
     s.taken(2.0, &wheel(0, 1, 1, 1, 9.0, -8.0));
     s.show("Slips: testing a click after the button is marked up");
     s.taken(1.0, &press(0.0, 0.0));
@@ -382,7 +382,7 @@ fn refused_feeds(s: &mut Script) {
             for good in [top, bottom] {
                 let mut e = kinds()[k].clone();
                 e[*place] = good.to_bits();
-                let t = s.panel.input.time;
+                let t = s.stream.panel.input.time;
                 s.taken(t, &e);
             }
         }
@@ -399,14 +399,14 @@ fn keys(s: &mut Script) {
     s.show("input_state: a key pressed again counts again; lifted, it is not down; focus lost clears keys and modifiers");
     let key = |k: u32, down: u32| event(1, k | down << 8, &[]);
     s.taken(1.0, &feed(&[&key(65, 1), &key(65, 1), &key(144, 1), &key(0, 1), &key(0, 0), &event(2, 21, &[])]));
-    assert_eq!((s.panel.input.num_presses(crate::Key(65)), s.panel.input.key_down(crate::Key(0))), (2, false));
+    assert_eq!((s.stream.panel.input.num_presses(crate::Key(65)), s.stream.panel.input.key_down(crate::Key(0))), (2, false));
     s.taken(1.125, &event(11, 1, &[]));
-    assert!(s.panel.input.key_down(crate::Key(144)));
+    assert!(s.stream.panel.input.key_down(crate::Key(144)));
     s.taken(1.25, &event(11, 0, &[]));
-    assert!(s.panel.input.keys_down.is_empty() && s.panel.input.modifiers.is_none());
+    assert!(s.stream.panel.input.keys_down.is_empty() && s.stream.panel.input.modifiers.is_none());
     s.show("input_state: zoom factors multiply, radians add");
     s.taken(1.0, &feed(&[&event(7, 0, &[1.5]), &event(8, 0, &[0.25]), &event(7, 0, &[3.0]), &event(8, 0, &[-0.75])]));
-    assert_eq!((s.panel.zoom().0, s.panel.rotation()), (4.5, Rotation::Radians(-0.5)));
+    assert_eq!((s.stream.panel.zoom().0, s.stream.panel.rotation()), (4.5, Rotation::Radians(-0.5)));
 }
 
 fn refused_numbers(s: &mut Script) {
@@ -463,7 +463,7 @@ fn refused_numbers(s: &mut Script) {
     s.p.time = None;
     let w = words::write_pass(&s.p, &press(0.0, 0.0));
     assert_eq!(s.call(PASS, &w), (0, 0));
-    assert_eq!(s.panel.input.time, 5.015625);
+    assert_eq!(s.stream.panel.input.time, 5.015625);
     s.show("Refusal 3: given time below the state's");
     s.taken(5.0, &[]);
     s.refused(crate::aimed::nudge(5.0, -1), &press(0.0, 0.0), 3, 0);

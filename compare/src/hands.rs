@@ -22,7 +22,7 @@ impl Maker {
         let mut at = self.place();
         let button = if self.rng().once_in(4) { self.rng().below(5) as u32 } else { 0 };
         for _ in 0..2 + self.rng().below(4) {
-            let again = self.s.panel.last_click_time() + self.s.options.max_double_click_delay;
+            let again = self.s.stream.panel.last_click_time() + self.s.options.max_double_click_delay;
             let press = match self.rng().below(4) {
                 0 => self.about(again),
                 1 => self.now(),
@@ -53,7 +53,7 @@ impl Maker {
             put(&mut feed, 3, 0, &[p.x, p.y]);
             self.soon(&feed);
         }
-        let start = self.s.panel.input.pointer.press_start_time().unwrap_or(0.0);
+        let start = self.s.stream.panel.input.pointer.press_start_time().unwrap_or(0.0);
         let release = match self.rng().below(5) {
             0 | 1 => self.about(start + o.max_click_duration),
             2 => self.about(again),
@@ -93,7 +93,7 @@ impl Maker {
                 let (x, y) = self.s.small_delta();
                 put(&mut feed, 4, 0, &[x, y]);
             }
-            let oldest = self.s.panel.oldest_sample_time().unwrap_or(0.0);
+            let oldest = self.s.stream.panel.oldest_sample_time().unwrap_or(0.0);
             let t = match self.rng().below(4) {
                 0 => self.about(oldest + f64::from(0.01f32)),
                 1 => self.about(oldest + 0.01),
@@ -256,7 +256,7 @@ impl Maker {
 
     /// The target alone, by the sense it has.
     fn hits_over(&mut self, target: u64) -> Hits {
-        let sense = self.s.panel.known_widgets().iter().find(|(i, _, _)| i.value() == target).map_or(3, |(_, _, w)| w.sense.bits().into());
+        let sense = self.s.stream.panel.known_widgets().iter().find(|(i, _, _)| i.value() == target).map_or(3, |(_, _, w)| w.sense.bits().into());
         crate::script::over(target, sense)
     }
 
@@ -299,7 +299,7 @@ impl Maker {
         let h = Hits { click: Some(Hit { id: 10, sense }), drag: Some(Hit { id: 10, sense }), contains_pointer: vec![Hit { id: 10, sense }], ..Default::default() };
         self.interact_with(&h);
         for _ in 0..3 {
-            let start = self.s.panel.input.pointer.press_start_time().unwrap_or(0.0);
+            let start = self.s.stream.panel.input.pointer.press_start_time().unwrap_or(0.0);
             let t = match self.rng().below(3) {
                 0 => self.about(start + self.s.options.max_click_duration),
                 1 => start + self.s.options.max_click_duration * 1.25,
@@ -466,7 +466,7 @@ impl Maker {
                 let m = self.s.flags();
                 put(&mut feed, 2, m, &[]);
             }
-            let last = self.s.panel.last_wheel_event();
+            let last = self.s.stream.panel.last_wheel_event();
             let t = match self.rng().below(5) {
                 0 => self.about(last + 0.15),
                 1 => self.about(last + 1.0),
@@ -594,7 +594,7 @@ impl Maker {
         }
         self.record(DUMP, &[]);
         for _ in 0..4 {
-            let oldest = self.s.panel.oldest_sample_time().unwrap_or(0.0);
+            let oldest = self.s.stream.panel.oldest_sample_time().unwrap_or(0.0);
             let t = self.about(oldest + f64::from(0.1f32));
             let mut feed = Vec::new();
             if self.rng().once_in(4) {

@@ -1,5 +1,5 @@
 //! The real egui 0.37.0 input files, compiled unchanged, with shims for the rest of egui,
-//! and 01-scope.md's domain in front of them. See FORMAT.md.
+//! 01-scope.md's domain in front of them, and the requests of 02 by level. See FORMAT.md.
 //!
 //! How the unchanged files find what they name:
 //! * `crate::X` is re-exported here from `shim`.
@@ -164,21 +164,31 @@ pub mod containers {
     pub use crate::shim::ui_types::CollapsingHeader;
 }
 
+/// The requests of 02 that are landed: A.1 to A.LEVEL. Each landing raises it by one.
+pub const LEVEL: u32 = 0;
+
 // ---------------------------------------------------------------------------
-// The driver, and the requests:
+// The driver, with 02's requests, and the requests that are made:
 
 pub mod aimed;
 pub mod bench;
+pub mod beside;
+pub mod click_box;
+pub mod counts;
 pub mod domain;
 pub mod edges;
+pub mod exponential;
 pub mod hands;
+pub mod kernel;
 pub mod limits;
 pub mod lists;
 pub mod maker;
 pub mod met;
 pub mod naming;
 pub mod panel;
+pub mod registers;
 pub mod scenes;
 pub mod script;
 pub mod surprises;
+pub mod survey;
 pub mod words;

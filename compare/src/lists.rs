@@ -2,11 +2,11 @@
 //! along a list, and two panels with different pasts after the same clearing pass.
 use crate::aimed::nudge;
 use crate::domain::Held;
-use crate::panel::{Hits, Panel, Pass};
+use crate::panel::{Hits, Pass};
 use crate::maker::Maker;
 use crate::scenes::Scene;
-use crate::words::{self, ASK, CLEAR, DUMP, INSERT, INTERACT, PASS, RESET, SET_TALLY};
-use crate::{Pos2, Rect, script};
+use crate::words::{self, ASK, CLEAR, DUMP, INSERT, INTERACT, PASS, RESET, SET_TALLY, Stream, tally_words};
+use crate::{LEVEL, Pos2, Rect, script};
 
 // ---------------------------------------------------------------- balance
 
@@ -39,7 +39,7 @@ impl Balance {
             self.open = started;
             self.starts += 1;
         }
-        let tally = *answer.last().expect("an answer");
+        let tally = answer[answer.len() - tally_words(LEVEL)];
         if dragged != self.open || tally != self.starts {
             return Err(format!("dragged {dragged}, tally {tally}; by the starts and stops {} and {}", self.open, self.starts));
         }
@@ -51,7 +51,7 @@ impl Balance {
 
 /// The second panel, and where the later list stands.
 pub struct Twin {
-    pub b: Panel,
+    pub b: Stream,
     pub answers_b: Vec<u32>,
     /// words 10 to 17 of the clearing pass
     options: Vec<u32>,
@@ -69,11 +69,6 @@ pub struct Twin {
     pub differs: Option<String>,
 }
 
-/// The answer record that starts there.
-pub fn record_at(answers: &[u32], at: usize) -> &[u32] {
-    &answers[at..at + 1 + (answers[at] & 0xFF_FFFF) as usize]
-}
-
 /// Both answers to one call of the later list, but for what 01 excepts.
 pub fn agree(call: u32, a: &[u32], b: &[u32], click_yet: bool) -> Result<(), String> {
     let (na, nb) = (a[0] >> 24, b[0] >> 24);
@@ -84,7 +79,7 @@ pub fn agree(call: u32, a: &[u32], b: &[u32], click_yet: bool) -> Result<(), Str
         return Ok(());
     }
     match call {
-        INTERACT if na == 0 && a[..a.len() - 1] != b[..b.len() - 1] => Err("interact".into()),
+        INTERACT if na == 0 && a[..a.len() - tally_words(LEVEL)] != b[..b.len() - tally_words(LEVEL)] => Err("interact".into()),
         INTERACT if na == 0 => Ok(()),
         ASK => asked(&a[1..], &b[1..], click_yet),
         _ if a != b => Err(format!("call {call}")),
@@ -117,7 +112,7 @@ fn asked(a: &[u32], b: &[u32], click_yet: bool) -> Result<(), String> {
 
 impl Twin {
     /// The second panel after the clearing pass, whose words are `pass`.
-    fn new(b: &Panel, pass: &[u32], clearing: &Pass, condition: bool) -> Self {
+    fn new(b: &Stream, pass: &[u32], clearing: &Pass, condition: bool) -> Self {
         Self {
             b: b.clone(),
             answers_b: Vec::new(),
@@ -137,7 +132,7 @@ impl Twin {
     }
 
     /// One call to both panels. It joins the list if both take it or both refuse it, and the first button event is as asked.
-    pub fn record(&mut self, a: &mut Panel, requests: &mut Vec<u32>, answers: &mut Vec<u32>, call: u32, w: &[u32]) {
+    pub fn record(&mut self, a: &mut Stream, requests: &mut Vec<u32>, answers: &mut Vec<u32>, call: u32, w: &[u32]) {
         if matches!(call, RESET | SET_TALLY | DUMP | ASK) || call > SET_TALLY {
             return;
         }
@@ -158,7 +153,7 @@ impl Twin {
             match first_button(&w[words::PASS_WORDS..]) {
                 None => {}
                 Some(pressed) => {
-                    if self.condition && !(pressed && a2.input.time - self.clearing >= self.twice) {
+                    if self.condition && !(pressed && a2.panel.input.time - self.clearing >= self.twice) {
                         return;
                     }
                     self.button_yet = true;
@@ -171,7 +166,7 @@ impl Twin {
         self.interacts += (call == INTERACT && taken) as u64;
         self.refused += !taken as u64;
         self.pass_yet |= call == PASS && taken;
-        self.click_yet |= call == PASS && taken && a.input.pointer.any_click();
+        self.click_yet |= call == PASS && taken && a.panel.input.pointer.any_click();
         self.keep(requests, answers, call, &w, ra, rb);
         if call == PASS || call == INTERACT {
             let (mut ra, mut rb) = (Vec::new(), Vec::new());
@@ -248,17 +243,17 @@ pub fn two_panels(seed: u64, condition: bool) -> Option<TwoPanels> {
         }
     }
     let mut later = Maker::new(seed ^ 0x5DEE_CE66, 20_000, 0, 0);
-    later.s.panel = past[0].s.panel.clone();
+    later.s.stream = past[0].s.stream.clone();
     later.s.options = options;
-    later.twin = Some(Twin::new(&past[1].s.panel, &pass, &clearing, condition));
+    later.twin = Some(Twin::new(&past[1].s.stream, &pass, &clearing, condition));
     later_list(&mut later, time, at);
     Some(TwoPanels { past, later })
 }
 
 /// The touches for which a clearing pass has an End.
 fn held_by_either(past: &[Maker; 2]) -> Held {
-    let mut held = past[0].s.panel.held();
-    for (d, touches) in past[1].s.panel.held() {
+    let mut held = past[0].s.stream.panel.held();
+    for (d, touches) in past[1].s.stream.panel.held() {
         match held.iter_mut().find(|(e, _)| *e == d) {
             Some((_, t)) => touches.iter().for_each(|id| if !t.contains(id) { t.push(*id) }),
             None => held.push((d, touches)),

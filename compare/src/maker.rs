@@ -1,9 +1,9 @@
 //! A trace as it grows, with egui's answers beside it, and the parts that scenes are made of.
-use crate::aimed::{DIRECTIONS, Rng, Stream, nudge, nudge32, put, some_options};
+use crate::aimed::{Aimed, DIRECTIONS, Rng, nudge, nudge32, put, some_options};
 use crate::lists::Twin;
 use crate::met::Met;
 use crate::panel::{Hits, Pass, Widget};
-use crate::words::{self, ASK, DUMP, INSERT, INTERACT, PASS, RESET, SET_TALLY};
+use crate::words::{self, ASK, DUMP, INSERT, INTERACT, PASS, RESET, RESTORE, RESTORE_LAST, SET_TALLY};
 use crate::{Pos2, domain};
 
 /// What one trace of `replay` may hold, in words.
@@ -11,7 +11,7 @@ pub const LIMIT: usize = (1 << 20) / 4 - 1;
 
 /// A trace as it grows: the requests, egui's answers to them, and what was met.
 pub struct Maker {
-    pub s: Stream,
+    pub s: Aimed,
     pub requests: Vec<u32>,
     pub answers: Vec<u32>,
     pub met: Met,
@@ -23,7 +23,7 @@ pub struct Maker {
     dump: u64,
     /// ASK and DUMP after each call
     pub all: bool,
-    /// a list from a fresh panel: no RESET, no SET_TALLY
+    /// a list from a fresh panel: no RESET, no SET_TALLY, nothing restored
     pub list: bool,
     /// a second panel that gets the same calls
     pub twin: Option<Twin>,
@@ -31,7 +31,7 @@ pub struct Maker {
 
 impl Maker {
     pub fn new(seed: u64, limit: usize, ask: u64, dump: u64) -> Self {
-        Self { s: Stream::new(seed), requests: Vec::new(), answers: Vec::new(), met: Met::default(), limit, full: false, ask, dump, all: false, list: false, twin: None }
+        Self { s: Aimed::new(seed), requests: Vec::new(), answers: Vec::new(), met: Met::default(), limit, full: false, ask, dump, all: false, list: false, twin: None }
     }
 
     /// Room for that many words more.
@@ -45,13 +45,13 @@ impl Maker {
     }
 
     pub fn now(&self) -> f64 {
-        self.s.panel.input.time
+        self.s.stream.panel.input.time
     }
 
     /// One request with egui's answer to it. Where the answer starts.
     pub fn record(&mut self, call: u32, w: &[u32]) -> usize {
         let at = self.answers.len();
-        if self.list && (call == RESET || call == SET_TALLY) {
+        if self.list && matches!(call, RESET | SET_TALLY | RESTORE_LAST | RESTORE) {
             return at;
         }
         if self.requests.len() + 1 + w.len() > self.limit {
@@ -59,15 +59,15 @@ impl Maker {
             return at;
         }
         if let Some(t) = &mut self.twin {
-            t.record(&mut self.s.panel, &mut self.requests, &mut self.answers, call, w);
-            self.s.time = self.s.panel.input.time;
+            t.record(&mut self.s.stream, &mut self.requests, &mut self.answers, call, w);
+            self.s.time = self.s.stream.panel.input.time;
             return at;
         }
         self.requests.push(call << 24 | w.len() as u32);
         self.requests.extend_from_slice(w);
-        words::answer(&mut self.s.panel, call, w, &mut self.answers);
-        self.met.count(&self.s.panel, call, w, &self.answers[at..]);
-        self.s.time = self.s.panel.input.time;
+        words::answer(&mut self.s.stream, call, w, &mut self.answers);
+        self.met.count(&self.s.stream.panel, call, w, &self.answers[at..]);
+        self.s.time = self.s.stream.panel.input.time;
         at
     }
 
@@ -84,7 +84,7 @@ impl Maker {
             self.record(ASK, &[]);
         }
         // a dump of a full history or widget set is long
-        let long = self.s.panel.widgets.x_count() > 100 || self.s.panel.input.pointer.x_view().pos_history.len() > 100;
+        let long = self.s.stream.panel.widgets.x_count() > 100 || self.s.stream.panel.input.pointer.x_view().pos_history.len() > 100;
         if dump != 0 && self.rng().once_in(if long { 20 * dump } else { dump }) {
             self.record(DUMP, &[]);
         }
@@ -189,7 +189,7 @@ impl Maker {
     }
 
     pub(crate) fn in_layer(&self, w: &Widget) -> u32 {
-        let known = self.s.panel.known_widgets();
+        let known = self.s.stream.panel.known_widgets();
         known.iter().filter(|(_, _, k)| k.layer_id.id.value() == w.layer && k.layer_id.order as u32 == w.order).count() as u32
     }
 

@@ -1,17 +1,19 @@
 //! What a run has met: calls by kind and answer, events by their fields, and the aims of the issue.
 use crate::input_state::PointerEvent;
 use crate::panel::Panel;
+use crate::words::CALLS;
 use crate::{domain, words};
 use std::collections::BTreeMap;
 
-pub const CALLS: [&str; 9] =
-    ["RESET", "PASS", "INSERT", "CLEAR_WIDGETS", "INTERACT", "ASK", "DUMP", "EXTRA", "SET_TALLY"];
 const KINDS: [&str; 16] = [
     "0", "key", "modifiers", "moved", "motion", "button", "gone", "zoom", "rotate", "touch", "wheel", "focus", "other", "13", "14", "15",
 ];
 pub const PHASES: [&str; 4] = ["Start", "Move", "End", "Cancel"];
 pub const UNITS: [&str; 3] = ["Point", "Line", "Page"];
 pub const SOURCES: [&str; 4] = ["Unknown", "Wheel", "Trackpad", "Momentum"];
+
+/// The place of all calls that FORMAT.md doesn't have.
+const UNKNOWN: usize = CALLS.len();
 
 /// What a run of ten traces or more must meet.
 const AIMS: [&str; 35] = [
@@ -55,7 +57,7 @@ const AIMS: [&str; 35] = [
 #[derive(Clone)]
 pub struct Met {
     /// by call (the last: any unknown one) and the answer's number
-    calls: Box<[[u64; 256]; 10]>,
+    calls: Box<[[u64; 256]; UNKNOWN + 1]>,
     events: [u64; 16],
     touches: [u64; 4],
     wheels: [u64; 48],
@@ -66,7 +68,7 @@ pub struct Met {
 impl Default for Met {
     fn default() -> Self {
         Self {
-            calls: Box::new([[0; 256]; 10]),
+            calls: Box::new([[0; 256]; UNKNOWN + 1]),
             events: [0; 16],
             touches: [0; 4],
             wheels: [0; 48],
@@ -75,6 +77,11 @@ impl Default for Met {
             aims: AIMS.iter().map(|a| (*a, 0)).collect(),
         }
     }
+}
+
+/// The place of a call in the table.
+fn row(call: u32) -> usize {
+    (call as usize).min(UNKNOWN)
 }
 
 impl Met {
@@ -87,7 +94,7 @@ impl Met {
     /// One answered call: `panel` is the one after it.
     pub fn count(&mut self, panel: &Panel, call: u32, w: &[u32], answer: &[u32]) {
         let number = (answer[0] >> 24) as usize;
-        self.calls[(call as usize).min(9)][number] += 1;
+        self.calls[row(call)][number] += 1;
         if number != 0 {
             return;
         }
@@ -131,11 +138,11 @@ impl Met {
         self.aim("the end of time", i.time == domain::MAX_TIME);
         self.aim("time -0.0", i.time == 0.0 && i.time.is_sign_negative());
         self.aim("1,000 samples in the history", i.pointer.x_view().pos_history.len() == 1000);
-        self.aim("64 events in a pass", i.events.len() == domain::MAX_EVENTS);
+        self.aim("64 events in a pass", i.events.len() == panel.limits().events);
         self.aim("4 devices", i.x_touch_states().len() == domain::MAX_DEVICES);
         for (k, t) in i.x_touch_states().values().enumerate() {
             let fingers = t.x_touches().count();
-            self.aim("10 touches on a device", fingers == domain::MAX_TOUCHES);
+            self.aim("10 touches on a device", fingers == panel.limits().touches);
             if let (Some(g), Some(m)) = (t.x_gesture(), t.info()) {
                 self.aim("gesture of a later device", k > 0);
                 self.aim("gesture of 2 fingers", fingers == 2);
@@ -193,13 +200,13 @@ impl Met {
 
     /// Calls of a kind with this answer.
     pub fn answered(&self, call: u32, number: u32) -> u64 {
-        self.calls[(call as usize).min(9)][number as usize]
+        self.calls[row(call)][number as usize]
     }
     pub fn taken(&self, call: u32) -> u64 {
         self.answered(call, 0)
     }
     pub fn refused(&self, call: u32) -> u64 {
-        self.calls[(call as usize).min(9)].iter().sum::<u64>() - self.taken(call)
+        self.calls[row(call)].iter().sum::<u64>() - self.taken(call)
     }
 
     pub fn total(&self) -> u64 {
@@ -218,11 +225,11 @@ impl Met {
             (5, &[0, 255]),
             (6, &[0, 255]),
             (8, &[0, 255]),
-            (9, &[255]),
+            (UNKNOWN, &[255]),
         ];
         for (call, numbers) in due {
             for n in numbers.iter().filter(|n| self.calls[call][**n] == 0) {
-                v.push(format!("{} answered {n}", CALLS.get(call).unwrap_or(&"an unknown call")));
+                v.push(format!("{} answered {n}", words::call_name(call as u32)));
             }
         }
         v.extend(self.missing_events());
@@ -248,12 +255,12 @@ impl Met {
     }
 
     pub fn print(&self) {
-        println!("calls by answer (0 taken, 1 to 10 refused by 01's table, 255 not in the form):");
+        println!("calls by answer (0 taken, 1 to 10 refused by 01's table, from 11 on by 02, 255 not in the form or not landed):");
         for (c, row) in self.calls.iter().enumerate() {
             let all: u64 = row.iter().sum();
             if all > 0 {
                 let parts: Vec<String> = row.iter().enumerate().filter(|(_, n)| **n > 0).map(|(k, n)| format!("{k}: {n}")).collect();
-                println!("  {:14} {all:9}   {}", CALLS.get(c).unwrap_or(&"unknown"), parts.join(", "));
+                println!("  {:14} {all:9}   {}", words::call_name(c as u32), parts.join(", "));
             }
         }
         let show = |names: &[&str], n: &[u64]| -> String {

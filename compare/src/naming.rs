@@ -1,18 +1,14 @@
 //! Words for people: what a request asks, and which field of an answer differs.
-use crate::met::{CALLS, PHASES, SOURCES, UNITS};
+use crate::met::{PHASES, SOURCES, UNITS};
 use crate::panel::Panel;
-use crate::words::{self, Out};
-use crate::{Event, domain};
+use crate::words::{self, Out, call_name};
+use crate::{Event, LEVEL, domain};
 
 const INTERACT: [&str; 5] = ["clicked", "long_touched", "drag_started", "dragged", "drag_stopped"];
 const RECORD: [&str; 17] = [
     "id", "id", "parent", "parent", "layer order", "layer id", "layer id", "rect min x", "rect min y", "rect max x", "rect max y",
     "interact rect min x", "interact rect min y", "interact rect max x", "interact rect max y", "sense", "enabled and visible",
 ];
-
-pub fn call_name(call: u32) -> &'static str {
-    CALLS.get(call as usize).copied().unwrap_or("unknown call")
-}
 
 /// Where two answers to a call first differ, by the name of the field. `panel` is egui's after the call.
 pub fn first_difference(panel: &Panel, call: u32, want: &[u32], got: &[u32]) -> String {
@@ -38,7 +34,8 @@ pub fn first_difference(panel: &Panel, call: u32, want: &[u32], got: &[u32]) -> 
             let (s, off) = o.name_of(k - 1);
             format!("{s}, its word {off}")
         }
-        _ => "?".to_string(),
+        words::EXP => "not within one part in 1,000,000".to_string(),
+        _ => "see FORMAT.md".to_string(),
     };
     let show = |v: &[u32]| v.get(k).map_or("nothing".to_string(), |x| format!("{x:08X} ({x}, {:e})", f32::from_bits(*x)));
     format!("word {} of the answer, {name}: egui {}, the program {}", k - 1, show(want), show(got))
@@ -53,7 +50,7 @@ fn interact_list(want: &[u32], k: usize) -> String {
         k if k < contains => format!("hovered, entry {}", (k - 12) / 2),
         k if k == contains => "number of contains_pointer".to_string(),
         k if k < contains + 1 + 2 * n => format!("contains_pointer, entry {}", (k - contains - 1) / 2),
-        _ => "tally".to_string(),
+        _ => "tally, or from A.8 on all starts".to_string(),
     }
 }
 
@@ -84,7 +81,7 @@ fn pass(w: &[u32]) -> String {
         let len = 1 + domain::LENGTHS[kind] + (kind == 9 && feed[at] & 4 != 0) as usize;
         let words = &feed[at..(at + len).min(feed.len())];
         let hex: Vec<String> = words.iter().map(|w| format!("{w:08X}")).collect();
-        let what = match domain::decode_feed(words, Vec::new()) {
+        let what = match domain::decode_feed(words, Vec::new(), domain::Limits::at(LEVEL)) {
             Ok(e) => e.first().map_or(String::new(), event),
             Err(r) => format!("refused by itself: {}", r.number),
         };

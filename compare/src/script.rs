@@ -1,12 +1,12 @@
 //! Traces written by hand, call by call, with egui's answers and the names of what they show.
 use crate::aimed::put;
-use crate::panel::{Hit, Hits, Interacted, Panel, Pass, Widget};
-use crate::words::{self, ASK, DUMP, INSERT, INTERACT, PASS, RESET};
+use crate::panel::{Hit, Hits, Interacted, Pass, Widget};
+use crate::words::{self, ASK, DUMP, INSERT, INTERACT, PASS, RESET, Stream};
 use crate::{Pos2, Rect};
 
 #[derive(Default)]
 pub struct Script {
-    pub panel: Panel,
+    pub stream: Stream,
     pub requests: Vec<u32>,
     pub answers: Vec<u32>,
     pub calls: usize,
@@ -38,7 +38,7 @@ impl Script {
         self.requests.push(call << 24 | w.len() as u32);
         self.requests.extend_from_slice(w);
         let at = self.answers.len();
-        words::answer(&mut self.panel, call, w, &mut self.answers);
+        words::answer(&mut self.stream, call, w, &mut self.answers);
         self.calls += 1;
         let a = &self.answers[at..];
         (a[0] >> 24, if a[0] >> 24 != 0 { a.get(1).copied().unwrap_or(0) } else { 0 })
@@ -74,14 +74,14 @@ impl Script {
     }
     /// A taken interact, and what it answers.
     pub fn answered(&mut self, h: &Hits) -> Interacted {
-        let a = self.panel.clone().interact(66, 66, h).expect("taken");
+        let a = self.stream.panel.clone().interact(66, 66, h).expect("taken");
         assert_eq!(self.interact(h), (0, 0));
         a
     }
     /// Counts of the clicks that the last pass's releases carry; 0: none.
     pub fn clicks(&self) -> Vec<u32> {
         use crate::input_state::PointerEvent::Released;
-        self.panel.input.pointer.pointer_events.iter().filter_map(|e| if let Released { click, .. } = e { Some(click.as_ref().map_or(0, |c| c.count)) } else { None }).collect()
+        self.stream.panel.input.pointer.pointer_events.iter().filter_map(|e| if let Released { click, .. } = e { Some(click.as_ref().map_or(0, |c| c.count)) } else { None }).collect()
     }
 }
 

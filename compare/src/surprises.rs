@@ -42,10 +42,10 @@ fn places(s: &mut Script) {
     s.show("Surprise: the pointer gone and then moved in one pass: its place is known, its history is empty");
     s.taken(1.0, &moved(1.0, 1.0));
     s.taken(1.0625, &feed(&[&gone, &moved(5.0, 5.0)]));
-    let p = &s.panel.input.pointer;
+    let p = &s.stream.panel.input.pointer;
     assert_eq!((p.latest_pos(), p.x_view().pos_history.len()), (Some(Pos2::new(5.0, 5.0)), 0));
     s.taken(1.125, &feed(&[&moved(6.0, 6.0), &gone]));
-    assert_eq!(s.panel.input.pointer.latest_pos(), None);
+    assert_eq!(s.stream.panel.input.pointer.latest_pos(), None);
     s.taken(1.25, &[]);
 }
 
@@ -59,7 +59,7 @@ fn directions(s: &mut Script) {
             s.taken(0.0, &moved(0.0, 0.0));
             s.taken(t, &moved(x, -x));
             s.taken(t + t, &moved(0.0, x));
-            let v = s.panel.input.pointer.x_view().pos_history.velocity().unwrap_or_default();
+            let v = s.stream.panel.input.pointer.x_view().pos_history.velocity().unwrap_or_default();
             infinite += (v != Vec2::ZERO && !(v.x * v.x + v.y * v.y).is_finite()) as u32;
             zero += (v != Vec2::ZERO && v.x * v.x + v.y * v.y == 0.0) as u32;
             s.taken(t + t + 1.0 / 64.0, &feed(&[&moved(-x, x), &event(6, 0, &[])]));
@@ -81,7 +81,7 @@ fn smoothness(s: &mut Script) {
     for y in [8.0, f32::from_bits(8.0f32.to_bits() - 1), -8.0] {
         s.show(&format!("Surprise: a Point delta (0,{y}): smoothed from 8 on, whatever its sign"));
         s.taken(1.0, &wheel(0, 1, 1, 0, 0.0, y));
-        assert_eq!(s.panel.input.x_wheel().unprocessed_wheel_delta == Vec2::ZERO, y.abs() < 8.0);
+        assert_eq!(s.stream.panel.input.x_wheel().unprocessed_wheel_delta == Vec2::ZERO, y.abs() < 8.0);
         s.taken(1.0625, &[]);
         s.taken(1.125, &[]);
     }
@@ -151,9 +151,9 @@ fn glass(s: &mut Script) {
     s.show("Surprise: a gesture waits for a pointer, starts where it was, and outlives it by a pass");
     s.taken(1.0, &feed(&[&touch(1, 1, 0, 0.0, 0.0), &touch(1, 2, 0, 4.0, 4.0)]));
     s.taken(1.0625, &moved(5.0, 5.0));
-    assert!(s.panel.input.multi_touch().is_none());
+    assert!(s.stream.panel.input.multi_touch().is_none());
     s.taken(1.125, &moved(6.0, 6.0));
-    assert_eq!(s.panel.input.multi_touch().expect("a gesture").start_pos, Pos2::new(5.0, 5.0));
+    assert_eq!(s.stream.panel.input.multi_touch().expect("a gesture").start_pos, Pos2::new(5.0, 5.0));
     s.taken(1.1875, &event(6, 0, &[]));
     s.taken(1.25, &[]);
     s.show("Surprise: ten touches of one device, ids out of order; one replaced, others unheld, then lifted one by one");
@@ -171,7 +171,7 @@ fn devices(s: &mut Script) {
     s.show("Surprise: four devices, out of order, known by any phase; the gesture is the first device's that has one");
     s.taken(1.0, &moved(1.0, 2.0));
     s.taken(1.0625, &feed(&[&touch(9, 1, 2, 0.0, 0.0), &touch(3, 1, 1, 0.0, 0.0), &touch(6, 1, 0, 1.0, 1.0), &touch(0, 1, 3, 0.0, 0.0), &touch(6, 0, 0, 5.0, 5.0)]));
-    assert_eq!(s.panel.input.x_touch_states().len(), 4);
+    assert_eq!(s.stream.panel.input.x_touch_states().len(), 4);
     s.taken(1.125, &feed(&[&touch(3, 8, 0, 1.0, 2.0), &touch(3, 9, 0, 3.0, 5.0), &touch(9, 8, 0, 1.0, 2.0), &touch(9, 1, 0, 70.0, 5.0)]));
     s.taken(1.1875, &feed(&[&touch(3, 9, 1, 4.0, 5.0), &touch(9, 1, 1, 75.0, 5.0), &touch(6, 1, 2, 1.0, 1.0)]));
     s.taken(1.25, &[]);

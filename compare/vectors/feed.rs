@@ -13,8 +13,8 @@
 //!
 //! Modifiers: word 0 is 2; 1 the flags of `self`; 2 has bit p where `self.matches_any(p)`; 3 to 7 have bit p where
 //! `self | p` has alt, ctrl, shift, mac_cmd, command.
-use fivvarul_compare::domain::{self, LENGTHS};
-use fivvarul_compare::{Event, Modifiers, MouseWheelSource, MouseWheelUnit, PointerButton, TouchPhase};
+use fivvarul_compare::domain::{self, LENGTHS, Limits};
+use fivvarul_compare::{Event, LEVEL, Modifiers, MouseWheelSource, MouseWheelUnit, PointerButton, TouchPhase};
 use std::io::Write;
 
 /// Marsaglia's xorshift64: the same cases at each run.
@@ -129,7 +129,7 @@ impl Cases {
         let kind = (head >> 28) as usize;
         let len = 1 + LENGTHS[kind] + (kind == 9 && head & 4 != 0) as usize;
         let end = feed.len().min(at + len);
-        let (refusal, next, event) = match domain::decode_feed(&feed[at..end], Vec::new()) {
+        let (refusal, next, event) = match domain::decode_feed(&feed[at..end], Vec::new(), Limits::at(LEVEL)) {
             Ok(events) => (0, at + len, fields(&events[0])),
             Err(r) => (r.number, 0, [0; 11]),
         };

@@ -5,9 +5,9 @@
 //!   their answers agree, but for what 01 excepts;
 //! * the same without that condition on the first button event: some lists must differ, else the check sees nothing;
 //! * along random lists each drag stop follows a start of the same id, at most one is open, the tally counts the starts.
-use fivvarul_compare::lists::{Balance, agree, record_at, two_panels};
+use fivvarul_compare::lists::{Balance, agree, two_panels};
 use fivvarul_compare::maker::{LIMIT, Maker};
-use fivvarul_compare::words::{self, INTERACT, PASS, RESET};
+use fivvarul_compare::words::{self, INTERACT, PASS, RESET, record_at};
 use std::io::{Read, Write};
 use std::process::{Command, ExitCode, Stdio};
 use std::time::Instant;

@@ -1,7 +1,7 @@
 //! generate SEED CALLS [DUMP_EVERY] > requests
 //! generate scenes SEED > requests      the runner's trace of that seed, just under 1 MiB
 //! A stream of aimed requests: after each call that can change the state an ASK, after every DUMP_EVERY-th (default 1; 0: never) a DUMP.
-use fivvarul_compare::aimed::Stream;
+use fivvarul_compare::aimed::Aimed;
 use fivvarul_compare::{scenes, words};
 use std::io::Write;
 
@@ -15,9 +15,9 @@ fn main() -> std::io::Result<()> {
         return out.flush();
     }
     let (seed, calls, every) = (n(1, 1), n(2, 100), n(3, 1));
-    let mut stream = Stream::new(seed);
+    let mut aimed = Aimed::new(seed);
     for k in 0..calls {
-        let mut w = stream.next_call();
+        let mut w = aimed.next_call();
         w.extend(words::record(words::ASK, &[]));
         if every != 0 && k % every == 0 {
             w.extend(words::record(words::DUMP, &[]));

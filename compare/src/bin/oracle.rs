@@ -1,8 +1,8 @@
-//! oracle < requests > answers     See FORMAT.md.
-//! oracle --text < requests        one line of hexadecimal words for each answer record
-//! oracle --sums < requests        one line for each answer record: its checksum, 16 hexadecimal digits
-use fivvarul_compare::panel::Panel;
-use fivvarul_compare::words;
+//! oracle [LEVEL] < requests > answers     See FORMAT.md. LEVEL: all requests up to A.LEVEL are landed; default: what is.
+//! oracle [LEVEL] --text < requests        one line of hexadecimal words for each answer record
+//! oracle [LEVEL] --sums < requests        one line for each answer record: its checksum, 16 hexadecimal digits
+use fivvarul_compare::LEVEL;
+use fivvarul_compare::words::{self, Stream};
 use std::io::{BufReader, BufWriter, Read, Write};
 
 fn word(r: &mut impl Read) -> std::io::Result<Option<u32>> {
@@ -20,9 +20,10 @@ fn word(r: &mut impl Read) -> std::io::Result<Option<u32>> {
 fn main() -> std::io::Result<()> {
     let text = std::env::args().any(|a| a == "--text");
     let sums = std::env::args().any(|a| a == "--sums");
+    let level = std::env::args().skip(1).find_map(|a| words::level_of(&a)).unwrap_or(LEVEL);
     let mut r = BufReader::with_capacity(1 << 16, std::io::stdin().lock());
     let mut out = BufWriter::with_capacity(1 << 16, std::io::stdout().lock());
-    let mut panel = Panel::default();
+    let mut stream = Stream::new(level);
     let mut request = Vec::new();
     let mut answers = Vec::new();
     while let Some(head) = word(&mut r)? {
@@ -33,7 +34,7 @@ fn main() -> std::io::Result<()> {
         }
         request.extend(bytes.chunks(4).map(|c| u32::from_le_bytes([c[0], c[1], c[2], c[3]])));
         answers.clear();
-        words::answer(&mut panel, head >> 24, &request, &mut answers);
+        words::answer(&mut stream, head >> 24, &request, &mut answers);
         if sums {
             writeln!(out, "{:016x}", words::checksum(&answers))?;
         } else if text {

@@ -5,10 +5,11 @@
 //! Ends after N calls or S seconds (default 1,000,000 calls) with 0, or at the first difference with
 //! 1: then the request, the field's name, and the trace up to there in FILE. Without PROGRAM, egui alone.
 use fivvarul_compare::aimed::Rng;
+use fivvarul_compare::beside::Beside;
 use fivvarul_compare::maker::Maker;
 use fivvarul_compare::met::Met;
-use fivvarul_compare::panel::Panel;
-use fivvarul_compare::{naming, scenes, words};
+use fivvarul_compare::words::record_at;
+use fivvarul_compare::{LEVEL, scenes};
 use std::io::Read;
 use std::process::{Command, ExitCode, Stdio};
 use std::time::Instant;
@@ -58,46 +59,41 @@ fn child(a: &Args, file: &str, trace: &[u8], room: usize) -> Result<Vec<u8>, Str
     if status.success() { Ok(out) } else { Err(format!("the program ends with {status}")) }
 }
 
-/// How many answer words the records within the first `cut` bytes have.
-fn answered(requests: &[u32], answers: &[u32], cut: usize) -> usize {
+/// How many request words the whole records within the first `cut` bytes have, and how many their answers.
+fn whole_records(requests: &[u32], answers: &[u32], cut: usize) -> (usize, usize) {
     let (mut i, mut j) = (0, 0);
     while i < requests.len() {
-        i += 1 + (requests[i] & 0xFF_FFFF) as usize;
-        if 4 * i > cut {
-            return j;
+        let end = i + 1 + (requests[i] & 0xFF_FFFF) as usize;
+        if 4 * end > cut {
+            return (i, j);
         }
+        i = end;
         j += 1 + (answers[j] & 0xFF_FFFF) as usize;
     }
-    j
+    (i, j)
 }
 
-/// Names the first record whose answers differ; the words of the trace up to and with it.
-fn explain(seed: u64, requests: &[u32], answers: &[u32], got: &[u32]) -> usize {
-    let mut panel = Panel::default();
+/// Names the first record that is answered wrongly: the words of the trace up to and with it. None: every answer is
+/// right, if not egui's own word for word (`words::judge`).
+fn explain(seed: u64, requests: &[u32], got: &[u8]) -> Option<usize> {
+    let words: Vec<u32> = got.chunks_exact(4).map(|c| u32::from_le_bytes([c[0], c[1], c[2], c[3]])).collect();
+    let mut beside = Beside::default();
     let (mut i, mut j, mut n) = (0, 0, 0);
-    let mut last = 0;
     while i < requests.len() {
-        let (call, len) = (requests[i] >> 24, (requests[i] & 0xFF_FFFF) as usize);
-        let w = &requests[i + 1..i + 1 + len];
-        words::answer(&mut panel, call, w, &mut Vec::new());
-        let want = &answers[j..j + 1 + (answers[j] & 0xFF_FFFF) as usize];
-        let have = got.get(j..).unwrap_or(&[]);
-        let have = &have[..have.first().map_or(0, |h| 1 + (h & 0xFF_FFFF) as usize).min(have.len())];
-        if call != words::ASK && call != words::DUMP {
-            last = i;
+        let (request, have) = (record_at(requests, i), record_at(&words, j));
+        i += request.len();
+        j += have.len();
+        if let Some(wrong) = beside.record(request[0] >> 24, &request[1..], have) {
+            println!("seed {seed}, call {n} {wrong}\n  {}", beside.last());
+            return Some(i);
         }
-        if want != have {
-            println!("seed {seed}, call {n} ({}): {}", naming::call_name(call), naming::first_difference(&panel, call, want, have));
-            let l = (requests[last] & 0xFF_FFFF) as usize;
-            println!("  {}", naming::decoded(requests[last] >> 24, &requests[last + 1..last + 1 + l]));
-            return i + 1 + len;
-        }
-        i += 1 + len;
-        j += want.len();
         n += 1;
     }
-    println!("seed {seed}: {} words left over after the last answer", got.len() - j);
-    i
+    if 4 * j == got.len() {
+        return None;
+    }
+    println!("seed {seed}: {} bytes left over after the last answer", got.len() - 4 * j);
+    Some(i)
 }
 
 /// True: the program gives egui's answers to this trace, and to it cut short now and then.
@@ -108,21 +104,22 @@ fn compared(a: &Args, file: &str, seed: u64, m: &Maker) -> bool {
         cuts.push(Rng::new(seed).below(trace.len() as u64) as usize);
     }
     for cut in cuts {
-        let want = bytes(&m.answers[..answered(&m.requests, &m.answers, cut)]);
-        match child(a, file, &trace[..cut], want.len()) {
+        let (asked, answered) = whole_records(&m.requests, &m.answers, cut);
+        let want = bytes(&m.answers[..answered]);
+        let got = match child(a, file, &trace[..cut], want.len()) {
             Err(e) => {
                 println!("seed {seed}: {e}; its trace: {file}");
                 return false;
             }
-            Ok(got) if got != want => {
-                let got: Vec<u32> = got.chunks_exact(4).map(|c| u32::from_le_bytes([c[0], c[1], c[2], c[3]])).collect();
-                let end = explain(seed, &m.requests, &m.answers, &got);
-                let _ = std::fs::remove_file(file);
-                std::fs::write(&a.keep, &trace[..cut.min(4 * end)]).expect("the trace is kept");
-                println!("  the trace up to there: {}", a.keep);
-                return false;
-            }
-            Ok(_) => {}
+            Ok(got) => got,
+        };
+        if got != want
+            && let Some(end) = explain(seed, &m.requests[..asked], &got)
+        {
+            let _ = std::fs::remove_file(file);
+            std::fs::write(&a.keep, &trace[..cut.min(4 * end)]).expect("the trace is kept");
+            println!("  the trace up to there: {}", a.keep);
+            return false;
         }
     }
     true
@@ -149,7 +146,7 @@ fn main() -> ExitCode {
     met.print();
     let spent = start.elapsed().as_secs_f64();
     println!(
-        "{} calls in {} traces (seeds {} to {}), {words} answer words, {}; {spent:.1} s, {own:.1} of them egui's and the generator's",
+        "{} calls in {} traces (seeds {} to {}) at level {LEVEL}, {words} answer words, {}; {spent:.1} s, {own:.1} of them egui's and the generator's",
         met.total(), seed - a.seed, a.seed, seed - 1, if a.program.is_empty() { "egui alone" } else { "no difference" }
     );
     let missing = met.missing();

@@ -25,7 +25,7 @@ impl Day {
     fn pass(&mut self, words: &[u32]) {
         self.time += 1.0 / 8.0;
         self.s.taken(self.time, words);
-        let at = self.s.panel.input.pointer.interact_pos();
+        let at = self.s.stream.panel.input.pointer.interact_pos();
         self.s.answered(&hits(at));
     }
     fn finger_down(&mut self, x: f32, y: f32) {
@@ -70,19 +70,19 @@ fn main() -> std::io::Result<()> {
     for k in 1..=6 {
         d.finger_to(90.0 + 40.0 * k as f32, 70.0 + 60.0 * k as f32);
     }
-    assert_eq!((d.s.panel.tally, d.s.panel.snapshot.dragged.map(|i| i.value())), (1, Some(101)));
+    assert_eq!((d.s.stream.panel.tally, d.s.stream.panel.snapshot.dragged.map(|i| i.value())), (1, Some(101)));
     // the release and the touch's End are lost; late moves still drag job 101
     d.time += 1.0;
     d.finger_to(500.0, 440.0);
     d.pass(&[]);
-    assert_eq!(d.s.panel.snapshot.dragged.map(|i| i.value()), Some(101));
+    assert_eq!(d.s.stream.panel.snapshot.dragged.map(|i| i.value()), Some(101));
     // the clearing pass ends it
     d.time += 1.0;
     d.s.p.screen_rect = Some(rect(0.0, 0.0, 800.0, 480.0));
-    let held = d.s.panel.held();
+    let held = d.s.stream.panel.held();
     d.pass(&script::clearing_feed(&held, Pos2::new(400.0, 300.0)));
     d.s.p.screen_rect = None;
-    assert_eq!(d.s.panel.snapshot.drag_stopped.map(|i| i.value()), Some(101));
+    assert_eq!(d.s.stream.panel.snapshot.drag_stopped.map(|i| i.value()), Some(101));
     // the next drag: job 102, released this time; a click on job 103 after it
     d.time += 1.0;
     d.finger_down(290.0, 70.0);
@@ -90,12 +90,12 @@ fn main() -> std::io::Result<()> {
         d.finger_to(290.0, 70.0 + 60.0 * k as f32);
     }
     d.finger_up(290.0, 430.0);
-    assert_eq!(d.s.panel.snapshot.drag_stopped.map(|i| i.value()), Some(102));
+    assert_eq!(d.s.stream.panel.snapshot.drag_stopped.map(|i| i.value()), Some(102));
     d.time += 1.0;
     d.finger_down(490.0, 70.0);
     d.finger_up(490.0, 70.0);
-    assert_eq!(d.s.panel.snapshot.clicked.map(|i| i.value()), Some(103));
-    assert_eq!(d.s.panel.tally, 2);
+    assert_eq!(d.s.stream.panel.snapshot.clicked.map(|i| i.value()), Some(103));
+    assert_eq!(d.s.stream.panel.tally, 2);
     // what a cable can do besides: a word is cut off, and the pass is refused
     d.s.refused(d.time + 1.0, &press(1.0, 1.0)[..2], 1, 0);
     let bytes: Vec<u8> = d.s.requests.iter().flat_map(|w| w.to_le_bytes()).collect();
