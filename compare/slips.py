@@ -15,7 +15,7 @@ MOD, WHEEL = ('egui-src/src/input_state/%s.rs' % f for f in ('mod', 'wheel_state
 # the copy that is built: see build.sh
 TOUCH = 'egui-src/wrap/input_state/touch_state.rs'
 ACT, RECT = 'egui-src/src/interaction.rs', 'egui-src/src/widget_rect.rs'
-EMATH, DOMAIN, PANEL = 'src/shim/emath_types.rs', 'src/domain.rs', 'src/panel.rs'
+EMATH, DOMAIN, PANEL, WORDS = 'src/shim/emath_types.rs', 'src/domain.rs', 'src/panel.rs', 'src/words.rs'
 
 # name, file, what stands there, what stands there after the slip
 SLIPS = [
@@ -116,6 +116,8 @@ SLIPS = [
     ('a time before is taken', PANEL, 'p.time.is_some_and(|t| t < self.input.time)', 'p.time.is_some_and(|t| t + 1e-9 < self.input.time)'),
     ('a drag start at the end of the tally is taken', PANEL, 'if tally == u32::MAX {\n                    return refuse(10);\n                }\n                tally += 1;', 'tally = tally.wrapping_add(1);'),
     ('a refused start changes the potential ids', PANEL, '                    return refuse(10);', '                    self.interaction = interaction;\n                    return refuse(10);'),
+    # 02
+    ('a call that is not landed is answered', WORDS, '_ if !exists(call, level) => Err(MALFORMED),', '_ if !exists(call, LAST_LEVEL) => Err(MALFORMED),'),
 ]
 # slips after which a clearing pass no longer makes two panels alike
 UNCLEARED = ['focus lost keeps the keys', 'focus lost keeps the modifiers', 'End keeps what is unprocessed', 'a press keeps "moved too much"', 'motion stays']

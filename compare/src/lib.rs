@@ -180,6 +180,7 @@ pub mod edges;
 pub mod exponential;
 pub mod hands;
 pub mod kernel;
+pub mod later;
 pub mod limits;
 pub mod lists;
 pub mod maker;

@@ -32,7 +32,7 @@ impl Maker {
         }
     }
 
-    fn whole_event(&mut self) -> Vec<u32> {
+    pub(crate) fn whole_event(&mut self) -> Vec<u32> {
         let kind = 1 + self.rng().below(12) as u32;
         let mut e = Vec::new();
         let (flags, p) = (self.s.flags(), self.place());
@@ -57,7 +57,7 @@ impl Maker {
     }
 
     /// True: the feed must end here.
-    fn damage(&mut self, e: &mut Vec<u32>) -> bool {
+    pub(crate) fn damage(&mut self, e: &mut Vec<u32>) -> bool {
         let kind = e[0] >> 28;
         match self.rng().below(7) {
             0 if e.len() > 1 => {

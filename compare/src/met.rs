@@ -2,7 +2,7 @@
 use crate::input_state::PointerEvent;
 use crate::panel::Panel;
 use crate::words::CALLS;
-use crate::{domain, words};
+use crate::{LEVEL, domain, words};
 use std::collections::BTreeMap;
 
 const KINDS: [&str; 16] = [
@@ -12,11 +12,14 @@ pub const PHASES: [&str; 4] = ["Start", "Move", "End", "Cancel"];
 pub const UNITS: [&str; 3] = ["Point", "Line", "Page"];
 pub const SOURCES: [&str; 4] = ["Unknown", "Wheel", "Trackpad", "Momentum"];
 
+/// Left out once every call of FORMAT.md is landed.
+const NOT_LANDED: &str = "a call that is not landed";
 /// The place of all calls that FORMAT.md doesn't have.
 const UNKNOWN: usize = CALLS.len();
 
 /// What a run of ten traces or more must meet.
-const AIMS: [&str; 35] = [
+const AIMS: [&str; 36] = [
+    NOT_LANDED,
     "10 touches on a device",
     "1,000 samples in the history",
     "1,024 widgets",
@@ -95,6 +98,7 @@ impl Met {
     pub fn count(&mut self, panel: &Panel, call: u32, w: &[u32], answer: &[u32]) {
         let number = (answer[0] >> 24) as usize;
         self.calls[row(call)][number] += 1;
+        self.aim(NOT_LANDED, row(call) < UNKNOWN && !words::exists(call, panel.level));
         if number != 0 {
             return;
         }
@@ -233,7 +237,8 @@ impl Met {
             }
         }
         v.extend(self.missing_events());
-        v.extend(self.aims.iter().filter(|(_, n)| **n == 0).map(|(a, _)| a.to_string()));
+        let all_landed = CALLS.iter().all(|(_, from)| LEVEL >= *from);
+        v.extend(self.aims.iter().filter(|(a, n)| **n == 0 && !(all_landed && **a == NOT_LANDED)).map(|(a, _)| a.to_string()));
         v
     }
 

@@ -1,11 +1,12 @@
-//! Traces of aimed scenes, with egui's answers: what a hand (`hands`), a cable or a careless host (`limits`) does.
+//! Traces of aimed scenes, with egui's answers: what a hand (`hands`), a cable or a careless host (`limits`),
+//! a host that asks for 02's requests (`later`) does.
 //! ASK follows most calls and DUMP some. Between scenes come stretches of `aimed`'s requests.
 use crate::maker::{LIMIT, Maker};
 use crate::words::{ASK, DUMP};
 
 pub type Scene = fn(&mut Maker);
 /// The scenes, and how often each comes. The long ones (a full history, a full widget set) are rarer.
-const SCENES: [(u32, Scene); 22] = [
+const SCENES: [(u32, Scene); 23] = [
     (30, Maker::plain),
     (12, Maker::clicks),
     (6, Maker::moves),
@@ -19,6 +20,7 @@ const SCENES: [(u32, Scene); 22] = [
     (3, Maker::many_events),
     (4, Maker::own_numbers),
     (3, Maker::malformed),
+    (3, Maker::later_calls),
     (3, Maker::keys),
     (4, Maker::hit_lists),
     (3, Maker::tally),

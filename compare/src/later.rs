@@ -1,0 +1,152 @@
+//! The calls of 02's requests with words in their form. Below the level from which a call exists it answers 255; from there
+//! on the same words are what the comparison meets first.
+use crate::aimed::nudge;
+use crate::maker::{Maker, any_float};
+use crate::words::*;
+
+const CALLS_OF_02: [u32; 16] =
+    [SET_TALLY, KERNEL, RESTED, EXP, PARK, RESTORE_LAST, RESTORE, SURVEY, SHORTEN, BOX, REG_PUSH, REG_READ, REG_WRITE, REG_LINE, COMPOSE, COUNTS];
+/// The words of a clearing pass when no touch is held.
+const CLEARING_WORDS: u32 = 23;
+
+impl Maker {
+    pub fn later_calls(&mut self) {
+        for _ in 0..8 {
+            let call = self.rng().pick(&CALLS_OF_02);
+            let w = self.later_words(call);
+            self.call(call, &w);
+            // a foreign image that a program takes leaves a panel that egui doesn't know
+            if call == RESTORE && exists(call, self.s.stream.panel.level) {
+                self.call(RESET, &[]);
+            }
+        }
+    }
+
+    fn later_words(&mut self, call: u32) -> Vec<u32> {
+        match call {
+            SET_TALLY => vec![10 + self.rng().below(5) as u32, 0, self.rng().pick(&[0, 1, 5, u32::MAX - 1, u32::MAX])],
+            KERNEL => self.kernel_words(),
+            EXP => vec![self.exponent().to_bits()],
+            PARK => vec![self.rng().pick(&[0, ENOUGH_PLACES, ENOUGH_PLACES])],
+            RESTORE => self.image(),
+            SURVEY => self.odd_feed(),
+            SHORTEN => {
+                let feed = self.odd_feed();
+                let places = feed.len() as u32;
+                let mut w = vec![self.rng().pick(&[places, places, places + 1, places.saturating_sub(1), 0])];
+                w.extend(feed);
+                w
+            }
+            BOX => self.finger_box(),
+            REG_PUSH => self.pushed(),
+            REG_READ => vec![self.rng().below(18) as u32],
+            REG_WRITE => vec![self.rng().pick(&[1, 1, 2, 2, 0, 3, 15, 16]), self.rng().pick(&[0, 1, 2, 4, 7, 255, 0x107])],
+            COMPOSE => self.to_compose(),
+            _ => Vec::new(),
+        }
+    }
+
+    /// Device, places, bytes; then records of 24 bytes, six words each: a time, type and code, the value.
+    fn kernel_words(&mut self) -> Vec<u32> {
+        let mut w = vec![self.rng().pick(&[1, 7]), 0, self.rng().pick(&[0, 7, 13, 14, 448, 1000]), 0];
+        let records = self.rng().below(12) as u32;
+        for _ in 0..records {
+            let (kind, code, value) = self.kernel_record();
+            w.extend([self.s.rng.word() as u32, 0, 5, 0, kind | code << 16, value as u32]);
+        }
+        w[3] = 24 * records;
+        // a length that is no multiple of 24
+        if self.rng().once_in(8) {
+            w[3] += 4;
+            w.push(0);
+        }
+        w
+    }
+
+    fn kernel_record(&mut self) -> (u32, u32, i32) {
+        let rng = self.rng();
+        match rng.below(12) {
+            0 | 1 => (3, 0x2F, rng.pick(&[0, 0, 1, 2, 9, 9, 10, 15, 16, -1])),
+            2 | 3 => (3, 0x35, rng.pick(&[0, 100, 640, -1, 65_536, -65_536, 65_537])),
+            4 | 5 => (3, 0x36, rng.pick(&[0, 100, 480, -1, 65_536, -65_536, -65_537])),
+            6 | 7 => (3, 0x39, rng.pick(&[0, 1, 2, 40, -1, -1, i32::MAX, -2])),
+            8 => (rng.pick(&[1, 3]), rng.pick(&[0x14A, 0x3A]), 1),
+            9 if rng.once_in(3) => (0, 3, 0),
+            _ => (0, 0, rng.pick(&[0, 0, 1])),
+        }
+    }
+
+    fn exponent(&mut self) -> f32 {
+        let (unit, any) = (self.rng().unit(), any_float(self.rng()));
+        let past = f32::from_bits(1.0f32.to_bits() + 1);
+        self.rng().pick(&[0.0, -0.0, 1.0, -1.0, 0.5, unit, -unit, any, past, -past, f32::NAN, f32::INFINITY, f32::from_bits(1)])
+    }
+
+    /// A first word, right or not, alone or with foreign words after it.
+    fn image(&mut self) -> Vec<u32> {
+        let first = self.rng().pick(&[13 << 28 | 1, 13 << 28 | 1, 13 << 28 | 2, 13 << 28 | 3, 13 << 28 | 4, 13 << 28, 12 << 28 | 1, 0]);
+        let mut w = vec![first; self.rng().pick(&[1, 1, 1, 0])];
+        for _ in 0..self.rng().pick(&[0, 0, 1, 20]) {
+            w.push(self.s.rng.word() as u32 >> self.s.rng.below(32));
+        }
+        w
+    }
+
+    /// Some events, one of them perhaps damaged.
+    fn odd_feed(&mut self) -> Vec<u32> {
+        let mut feed = Vec::new();
+        for _ in 0..self.rng().pick(&[0, 1, 2, 5, 66]) {
+            self.s.event(&mut feed);
+        }
+        if self.rng().once_in(2) {
+            let mut e = self.whole_event();
+            let last = self.damage(&mut e);
+            feed.extend(e);
+            if !last {
+                self.s.event(&mut feed);
+            }
+        }
+        feed
+    }
+
+    /// A press, and a box about the click distance from it; now and then inside out.
+    fn finger_box(&mut self) -> Vec<u32> {
+        let press = self.place();
+        let distance = self.s.options.max_click_dist;
+        let (a, b) = (self.around(press, distance), self.around(press, distance));
+        let corner = if self.rng().once_in(4) { a } else { b };
+        let mut floats = [press.x, press.y, a.x.min(corner.x), a.y.min(corner.y), a.x.max(corner.x), a.y.max(corner.y), distance];
+        if self.rng().once_in(6) {
+            floats.swap(2, 4);
+        }
+        if self.rng().once_in(8) {
+            let k = self.rng().below(7) as usize;
+            floats[k] = self.rng().pick(&[f32::NAN, f32::INFINITY, -65_537.0]);
+        }
+        floats.iter().map(|v| v.to_bits()).collect()
+    }
+
+    /// An event, whole, damaged or with one after it; or nothing.
+    fn pushed(&mut self) -> Vec<u32> {
+        let mut e = self.whole_event();
+        match self.rng().below(8) {
+            0 => e.clear(),
+            1 => {
+                self.damage(&mut e);
+            }
+            2 => e.push(12 << 28),
+            _ => {}
+        }
+        e
+    }
+
+    /// Position, time, rectangle, places.
+    fn to_compose(&mut self) -> Vec<u32> {
+        let (at, now) = (self.place(), self.now());
+        let time = self.rng().pick(&[now, now, now + 1.0, nudge(now, -1), f64::NAN]).to_bits();
+        let mut w = vec![at.x.to_bits(), at.y.to_bits(), time as u32, (time >> 32) as u32];
+        w.extend([0.0f32, 0.0, 800.0, self.rng().pick(&[480.0, 480.0, 480.0, -480.0, 65_537.0])].map(f32::to_bits));
+        w.push(self.rng().pick(&[448, 448, CLEARING_WORDS, CLEARING_WORDS - 1, 0]));
+        w
+    }
+}
