@@ -6,6 +6,10 @@ set -eu
 here=$(cd "$(dirname "$0")" && pwd)
 root=$here/..
 rt=${RT_HOME:-/opt/rattle}
+. "$root/.ci/lock.sh"
+lock bench "$root"
+trap unlock EXIT
+trap 'exit 130' INT
 (cd "$root" && rt check bench_calls >/dev/null)
 [ -d "$root/compare/egui-src" ] || NO_BUILD=1 "$root/compare/build.sh"
 target=${CARGO_TARGET_DIR:-$root/target/bench}
