@@ -1,4 +1,4 @@
-// The event of a known kind at a place, without a choice among all kinds; what it is of another kind is free.
+// The event at a place whose kind the caller has found, without a choice among all kinds.
 use data::event::Event;
 use feed::found::MaybeEvent;
 use feed_shape::shape::bare;
@@ -27,7 +27,8 @@ fn event_or_other(e: MaybeEvent) -> Event
 }
 
 pub fn key_at(feed: &[u32], at: usize) -> Event
-    ensures { λ r. ⌜ (kind (getD (now (feed .entry)) at 0) ≡ 1 → r ≡ shaped-at (now (feed .entry)) at) ⌝ }
+    requires { ⌜ kind (getD (now feed) at 0) ≡ 1 ⌝ }
+    ensures { λ r. ⌜ r ≡ shaped-at (now (feed .entry)) at ⌝ }
 {
     if at < feed.len() {
         let e = key_shape(feed[at] % 0x1000_0000);
@@ -37,7 +38,8 @@ pub fn key_at(feed: &[u32], at: usize) -> Event
 }
 
 pub fn modifiers_at(feed: &[u32], at: usize) -> Event
-    ensures { λ r. ⌜ (kind (getD (now (feed .entry)) at 0) ≡ 2 → r ≡ shaped-at (now (feed .entry)) at) ⌝ }
+    requires { ⌜ kind (getD (now feed) at 0) ≡ 2 ⌝ }
+    ensures { λ r. ⌜ r ≡ shaped-at (now (feed .entry)) at ⌝ }
 {
     if at < feed.len() {
         let e = modifiers_shape(feed[at] % 0x1000_0000);
@@ -47,7 +49,8 @@ pub fn modifiers_at(feed: &[u32], at: usize) -> Event
 }
 
 pub fn moved_at(feed: &[u32], at: usize) -> Event
-    ensures { λ r. ⌜ (kind (getD (now (feed .entry)) at 0) ≡ 3 → r ≡ shaped-at (now (feed .entry)) at) ⌝ }
+    requires { ⌜ kind (getD (now feed) at 0) ≡ 3 ⌝ }
+    ensures { λ r. ⌜ r ≡ shaped-at (now (feed .entry)) at ⌝ }
 {
     if at < feed.len() {
         if 2 < feed.len() - at {
@@ -60,7 +63,8 @@ pub fn moved_at(feed: &[u32], at: usize) -> Event
 }
 
 pub fn motion_at(feed: &[u32], at: usize) -> Event
-    ensures { λ r. ⌜ (kind (getD (now (feed .entry)) at 0) ≡ 4 → r ≡ shaped-at (now (feed .entry)) at) ⌝ }
+    requires { ⌜ kind (getD (now feed) at 0) ≡ 4 ⌝ }
+    ensures { λ r. ⌜ r ≡ shaped-at (now (feed .entry)) at ⌝ }
 {
     if at < feed.len() {
         if 2 < feed.len() - at {
@@ -73,7 +77,8 @@ pub fn motion_at(feed: &[u32], at: usize) -> Event
 }
 
 pub fn button_at(feed: &[u32], at: usize) -> Event
-    ensures { λ r. ⌜ (kind (getD (now (feed .entry)) at 0) ≡ 5 → r ≡ shaped-at (now (feed .entry)) at) ⌝ }
+    requires { ⌜ kind (getD (now feed) at 0) ≡ 5 ⌝ }
+    ensures { λ r. ⌜ r ≡ shaped-at (now (feed .entry)) at ⌝ }
 {
     if at < feed.len() {
         if 2 < feed.len() - at {
@@ -86,7 +91,8 @@ pub fn button_at(feed: &[u32], at: usize) -> Event
 }
 
 pub fn gone_at(feed: &[u32], at: usize) -> Event
-    ensures { λ r. ⌜ (kind (getD (now (feed .entry)) at 0) ≡ 6 → r ≡ shaped-at (now (feed .entry)) at) ⌝ }
+    requires { ⌜ kind (getD (now feed) at 0) ≡ 6 ⌝ }
+    ensures { λ r. ⌜ r ≡ shaped-at (now (feed .entry)) at ⌝ }
 {
     if at < feed.len() {
         let e = bare(feed[at] % 0x1000_0000, Event::PointerGone);
@@ -96,7 +102,8 @@ pub fn gone_at(feed: &[u32], at: usize) -> Event
 }
 
 pub fn zoom_at(feed: &[u32], at: usize) -> Event
-    ensures { λ r. ⌜ (kind (getD (now (feed .entry)) at 0) ≡ 7 → r ≡ shaped-at (now (feed .entry)) at) ⌝ }
+    requires { ⌜ kind (getD (now feed) at 0) ≡ 7 ⌝ }
+    ensures { λ r. ⌜ r ≡ shaped-at (now (feed .entry)) at ⌝ }
 {
     if at < feed.len() {
         if 1 < feed.len() - at {
@@ -109,7 +116,8 @@ pub fn zoom_at(feed: &[u32], at: usize) -> Event
 }
 
 pub fn rotate_at(feed: &[u32], at: usize) -> Event
-    ensures { λ r. ⌜ (kind (getD (now (feed .entry)) at 0) ≡ 8 → r ≡ shaped-at (now (feed .entry)) at) ⌝ }
+    requires { ⌜ kind (getD (now feed) at 0) ≡ 8 ⌝ }
+    ensures { λ r. ⌜ r ≡ shaped-at (now (feed .entry)) at ⌝ }
 {
     if at < feed.len() {
         if 1 < feed.len() - at {
@@ -122,7 +130,8 @@ pub fn rotate_at(feed: &[u32], at: usize) -> Event
 }
 
 pub fn touch_at(feed: &[u32], at: usize) -> Event
-    ensures { λ r. ⌜ (kind (getD (now (feed .entry)) at 0) ≡ 9 → r ≡ shaped-at (now (feed .entry)) at) ⌝ }
+    requires { ⌜ kind (getD (now feed) at 0) ≡ 9 ⌝ }
+    ensures { λ r. ⌜ r ≡ shaped-at (now (feed .entry)) at ⌝ }
 {
     if at < feed.len() {
         let n = 6 + (feed[at] / 4 % 2) as usize;
@@ -136,7 +145,8 @@ pub fn touch_at(feed: &[u32], at: usize) -> Event
 }
 
 pub fn wheel_at(feed: &[u32], at: usize) -> Event
-    ensures { λ r. ⌜ (kind (getD (now (feed .entry)) at 0) ≡ 10 → r ≡ shaped-at (now (feed .entry)) at) ⌝ }
+    requires { ⌜ kind (getD (now feed) at 0) ≡ 10 ⌝ }
+    ensures { λ r. ⌜ r ≡ shaped-at (now (feed .entry)) at ⌝ }
 {
     if at < feed.len() {
         if 2 < feed.len() - at {
@@ -149,7 +159,8 @@ pub fn wheel_at(feed: &[u32], at: usize) -> Event
 }
 
 pub fn focus_at(feed: &[u32], at: usize) -> Event
-    ensures { λ r. ⌜ (kind (getD (now (feed .entry)) at 0) ≡ 11 → r ≡ shaped-at (now (feed .entry)) at) ⌝ }
+    requires { ⌜ kind (getD (now feed) at 0) ≡ 11 ⌝ }
+    ensures { λ r. ⌜ r ≡ shaped-at (now (feed .entry)) at ⌝ }
 {
     if at < feed.len() {
         let e = focus_shape(feed[at] % 0x1000_0000);

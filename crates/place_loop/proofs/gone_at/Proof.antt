@@ -21,13 +21,12 @@ returns : tie.Need-returns
 unfolding clear-history-after
 returns c =
     let k = sym (c .before .before .before .kind-at .ensures) ∙ c .before .before .if1 .taken in
-    rw (is-other _ _ 5 _ k (c .before .gone-at .ensures k) (c .match .keys2) tt)
+    rw (is-other _ _ 5 _ k (c .before .gone-at .ensures) (c .match .keys2) tt)
 
 returns-2 : tie.Need-returns-2
 unfolding clear-history-after
 returns-2 c =
-    let k = sym (c .before .before .before .before .kind-at .ensures) ∙ c .before .before .before .if1 .taken in
-    rw (← c .before .before .gone-at .ensures k, c .enum-told .given .1)
+    rw (← c .before .before .gone-at .ensures, c .enum-told .given .1)
 
 returns-3 : tie.Need-returns-3
 returns-3 c = sym (gone-idle _ (not-of-kind _ _ 6 (λ e. c .if1 .left (c .before .kind-at .ensures ∙ e)) (λ e. omega arith)))

@@ -21,7 +21,7 @@ returns : tie.Need-returns
 unfolding place-event
 returns c =
     let k = sym (c .before .before .before .kind-at .ensures) ∙ c .before .before .match .keys1 in
-    rw (is-other _ _ 2 _ k (c .before .moved-at .ensures k) (c .match2 .keys2) tt) (record { result = λ times positions. refl; start = refl })
+    rw (is-other _ _ 2 _ k (c .before .moved-at .ensures) (c .match2 .keys2) tt) (record { result = λ times positions. refl; start = refl })
 
 moved-place-requires : tie.Need-moved-place-requires
 moved-place-requires c κs = search needs
@@ -36,7 +36,7 @@ returns-2 : tie.Need-returns-2
 unfolding place-event
 returns-2 c =
     let k = sym (c .before .before .before .kind-at .ensures) ∙ c .before .before .match .keys2 in
-    rw (is-other _ _ 3 _ k (c .before .motion-at .ensures k) (c .match3 .keys2) tt) (record { result = λ times positions. refl; start = refl })
+    rw (is-other _ _ 3 _ k (c .before .motion-at .ensures) (c .match3 .keys2) tt) (record { result = λ times positions. refl; start = refl })
 
 motion-place-requires : tie.Need-motion-place-requires
 motion-place-requires c κs = search needs
@@ -51,7 +51,7 @@ returns-3 : tie.Need-returns-3
 unfolding place-event
 returns-3 c =
     let k = sym (c .before .before .before .kind-at .ensures) ∙ c .before .before .match .keys3 in
-    rw (is-other _ _ 4 _ k (c .before .button-at .ensures k) (c .match4 .keys2) tt) (record { result = λ times positions. refl; start = refl })
+    rw (is-other _ _ 4 _ k (c .before .button-at .ensures) (c .match4 .keys2) tt) (record { result = λ times positions. refl; start = refl })
 
 button-place-requires : tie.Need-button-place-requires
 button-place-requires c κs = search needs
@@ -66,7 +66,7 @@ returns-4 : tie.Need-returns-4
 unfolding place-event
 returns-4 c =
     let k = sym (c .before .before .before .kind-at .ensures) ∙ c .before .before .match .keys4 in
-    rw (is-other _ _ 5 _ k (c .before .gone-at .ensures k) (c .match5 .keys2) tt) (record { result = λ times positions. refl; start = refl })
+    rw (is-other _ _ 5 _ k (c .before .gone-at .ensures) (c .match5 .keys2) tt) (record { result = λ times positions. refl; start = refl })
 
 gone-place-requires : tie.Need-gone-place-requires
 gone-place-requires c κs = search needs
@@ -74,26 +74,22 @@ gone-place-requires c κs = search needs
 returns-5 : tie.Need-returns-5
 returns-5 c =
     let e = c .before .before in
-    let k = sym (e .before .before .before .before .kind-at .ensures) ∙ e .before .before .before .match .keys1 in
-    rw (← e .before .before .moved-at .ensures k, e .pos .given .1) (c .moved-place .ensures)
+    rw (← e .before .before .moved-at .ensures, e .pos .given .1) (c .moved-place .ensures)
 
 returns-6 : tie.Need-returns-6
 returns-6 c =
     let e = c .before .before in
-    let k = sym (e .before .before .before .before .kind-at .ensures) ∙ e .before .before .before .match .keys2 in
-    rw (← e .before .before .motion-at .ensures k, e .delta .given .1) (c .motion-place .ensures)
+    rw (← e .before .before .motion-at .ensures, e .delta .given .1) (c .motion-place .ensures)
 
 returns-7 : tie.Need-returns-7
 returns-7 c =
     let e = c .before .before in
-    let k = sym (e .before .before .before .before .kind-at .ensures) ∙ e .before .before .before .match .keys3 in
-    rw (← e .before .before .button-at .ensures k, e .pos2 .given .1) (c .button-place .ensures _ _)
+    rw (← e .before .before .button-at .ensures, e .pos2 .given .1) (c .button-place .ensures _ _)
 
 returns-8 : tie.Need-returns-8
 returns-8 c =
     let e = c .before in
-    let k = sym (e .before .before .before .before .kind-at .ensures) ∙ e .before .before .before .match .keys4 in
-    rw (← e .before .before .gone-at .ensures k, e .enum-told .given .1) (c .gone-place .ensures)
+    rw (← e .before .before .gone-at .ensures, e .enum-told .given .1) (c .gone-place .ensures)
 
 returns-9 : tie.Need-returns-9
 returns-9 c =

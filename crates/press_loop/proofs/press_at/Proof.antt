@@ -20,7 +20,7 @@ enum-known-e c = search needs
 returns : tie.Need-returns
 returns c =
     let k = sym (c .before .before .before .kind-at .ensures) ∙ c .before .before .if1 .taken in
-    rw (is-other _ _ 2 _ k (c .before .moved-at .ensures k) (c .match .keys2) tt) (press-stays _ _ Other _ _ _ (λ e. omega arith) (λ e. omega arith))
+    rw (is-other _ _ 2 _ k (c .before .moved-at .ensures) (c .match .keys2) tt) (press-stays _ _ Other _ _ _ (λ e. omega arith) (λ e. omega arith))
 
 moved-requires : tie.Need-moved-requires
 moved-requires c κs = search needs
@@ -28,8 +28,7 @@ moved-requires c κs = search needs
 returns-2 : tie.Need-returns-2
 returns-2 c =
     let e = c .before .before .before .before in
-    let k = sym (e .before .before .before .before .kind-at .ensures) ∙ e .before .before .before .if1 .taken in
-    rw (← e .before .before .moved-at .ensures k, e .e .given .1) (c .moved .ensures _)
+    rw (← e .before .before .moved-at .ensures, e .e .given .1) (c .moved .ensures _)
 
 button-at-requires : tie.Need-button-at-requires
 button-at-requires c κs = search needs
@@ -40,7 +39,7 @@ enum-known-e-2 c = search needs
 returns-3 : tie.Need-returns-3
 returns-3 c =
     let k = sym (c .before .before .before .before .kind-at .ensures) ∙ c .before .before .if2 .taken in
-    rw (is-other _ _ 4 _ k (c .before .button-at .ensures k) (c .match2 .keys2) tt) (press-stays _ _ Other _ _ _ (λ e. omega arith) (λ e. omega arith))
+    rw (is-other _ _ 4 _ k (c .before .button-at .ensures) (c .match2 .keys2) tt) (press-stays _ _ Other _ _ _ (λ e. omega arith) (λ e. omega arith))
 
 button-event-requires : tie.Need-button-event-requires
 button-event-requires c κs = search needs
@@ -48,8 +47,7 @@ button-event-requires c κs = search needs
 returns-4 : tie.Need-returns-4
 returns-4 c =
     let e = c .before .before .before .before in
-    let k = sym (e .before .before .before .before .before .kind-at .ensures) ∙ e .before .before .before .if2 .taken in
-    rw (← e .before .before .button-at .ensures k, e .e2 .given .1) (c .button-event .ensures)
+    rw (← e .before .before .button-at .ensures, e .e2 .given .1) (c .button-event .ensures)
 
 returns-5 : tie.Need-returns-5
 returns-5 c =

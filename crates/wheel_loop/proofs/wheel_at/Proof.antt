@@ -21,7 +21,7 @@ returns : tie.Need-returns
 unfolding wheel-event
 returns c =
     let k = sym (c .before .before .before .kind-at .ensures) ∙ c .before .before .if1 .taken in
-    rw (is-other _ _ 9 _ k (c .before .wheel-at .ensures k) (c .match .keys2) tt)
+    rw (is-other _ _ 9 _ k (c .before .wheel-at .ensures) (c .match .keys2) tt)
 
 stepped-requires : tie.Need-stepped-requires
 stepped-requires c κs = search needs
@@ -30,8 +30,7 @@ returns-2 : tie.Need-returns-2
 unfolding wheel-event
 returns-2 c =
     let e = c .before .before in
-    let k = sym (e .before .before .before .before .kind-at .ensures) ∙ e .before .before .before .if1 .taken in
-    rw (← e .before .before .wheel-at .ensures k, e .e .given .1) (c .stepped .ensures)
+    rw (← e .before .before .wheel-at .ensures, e .e .given .1) (c .stepped .ensures)
 
 returns-3 : tie.Need-returns-3
 returns-3 c = sym (wheel-idle _ _ _ _ _ (not-of-kind _ _ 10 (λ e. c .if1 .left (c .before .kind-at .ensures ∙ e)) (λ e. omega arith)))

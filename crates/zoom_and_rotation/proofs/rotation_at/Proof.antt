@@ -21,14 +21,13 @@ returns : tie.Need-returns
 unfolding rotation-event
 returns c =
     let k = sym (c .before .before .before .kind-at .ensures) ∙ c .before .before .if1 .taken in
-    rw (is-other _ _ 7 _ k (c .before .rotate-at .ensures k) (c .match .keys2) tt)
+    rw (is-other _ _ 7 _ k (c .before .rotate-at .ensures) (c .match .keys2) tt)
 
 returns-2 : tie.Need-returns-2
 unfolding rotation-event
 returns-2 c =
     let r = c .before .before .before in
-    let k = sym (r .before .before .kind-at .ensures) ∙ r .before .if1 .taken in
-    rw (← r .rotate-at .ensures k, c .before .e .given .1)
+    rw (← r .rotate-at .ensures, c .before .e .given .1)
 
 returns-3 : tie.Need-returns-3
 returns-3 c = sym (rotation-idle _ _ (not-of-kind _ _ 8 (λ e. c .if1 .left (c .before .kind-at .ensures ∙ e)) (λ e. omega arith)))

@@ -44,17 +44,21 @@ event-or-other-requires c κs = search needs
 
 returns : tie.Need-returns
 unfolding shape-by-kind
-returns c is =
-    let a = c .before .before .before .before .before .before .before .before .args in
+returns c =
+    let start = c .before .before .before .before .before .before .before .before in
+    let a = start .args in
+    let is = start .pre in
     c .event-or-other .ensures ∙ rw (c .before .moved-shape .ensures, whole-as (a .feed .now) (a .at) 3 is (c .before .before .before .before .before .before .if1 .taken) (omega arith), word-after _ _ 0, word-after _ _ 1)
 
 returns-2 : tie.Need-returns-2
-returns-2 c is =
-    let a = c .before .before .before .args in
+returns-2 c =
+    let start = c .before .before .before in
+    let a = start .args in
+    let is = start .pre in
     sym (short-as (a .feed .now) (a .at) 3 is (c .before .if1 .taken) (omega arith))
 
 returns-3 : tie.Need-returns-3
-returns-3 c is = sym (at-past _ _ (c .if1 .left))
+returns-3 c = sym (at-past _ _ (c .if1 .left))
 
 pub moved-at-spec : {M : Type 1} → statement M
 moved-at-spec =

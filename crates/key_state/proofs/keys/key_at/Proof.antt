@@ -22,24 +22,22 @@ returns : tie.Need-returns
 unfolding key-event
 returns c =
     let k = sym (c .before .before .before .kind-at .ensures) ∙ c .before .before .if1 .taken in
-    rw (is-other _ _ 0 _ k (c .before .key-at .ensures k) (c .match .keys2) tt) (record { result = refl; places = refl })
+    rw (is-other _ _ 0 _ k (c .before .key-at .ensures) (c .match .keys2) tt) (record { result = refl; places = refl })
 
 key-requires : tie.Need-key-requires
 key-requires c κs =
     let e = c .before .before in
     let r = e .before .before in
     let start = r .before .before in
-    let k = sym (start .kind-at .ensures) ∙ r .before .if1 .taken in
     let a = start .before .before .args in
-    let named = rw (← r .key-at .ensures k, e .e .given .1) at (fields (a .feed .now) (a .at)) in
+    let named = rw (← r .key-at .ensures, e .e .given .1) at (fields (a .feed .now) (a .at)) in
     (named-below _ _ named, start .before .before .pre)
 
 returns-2 : tie.Need-returns-2
 returns-2 c =
     let e = c .before .before .before in
     let r = e .before .before in
-    let k = sym (r .before .before .kind-at .ensures) ∙ r .before .if1 .taken in
-    rw (← r .key-at .ensures k, e .e .given .1) (c .key .ensures)
+    rw (← r .key-at .ensures, e .e .given .1) (c .key .ensures)
 
 modifiers-at-requires : tie.Need-modifiers-at-requires
 modifiers-at-requires c κs = search needs
@@ -51,15 +49,14 @@ returns-3 : tie.Need-returns-3
 unfolding key-event
 returns-3 c =
     let k = sym (c .before .before .before .before .kind-at .ensures) ∙ c .before .before .if2 .taken in
-    rw (is-other _ _ 1 _ k (c .before .modifiers-at .ensures k) (c .match2 .keys2) tt) (record { result = refl; places = refl })
+    rw (is-other _ _ 1 _ k (c .before .modifiers-at .ensures) (c .match2 .keys2) tt) (record { result = refl; places = refl })
 
 returns-4 : tie.Need-returns-4
 unfolding key-event
 returns-4 c =
     let e = c .before .before in
     let r = e .before .before in
-    let k = sym (r .before .before .before .kind-at .ensures) ∙ r .before .if2 .taken in
-    rw (← r .modifiers-at .ensures k, e .e2 .given .1) (record { result = refl; places = refl })
+    rw (← r .modifiers-at .ensures, e .e2 .given .1) (record { result = refl; places = refl })
 
 focus-at-requires : tie.Need-focus-at-requires
 focus-at-requires c κs = search needs
@@ -71,7 +68,7 @@ returns-5 : tie.Need-returns-5
 unfolding key-event
 returns-5 c =
     let k = sym (c .before .before .before .before .before .kind-at .ensures) ∙ c .before .before .if3 .taken in
-    rw (is-other _ _ 10 _ k (c .before .focus-at .ensures k) (c .match3 .keys2) tt) (record { result = refl; places = refl })
+    rw (is-other _ _ 10 _ k (c .before .focus-at .ensures) (c .match3 .keys2) tt) (record { result = refl; places = refl })
 
 focus-requires : tie.Need-focus-requires
 focus-requires c κs = search needs
@@ -81,8 +78,7 @@ returns-6 c =
     let e = c .before .before in
     let r = e .before .before in
     let start = r .before .before .before .before in
-    let k = sym (start .kind-at .ensures) ∙ r .before .if3 .taken in
-    rw (← r .focus-at .ensures k, e .e3 .given .1) (record { result = c .focus .ensures (start .before .before .args .presses .now); places = refl })
+    rw (← r .focus-at .ensures, e .e3 .given .1) (record { result = c .focus .ensures (start .before .before .args .presses .now); places = refl })
 
 returns-7 : tie.Need-returns-7
 returns-7 c =

@@ -21,14 +21,13 @@ returns : tie.Need-returns
 unfolding touch-of
 returns c =
     let k = sym (c .before .before .before .kind-at .ensures) ∙ c .before .before .if1 .taken in
-    rw (is-other _ _ 8 _ k (c .before .touch-at .ensures k) (c .match .keys2) tt)
+    rw (is-other _ _ 8 _ k (c .before .touch-at .ensures) (c .match .keys2) tt)
 
 returns-2 : tie.Need-returns-2
 unfolding touch-of
 returns-2 c =
     let r = c .before .before .before in
-    let k = sym (r .before .before .kind-at .ensures) ∙ r .before .if1 .taken in
-    rw (← r .touch-at .ensures k, c .before .e .given .1)
+    rw (← r .touch-at .ensures, c .before .e .given .1)
 
 returns-3 : tie.Need-returns-3
 returns-3 c = sym (no-touch-of _ (no-event-9 _ _ (λ e. c .if1 .left (c .before .kind-at .ensures ∙ e))))
