@@ -1,5 +1,5 @@
 -- Events of the kinds that are not read leave it as it is; and its loop along its list. Assumes nothing.
-use mathlib.Core.Path.{_≡_, refl}
+use mathlib.Core.Path.{_≡_, refl, ap, _∙_}
 use mathlib.Core.Bool.{Bool, false, _||_}
 use mathlib.Core.List.{List, [], _∷_}
 use Prim.Native.Nat.{ℕ, _+_}
@@ -14,6 +14,9 @@ use Rattle.data.specs.Numbers.{kind-number}
 use Rattle.model.specs.Types.{MaybePos2}
 use Rattle.model.specs.Types.{Event, Key, ModifiersChanged, PointerMoved, MouseMoved, Button, PointerGone, Zoom, Rotate, Touch, MouseWheel, WindowFocused, Other}
 use Rattle.model.specs.Pointer.{Place, start-place, place-event, place-events, place-pass, clear-history-after, end-place, finish-place}
+use Rattle.pointer_place.specs.declared.Place.{Place as PlaceHeld}
+use Rattle.pointer_place.specs.View.{Placed, Ended}
+use Rattle.place_loop.specs.Passed.{PlacePassed}
 use Rattle.event_loop.specs.Lists.{pointer-list, own}
 use Rattle.event_loop.specs.Loop.{Loop, Any}
 use Rattle.event_loop.proofs.Loops.{loop, own-law, any-loop, own-any-law}
@@ -90,10 +93,24 @@ unfolding place-pass
 place-pass-own time es p = rw (gone-own es, place-own es (start-place p))
 
 -- the end of a pass keeps the position
-pub latest-kept : (time : Float) (old : MaybePos2) (gone : Bool) (p : Place) → end-place time old gone p .latest-pos ≡ p .latest-pos
+latest-kept : (time : Float) (old : MaybePos2) (gone : Bool) (p : Place) → end-place time old gone p .latest-pos ≡ p .latest-pos
 unfolding end-place finish-place
 latest-kept time old gone p = refl
 
 -- the place that the pass's sample takes
-pub sample-at : (ts ps : List Float) (h : History) {start : ℕ} {xs : List Sample} → view ts ps h ≡ xs → h .start ≡ start → free h ≡ Ring.place (start + length xs)
+sample-at : (ts ps : List Float) (h : History) {start : ℕ} {xs : List Sample} → view ts ps h ≡ xs → h .start ≡ start → free h ≡ Ring.place (start + length xs)
 sample-at ts ps h v s = rw (← s, ← v, view-count ts ps h)
+
+-- the steps of a pass, from p by its events to m and to its end
+pub place-passed : (time : Float) (es : List Event) (p m : PlaceHeld) (gone : Bool) {ts ps ts' ps' : List Float} {r : PlaceHeld} →
+    Ended time (p .«latest_pos») gone ts ps m ts' ps' r → Placed (λ s. place-events es (start-place s)) p m → gone ≡ clear-history-after es → PlacePassed time es ts ps p ts' ps' r
+unfolding place-pass
+place-passed time es p m gone {ts} {ps} {ts'} {ps'} {r} ended walked is-gone =
+    let moved = walked .result ts ps in
+    let at = sample-at ts ps (m .history) (ap (λ (q : Place). q .pos-history) moved) (walked .start) in
+    let latest = ap (λ (q : Place). q .latest-pos) moved in
+    record {
+      result = ended .result ∙ rw (is-gone, moved);
+      times-after = ended .times-after ∙ rw (at, latest, latest-kept _ _ _ _);
+      positions-after = ended .positions-after ∙ rw (at, latest, latest-kept _ _ _ _);
+    }
