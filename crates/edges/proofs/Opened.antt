@@ -12,7 +12,7 @@ unfolding edges-Cases.dec edges-Cases.pos edges-Cases.vec edges-Cases.options ed
 edges-cases = Type 0
 
 unfoldable pub edges-interactedges : Type 1
-unfolding edges-InteractEdges.made edges-InteractEdges.nine edges-InteractEdges.eight edges-InteractEdges.outside edges-InteractEdges.layer edges-InteractEdges.in-layer edges-InteractEdges.records-refused edges-InteractEdges.layers edges-InteractEdges.thirty-third-layer edges-InteractEdges.entries edges-InteractEdges.filled edges-InteractEdges.full-set edges-InteractEdges.insert-order edges-InteractEdges.short-slices edges-InteractEdges.known-again edges-InteractEdges.other-layers-stay edges-InteractEdges.of-insertion edges-InteractEdges.among edges-InteractEdges.hits edges-InteractEdges.hit edges-InteractEdges.on edges-InteractEdges.off edges-InteractEdges.on-nothing edges-InteractEdges.button edges-InteractEdges.handle edges-InteractEdges.both edges-InteractEdges.answer edges-InteractEdges.drags edges-InteractEdges.nothing-happens edges-InteractEdges.might edges-InteractEdges.disabled edges-InteractEdges.disabled-drag edges-InteractEdges.disabled-click edges-InteractEdges.clicked-once edges-InteractEdges.clicked-and-gone edges-InteractEdges.pressed-twice edges-InteractEdges.decided-drag edges-InteractEdges.left-by-the-pointer edges-InteractEdges.undecided edges-InteractEdges.dragged-and-gone edges-InteractEdges.escaped edges-InteractEdges.another-dragged edges-InteractEdges.long-touched edges-InteractEdges.hovers edges-InteractEdges.hovered-sets edges-InteractEdges.with-places edges-InteractEdges.refuses edges-InteractEdges.good edges-InteractEdges.bad-sense edges-InteractEdges.bad-id edges-InteractEdges.bad edges-InteractEdges.interact-order edges-InteractEdges.full-tally edges-InteractEdges.of-interact edges-InteractEdges.interact-edges
+unfolding edges-InteractEdges.made edges-InteractEdges.nine edges-InteractEdges.eight edges-InteractEdges.outside edges-InteractEdges.layer edges-InteractEdges.in-layer edges-InteractEdges.records-refused edges-InteractEdges.layers edges-InteractEdges.thirty-third-layer edges-InteractEdges.entries edges-InteractEdges.filled edges-InteractEdges.full-set edges-InteractEdges.insert-order edges-InteractEdges.short-slices edges-InteractEdges.known-again edges-InteractEdges.other-layers-stay edges-InteractEdges.of-insertion edges-InteractEdges.among edges-InteractEdges.hits edges-InteractEdges.hit edges-InteractEdges.on edges-InteractEdges.off edges-InteractEdges.on-nothing edges-InteractEdges.button edges-InteractEdges.handle edges-InteractEdges.both edges-InteractEdges.answer edges-InteractEdges.drags edges-InteractEdges.nothing-happens edges-InteractEdges.might edges-InteractEdges.disabled edges-InteractEdges.disabled-drag edges-InteractEdges.disabled-click edges-InteractEdges.clicked-once edges-InteractEdges.clicked-and-gone edges-InteractEdges.pressed-twice edges-InteractEdges.decided-drag edges-InteractEdges.left-by-the-pointer edges-InteractEdges.undecided edges-InteractEdges.dragged-and-gone edges-InteractEdges.escaped edges-InteractEdges.another-dragged edges-InteractEdges.long-touched edges-InteractEdges.long-pressed edges-InteractEdges.hovers edges-InteractEdges.hovered-sets edges-InteractEdges.with-places edges-InteractEdges.refuses edges-InteractEdges.good edges-InteractEdges.bad-sense edges-InteractEdges.bad-id edges-InteractEdges.bad edges-InteractEdges.interact-order edges-InteractEdges.full-tally edges-InteractEdges.of-interact edges-InteractEdges.interact-edges
 edges-interactedges = Type 0
 
 unfoldable pub edges-needed : Type 1
@@ -20,7 +20,7 @@ unfolding edges-Needed.at edges-Needed.ends edges-Needed.releases edges-Needed.r
 edges-needed = Type 0
 
 unfoldable pub edges-passedges : Type 1
-unfolding edges-PassEdges.dec32 edges-PassEdges.past edges-PassEdges.past32 edges-PassEdges.on-x edges-PassEdges.down edges-PassEdges.alt-held edges-PassEdges.ctrl-held edges-PassEdges.shift-held edges-PassEdges.alt-shift-held edges-PassEdges.then edges-PassEdges.lasts edges-PassEdges.timeouts edges-PassEdges.rested edges-PassEdges.rests edges-PassEdges.scrolls edges-PassEdges.deltas edges-PassEdges.in-touch edges-PassEdges.start-keeps edges-PassEdges.stops edges-PassEdges.modifiers-let-go edges-PassEdges.smoothed-out edges-PassEdges.still-smoothing edges-PassEdges.of-the-wheel edges-PassEdges.two-fingers edges-PassEdges.started edges-PassEdges.has-started edges-PassEdges.start-position edges-PassEdges.no-start-position edges-PassEdges.pointer-just-gone edges-PassEdges.pointer-long-gone edges-PassEdges.fingers-by-id edges-PassEdges.from-there edges-PassEdges.pinches edges-PassEdges.pinch-types edges-PassEdges.three-fingers edges-PassEdges.finger-comes edges-PassEdges.finger-elsewhere edges-PassEdges.finger-goes edges-PassEdges.headings edges-PassEdges.forces edges-PassEdges.first-device edges-PassEdges.of-touches edges-PassEdges.moved-too-far edges-PassEdges.click-times edges-PassEdges.triple edges-PassEdges.not-triple edges-PassEdges.flags-of-release edges-PassEdges.pressed-until edges-PassEdges.presses edges-PassEdges.decided edges-PassEdges.long-touch edges-PassEdges.slow-repaint edges-PassEdges.no-repaint edges-PassEdges.drags-delta edges-PassEdges.three-samples edges-PassEdges.moving edges-PassEdges.velocities edges-PassEdges.gone-moving edges-PassEdges.pressed-moving edges-PassEdges.motions edges-PassEdges.of-the-pointer edges-PassEdges.keys edges-PassEdges.zooms-and-turns edges-PassEdges.zooms-by edges-PassEdges.axes edges-PassEdges.not-given edges-PassEdges.never-given edges-PassEdges.row edges-PassEdges.bare-row edges-PassEdges.words edges-PassEdges.refused edges-PassEdges.taken edges-PassEdges.malformed edges-PassEdges.limit-of edges-PassEdges.domain edges-PassEdges.touch edges-PassEdges.four-devices edges-PassEdges.fifth-device edges-PassEdges.fingers edges-PassEdges.eleventh-touch edges-PassEdges.crowds edges-PassEdges.pass-order edges-PassEdges.of-a-pass edges-PassEdges.pass-edges
+unfolding edges-PassEdges.dec32 edges-PassEdges.past edges-PassEdges.past32 edges-PassEdges.on-x edges-PassEdges.down edges-PassEdges.alt-held edges-PassEdges.ctrl-held edges-PassEdges.shift-held edges-PassEdges.alt-shift-held edges-PassEdges.then edges-PassEdges.lasts edges-PassEdges.timeouts edges-PassEdges.rested edges-PassEdges.rests edges-PassEdges.scrolls edges-PassEdges.deltas edges-PassEdges.in-touch edges-PassEdges.start-keeps edges-PassEdges.stops edges-PassEdges.modifiers-let-go edges-PassEdges.smoothed-out edges-PassEdges.still-smoothing edges-PassEdges.of-the-wheel edges-PassEdges.two-fingers edges-PassEdges.started edges-PassEdges.has-started edges-PassEdges.start-position edges-PassEdges.no-start-position edges-PassEdges.pointer-just-gone edges-PassEdges.pointer-long-gone edges-PassEdges.fingers-by-id edges-PassEdges.from-there edges-PassEdges.pinches edges-PassEdges.pinch-types edges-PassEdges.three-fingers edges-PassEdges.finger-comes edges-PassEdges.finger-elsewhere edges-PassEdges.third-finger-goes edges-PassEdges.finger-goes edges-PassEdges.headings edges-PassEdges.forces edges-PassEdges.first-device edges-PassEdges.of-touches edges-PassEdges.moved-too-far edges-PassEdges.click-times edges-PassEdges.triple edges-PassEdges.not-triple edges-PassEdges.flags-of-release edges-PassEdges.pressed-until edges-PassEdges.presses edges-PassEdges.decided edges-PassEdges.long-touch edges-PassEdges.slow-repaint edges-PassEdges.no-repaint edges-PassEdges.drags-delta edges-PassEdges.three-samples edges-PassEdges.moving edges-PassEdges.velocities edges-PassEdges.gone-moving edges-PassEdges.pressed-moving edges-PassEdges.motions edges-PassEdges.of-the-pointer edges-PassEdges.keys edges-PassEdges.zooms-and-turns edges-PassEdges.zooms-by edges-PassEdges.axes edges-PassEdges.not-given edges-PassEdges.requested edges-PassEdges.repaint-requested edges-PassEdges.never-given edges-PassEdges.row edges-PassEdges.bare-row edges-PassEdges.words edges-PassEdges.refused edges-PassEdges.taken edges-PassEdges.malformed edges-PassEdges.limit-of edges-PassEdges.domain edges-PassEdges.touch edges-PassEdges.four-devices edges-PassEdges.fifth-device edges-PassEdges.fingers edges-PassEdges.eleventh-touch edges-PassEdges.crowds edges-PassEdges.pass-order edges-PassEdges.of-a-pass edges-PassEdges.pass-edges
 edges-passedges = Type 0
 
 unfoldable pub edges-steps : Type 1

@@ -285,6 +285,12 @@ long-touched =
     ∷ at (dec 2 0) (click-duration (dec 0 7500)) [] ∷ snapshots (on (both 7)) (answer (some 7) (some 7) none none none (7 ∷ []) (7 ∷ [])) ∷ (might none none
     ++ (at (dec 2 1250) (click-duration (dec 0 7500)) (release (pos 5 5) ∷ []) ∷ snapshots (on (both 7)) (answer none none none none none (7 ∷ []) (7 ∷ [])) ∷ []))
 
+-- held as long without a finger, it is no touch
+unfoldable pub long-pressed : List Step
+long-pressed =
+    at (dec 1 0) (click-duration (dec 0 7500)) (press (pos 5 5) ∷ []) ∷ nothing-happens (on (button 7))
+    ∷ at (dec 2 0) (click-duration (dec 0 7500)) [] ∷ snapshots (on (button 7)) (answer none none none none none (7 ∷ []) (7 ∷ [])) ∷ might none none
+
 -- with no button down: hits, hovered, contains_pointer
 unfoldable pub hovers : List Hit → List Hit → Option Hit → Option Hit → List ℕ → List ℕ → List Step
 hovers close contains click drag hovered all = snapshots (hits [] close contains click drag) (answer none none none none none hovered all) ∷ []
@@ -353,7 +359,7 @@ full-tally =
 
 unfoldable pub of-interact : List (List Step)
 of-interact =
-    disabled-drag ∷ disabled-click ∷ clicked-once ∷ clicked-and-gone ∷ pressed-twice ∷ decided-drag ∷ dragged-and-gone ∷ escaped ∷ another-dragged ∷ long-touched
+    disabled-drag ∷ disabled-click ∷ clicked-once ∷ clicked-and-gone ∷ pressed-twice ∷ decided-drag ∷ dragged-and-gone ∷ escaped ∷ another-dragged ∷ long-touched ∷ long-pressed
     ∷ interact-order ∷ full-tally ∷ (undecided ++ hovered-sets)
 
 unfoldable pub interact-edges : List (List Step)

@@ -217,7 +217,7 @@ three-fingers =
     ∷ then (dec 1 1250) (finger-starts 1 (pos 0 0) ∷ finger-starts 2 (pos 3 0) ∷ finger-starts 3 (pos 6 0) ∷ [])
     ∷ then (dec 1 2500) (finger-moves 2 (pos 6 0) ∷ finger-moves 3 (pos 12 0) ∷ []) ∷ answers Q.zoom-delta-2d (zoom-2d (vec 2 2) (vec 0 0)) ∷ []
 
--- where a finger of the device comes or goes nothing zooms; one of another device does not matter
+-- where a finger of the device comes or goes nothing zooms; one of another device does not matter, and the wheel's exponent is not asked
 unfoldable pub finger-comes : List Step
 finger-comes =
     from-there (pos 4 0) (finger-moves 2 (pos 8 0) ∷ finger-starts 3 (pos 4 8) ∷ [])
@@ -225,7 +225,13 @@ finger-comes =
 
 unfoldable pub finger-elsewhere : List Step
 finger-elsewhere =
-    from-there (pos 4 0) (finger-moves 2 (pos 8 0) ∷ Touch 2 3 Start (pos 4 8) no-force ∷ []) ++ (answers Q.zoom-delta (zoom (dec 2 0) (dec 0 0)) ∷ [])
+    from-there (pos 4 0) (finger-moves 2 (pos 8 0) ∷ Touch 2 3 Start (pos 4 8) no-force ∷ MouseWheel Point (vec 0 8) Move Wheel ctrl-held ∷ [])
+    ++ (answers Q.zoom-delta (zoom (dec 2 0) (dec 0 0)) ∷ [])
+
+unfoldable pub third-finger-goes : TouchPhase → List Step
+third-finger-goes phase =
+    then (dec 1 0) (PointerMoved (pos 0 0) ∷ []) ∷ then (dec 1 1250) (two-fingers ++ (finger-starts 3 (pos 4 8) ∷ []))
+    ∷ then (dec 1 2500) (finger-moves 2 (pos 8 0) ∷ Touch 1 3 phase (pos 4 8) no-force ∷ []) ∷ answers Q.zoom-delta (zoom (dec 1 0) (dec 0 0)) ∷ []
 
 -- End and Cancel of one of two fingers end the gesture; the other is still there, and a Move of the lifted one is nothing
 unfoldable pub finger-goes : TouchPhase → List Step
@@ -274,7 +280,7 @@ first-device =
 
 unfoldable pub of-touches : List (List Step)
 of-touches =
-    start-position ∷ no-start-position ∷ pointer-just-gone ∷ pointer-long-gone ∷ fingers-by-id ∷ three-fingers ∷ finger-comes ∷ finger-elsewhere
+    start-position ∷ no-start-position ∷ pointer-just-gone ∷ pointer-long-gone ∷ fingers-by-id ∷ three-fingers ∷ finger-comes ∷ finger-elsewhere ∷ third-finger-goes End ∷ third-finger-goes Cancel
     ∷ finger-goes End ∷ finger-goes Cancel ∷ headings ∷ forces ∷ first-device ∷ pinch-types
 
 -- ---- the pointer
@@ -432,6 +438,27 @@ not-given =
     ∷ answers Q.viewport-rect (rectangle (record { min = pos 0 0; max = pos 640 480 })) ∷ answers Q.smooth-scroll-delta (vector (vec 0 240))
     ∷ then (dec 3 625) [] ∷ answers Q.unstable-dt (number (dec 2 0)) ∷ answers Q.stable-dt (number (dec 0 625)) ∷ []
 
+-- after a requested repaint the stable dt is the measured one; two pixels to a point
+unfoldable pub requested : PassInput
+requested =
+    record {
+      time = some (dec 3 0);
+      screen-rect = none;
+      predicted-dt = dec 0 1250;
+      smoothing-factor = dec 0 5000;
+      pixels-per-point = dec 2 0;
+      focused = false;
+      requested-repaint = true;
+      options = default-options;
+      feed = [];
+    }
+
+unfoldable pub repaint-requested : List Step
+repaint-requested =
+    then (dec 1 0) [] ∷ answers Q.focused (bool true) ∷ passes requested
+    ∷ answers Q.stable-dt (number (dec 2 0)) ∷ answers Q.predicted-dt (number (dec 0 1250)) ∷ answers Q.focused (bool false)
+    ∷ answers Q.pixels-per-point (number (dec 2 0)) ∷ answers Q.physical-pixel-size (number (dec 0 5000)) ∷ answers Q.aim-radius (number (dec 0 5000)) ∷ []
+
 unfoldable pub never-given : List Step
 never-given =
     passes (given none none (dec 0 5000) default-options (encode-all (MouseWheel Page (vec 0 1) Move Wheel no-modifiers ∷ [])))
@@ -522,7 +549,7 @@ pass-order =
 
 unfoldable pub of-a-pass : List (List Step)
 of-a-pass =
-    keys ∷ zooms-and-turns ∷ not-given ∷ never-given ∷ fifth-device ∷ eleventh-touch ∷ (axes ++ (malformed ++ (domain ++ (crowds ++ pass-order))))
+    keys ∷ zooms-and-turns ∷ not-given ∷ repaint-requested ∷ never-given ∷ fifth-device ∷ eleventh-touch ∷ (axes ++ (malformed ++ (domain ++ (crowds ++ pass-order))))
 
 unfoldable pub pass-edges : List (List Step)
 pass-edges = of-the-wheel ++ (of-touches ++ (of-the-pointer ++ of-a-pass))
