@@ -15,7 +15,7 @@ after-events-requires c κs = search needs
 
 returns : tie.Need-returns
 unfolding wheel-pass
-returns c = rw (c .after-events .ensures, c .before .wheel-events .ensures, c .before .before .clear-smooth .ensures)
+returns c = rw (← c .before .before .clear-smooth .ensures, ← c .before .wheel-events .ensures) (c .after-events .ensures)
 
 pub wheel-pass-spec : {M : Type 1} → statement M
 wheel-pass-spec =

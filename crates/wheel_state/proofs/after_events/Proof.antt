@@ -14,7 +14,7 @@ end-if-still-requires c κs = search needs
 
 returns : tie.Need-returns
 unfolding after-events
-returns c = rw (c .end-if-still .ensures, c .before .smoothed .ensures)
+returns c = rw (← c .before .smoothed .ensures) (c .end-if-still .ensures)
 
 pub after-events-spec : {M : Type 1} → statement M
 after-events-spec = tie.close (tie.spec smoothed-requires end-if-still-requires returns)

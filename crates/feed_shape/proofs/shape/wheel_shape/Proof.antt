@@ -24,15 +24,15 @@ of-requires c κs = search needs
 
 returns : tie.Need-returns
 unfolding wheel-shape clean field-below
-returns c = rw (lt-ltb _ _ (c .before .before .before .before .before .before .if1 .taken), lt-ltb _ _ (c .before .before .before .before .before .if2 .taken), c .of .ensures, c .before .source-of .ensures, c .before .before .phase-of .ensures, c .before .before .before .vec-of .ensures, c .before .before .before .before .unit-of .ensures)
+returns c = rw (lt-ltb _ 2048 (c .before .before .before .before .before .before .if1 .taken), lt-ltb _ _ (c .before .before .before .before .before .if2 .taken), c .of .ensures, c .before .source-of .ensures, c .before .before .phase-of .ensures, c .before .before .before .vec-of .ensures, c .before .before .before .before .unit-of .ensures)
 
 returns-2 : tie.Need-returns-2
 unfolding wheel-shape clean field-below
-returns-2 c = rw (lt-ltb _ _ (c .before .if1 .taken), le-ltb _ _ (c .if2 .left))
+returns-2 c = rw (lt-ltb _ 2048 (c .before .if1 .taken), le-ltb _ _ (c .if2 .left))
 
 returns-3 : tie.Need-returns-3
 unfolding wheel-shape clean field-below
-returns-3 c = rw (le-ltb _ _ (c .if1 .left))
+returns-3 c = rw (le-ltb _ 2048 (c .if1 .left))
 
 pub wheel-shape-spec : {M : Type 1} → statement M
 wheel-shape-spec =
