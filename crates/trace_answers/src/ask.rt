@@ -63,17 +63,17 @@ fn screen_words(a: &mut Answer, n: usize, c: Clock, s: Screen, k: Keys) -> usize
     float(a, m, clock::aim_radius(s))
 }
 
+// Its number, then its values, and zeros to four words.
 fn rotation(a: &mut Answer, n: usize, r: Rotation) -> usize {
+    let m = word(a, n, r.number());
     match r {
         Rotation::Radians(x) => {
-            let mut m = word(a, n, 0);
-            m = float(a, m, x);
-            zeros(a, m, 3)
+            let k = float(a, m, x);
+            zeros(a, k, 3)
         }
         Rotation::Headings(previous, heading) => {
-            let mut m = word(a, n, 1);
-            m = vec(a, m, previous);
-            vec(a, m, heading)
+            let k = vec(a, m, previous);
+            vec(a, k, heading)
         }
     }
 }

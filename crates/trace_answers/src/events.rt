@@ -14,6 +14,12 @@ use trace_words::words::flags;
 use trace_words::words::pos;
 use trace_words::words::word;
 use trace_words::words::zeros;
+ghost use Prim.Native.Nat.{_<_};
+
+// The first word of an event: its number, the number of its button from bit 8 on, and bit 16 for a release that carries a click.
+const BUTTON: u32 = 0x100;
+
+const CLICK: u32 = 0x1_0000;
 
 fn moved(a: &mut Answer, n: usize, code: u32, p: Pos2) -> usize {
     let mut m = word(a, n, code);
@@ -21,16 +27,18 @@ fn moved(a: &mut Answer, n: usize, code: u32, p: Pos2) -> usize {
     zeros(a, m, 2)
 }
 
-fn released(a: &mut Answer, n: usize, click: MaybeClick, button: u32) -> usize {
+fn released(a: &mut Answer, n: usize, code: u32, click: MaybeClick) -> usize
+    requires { ⌜ code < 0x1_0000 ⌝ }
+{
     match click {
         MaybeClick::None => {
-            let m = word(a, n, 2 + button % 8 * 0x100);
+            let m = word(a, n, code);
             zeros(a, m, 4)
         }
         MaybeClick::Some(c) => {
             let p = c.pos;
             let modifiers = c.modifiers;
-            let mut m = word(a, n, 0x1_0002 + button % 8 * 0x100);
+            let mut m = word(a, n, code + CLICK);
             m = pos(a, m, p);
             m = word(a, m, c.count);
             flags(a, m, modifiers)
@@ -39,10 +47,11 @@ fn released(a: &mut Answer, n: usize, click: MaybeClick, button: u32) -> usize {
 }
 
 fn event(a: &mut Answer, n: usize, e: PointerEvent) -> usize {
+    let number = e.number();
     match e {
-        PointerEvent::Moved(p) => moved(a, n, 0, p),
-        PointerEvent::Pressed(p, b) => moved(a, n, 1 + b.number() * 0x100, p),
-        PointerEvent::Released(c, b) => released(a, n, c, b.number()),
+        PointerEvent::Moved(p) => moved(a, n, number, p),
+        PointerEvent::Pressed(p, b) => moved(a, n, number + b.number() * BUTTON, p),
+        PointerEvent::Released(c, b) => released(a, n, number + b.number() * BUTTON, c),
     }
 }
 
