@@ -31,7 +31,7 @@ use Rattle.input_state.specs.View as Shown
 use Rattle.input_pass.specs.Begun as Contract
 use Rattle.panel.specs.Steps.{ShowsInput}
 use Rattle.panel.proofs.Lookup.{looked-up}
-use Rattle.histories.specs.History.{Running, shows, Starts, Passes, after-pass, pass-answer, Given, interact-input, InteractsAs, after-interact, interact-answer, History, rests, then-pass, then-interact}
+use Rattle.histories.specs.History.{Running, shows, Starts, Passes, passed-on, pass-answer, Given, interact-input, InteractsAs, interacted-on, interact-answer, History, rests, then-pass, then-interact}
 use Rattle.histories.specs.History.{WidgetsAreTheModels, IsRun, EveryHistoryIsRun, Balanced, HistoriesBalance, Life, AnswerAlike, HistoriesClear}
 
 -- ---- one call of the code is the model's call
@@ -50,7 +50,7 @@ kept x s ds l e f g =
     ∙ ap (λ (m : Lent). shows (with-input x (x .panel .input) (x .panel .devices) m)) g
 
 pass-step : (x : Running) (given : Declared.PassInput) (feed : List ℕ) (r : Begun) (l : Lent) → InOrder (view (x .panel .devices)) → Passes x given feed r l
-    → Stepped x (passes (Shown.input feed given)) (pass-answer x r l) (after-pass x r l)
+    → Stepped x (passes (Shown.input feed given)) (pass-answer x r l) (passed-on x r l)
 unfolding call of-pass outcome after
 pass-step x given feed r l o h =
     record {
@@ -59,7 +59,7 @@ pass-step x given feed r l o h =
       in-order = h .in-order o;
     }
   where
-    go : (q : Option PassRefusal) → option (r .refusal) ≡ q → shows (after-pass x r l) ≡ after (shows x) (of-pass (outcome q (shows (after-pass x r l))))
+    go : (q : Option PassRefusal) → option (r .refusal) ≡ q → shows (passed-on x r l) ≡ after (shows x) (of-pass (outcome q (shows (passed-on x r l))))
     go none e = refl
     go (some q) e = kept x (r .state) (r .devices) l (all .0) (all .1) (all .2)
       where
@@ -87,7 +87,7 @@ shows-itself x =
     }
 
 interact-step : (x : Running) (g : Given) (r : Interacted) (hovered contains : List ℕ) → InOrder (view (x .panel .devices)) → InteractsAs x g r hovered contains
-    → Stepped x (interacts (interact-input g)) (interact-answer x r hovered contains) (after-interact x r)
+    → Stepped x (interacts (interact-input g)) (interact-answer x r hovered contains) (interacted-on x r)
 unfolding call of-interact after with-interaction
 interact-step x g (Refused why) hovered contains o h =
     record { answer = sym (ap of-interact (h .own (shows x) (shows-itself x) refl refl (g .edges) .answer)); panel = refl; in-order = o }
@@ -125,7 +125,7 @@ follows {x} o (then-interact g r hovered contains h rest) = let s = interact-ste
 
 module _ (x : Running) (start : Starts x) where
   shows-fresh : shows x ≡ fresh
-  shows-fresh = start .fresh-panel (x .lent) (start .no-presses)
+  shows-fresh = start .shows-fresh (x .lent) refl
 
   starts-in-order : InOrder (view (x .panel .devices))
   unfolding fresh

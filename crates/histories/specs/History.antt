@@ -29,7 +29,7 @@ use Rattle.input_pass.specs.Begun.{outcome}
 use Rattle.input_state.specs.View as Shown
 use Rattle.input_pass.specs.Begun as Contract
 use Rattle.panel.specs.declared.state.Panel.{Panel}
-use Rattle.panel.specs.View.{shown-by, NoPresses, Fresh}
+use Rattle.panel.specs.View.{shown-by, Fresh, after-pass, after-interact}
 use Rattle.panel.specs.Steps.{Interacts, widgets-of}
 
 -- ---- a panel that runs: its records, and what the lent arrays hold
@@ -40,22 +40,21 @@ pub record Running : Type 0 where
 abbrev pub shows : Running → Model.Panel
 shows x = shown-by (x .lent) (x .panel)
 
--- as `fresh` returns it, over arrays without presses
-pub record Starts (x : Running) : Type 0 where
-  pub fresh-panel : Fresh (x .panel)
-  pub no-presses : NoPresses (x .lent)
+-- as panel's `fresh` returns it, whatever the arrays held before
+abbrev pub Starts : Running → Type 0
+Starts x = Fresh (x .lent .presses) (x .panel)
 
 -- ---- one pass: given these, the call returned r and left the arrays so
 abbrev pub Passes : Running → PassInput → List ℕ → Begun → Lent → Type 0
 Passes x given feed r l = Contract.Begun given feed (x .lent) (x .panel .input) (x .panel .devices) l r
 
-abbrev pub after-pass : Running → Begun → Lent → Running
-after-pass x r l =
-    record { panel = record { input = r .state; devices = r .devices; interaction = x .panel .interaction; tally = x .panel .tally }; lent = l }
+-- then the panel is as panel's `after_pass` returns it
+abbrev pub passed-on : Running → Begun → Lent → Running
+passed-on x r l = record { panel = after-pass (x .panel) r; lent = l }
 
 -- what it answers: its refusal, or that it is taken
 abbrev pub pass-answer : Running → Begun → Lent → Outcome
-pass-answer x r l = of-pass (outcome (option (r .refusal)) (shows (after-pass x r l)))
+pass-answer x r l = of-pass (outcome (option (r .refusal)) (shows (passed-on x r l)))
 
 -- ---- one interact, with its own widgets, hits and id buffers
 pub record Given : Type 0 where
@@ -84,25 +83,23 @@ InteractsAs x g r hovered contains =
     Interacts (x .panel .input .clock) (x .panel .input .screen) (x .panel .input .pointer) (x .panel .devices) (x .lent .codes) (x .lent .presses) (x .panel .interaction)
     (x .panel .tally) (g .set) (g .words) (g .numbers) (g .close) (g .within) (g .click) (g .drag) (g .hovered) (g .contains) r hovered contains
 
--- refused, it leaves all; taken, it returns the interaction and the tally for the next call
-abbrev pub after-interact : Running → Interacted → Running
-after-interact x (Refused why) = x
-after-interact x (Taken a) =
-    record { panel = record { input = x .panel .input; devices = x .panel .devices; interaction = a .interaction; tally = a .tally }; lent = x .lent }
+-- then the panel is as panel's `after_interact` returns it
+abbrev pub interacted-on : Running → Interacted → Running
+interacted-on x r = record { panel = after-interact (x .panel) r; lent = x .lent }
 
 -- what it answers: its refusal, or the snapshot with the ids written
 abbrev pub interact-answer : Running → Interacted → List ℕ → List ℕ → Outcome
 interact-answer x (Refused why) hovered contains = refused-interact why
-interact-answer x (Taken a) hovered contains = answered (snapshot-of (a .snapshot) hovered contains) (shows (after-interact x (Taken a)))
+interact-answer x (Taken a) hovered contains = answered (snapshot-of (a .snapshot) hovered contains) (shows (interacted-on x (Taken a)))
 
 -- ---- a history: panel x gets the calls, gives the answers and is then y
 pub data History : Running → List Call → List Outcome → Running → Type 0 where
   rests : {x : Running} → History x [] [] x
   then-pass : {x y : Running} {calls : List Call} {answers : List Outcome} (given : PassInput) (feed : List ℕ) (r : Begun) (l : Lent)
-      → Passes x given feed r l → History (after-pass x r l) calls answers y
+      → Passes x given feed r l → History (passed-on x r l) calls answers y
       → History x (passes (Shown.input feed given) ∷ calls) (pass-answer x r l ∷ answers) y
   then-interact : {x y : Running} {calls : List Call} {answers : List Outcome} (g : Given) (r : Interacted) (hovered contains : List ℕ)
-      → InteractsAs x g r hovered contains → History (after-interact x r) calls answers y
+      → InteractsAs x g r hovered contains → History (interacted-on x r) calls answers y
       → History x (interacts (interact-input g) ∷ calls) (interact-answer x r hovered contains ∷ answers) y
 
 -- ---- every history is the model's

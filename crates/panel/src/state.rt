@@ -1,9 +1,12 @@
-// The panel between two calls.
+// The panel between two calls: a fresh one, and the one that a pass or an interact leaves.
 use id_set::MaybeId;
+use input_pass::begin::Begun;
 use input_state::state::InputState;
+use interaction_state::state::Interacted;
 use interaction_state::state::Interaction;
 use touch_state::devices::Devices;
-ghost use Rattle.panel.specs.View.{Fresh};
+ghost use mathlib.Core.Path.{_≡_};
+ghost use Rattle.panel.specs.View.{Fresh, after-pass, after-interact};
 
 // All but the lent arrays. `tally` counts the drag starts.
 pub struct Panel {
@@ -13,10 +16,11 @@ pub struct Panel {
     pub tally: u32,
 }
 
-// egui's initial state, no drag, tally 0. Of the lent arrays only `presses` must be all 0; the others may hold anything.
-pub fn fresh() -> Panel
-    ensures { λ r. ⌜ Fresh r ⌝ }
+// egui's initial state, no drag, tally 0. The lent presses are cleared; the other lent arrays may hold anything.
+pub fn fresh(presses: &mut [u8; 145]) -> Panel
+    ensures { λ r. ⌜ Fresh (now (presses .exit)) r ⌝ }
 {
+    *presses = [0; 145];
     let input = input_state::state::fresh();
     let devices = touch_state::devices::none();
     let interaction = Interaction {
@@ -29,5 +33,40 @@ pub fn fresh() -> Panel
         devices,
         interaction,
         tally: 0,
+    }
+}
+
+// The panel after a pass, taken or refused.
+pub fn after_pass(panel: Panel, begun: Begun) -> Panel
+    ensures { λ r. ⌜ r ≡ after-pass panel begun ⌝ }
+{
+    let input = begun.state;
+    let devices = begun.devices;
+    let interaction = panel.interaction;
+    Panel {
+        input,
+        devices,
+        interaction,
+        tally: panel.tally,
+    }
+}
+
+// The panel after an interact, taken or refused.
+pub fn after_interact(panel: Panel, interacted: Interacted) -> Panel
+    ensures { λ r. ⌜ r ≡ after-interact panel interacted ⌝ }
+{
+    match interacted {
+        Interacted::Refused(why) => panel,
+        Interacted::Taken(answer) => {
+            let input = panel.input;
+            let devices = panel.devices;
+            let interaction = answer.interaction;
+            Panel {
+                input,
+                devices,
+                interaction,
+                tally: answer.tally,
+            }
+        }
     }
 }

@@ -1,19 +1,19 @@
 // One call.
 use emath_history::history::MAX_LEN;
 use emath_history::history::PARTS;
+use panel::state::Panel;
 use panel::widgets::empty;
 use pointer_events::CODES;
 use pointer_events::PLACES;
 use trace_answers::ask::ask;
 use trace_answers::dump::dump;
 use trace_interact::interact::interact;
-use trace_machine::machine::Change;
 use trace_machine::machine::Machine;
 use trace_machine::machine::Step;
-use trace_machine::machine::changed;
 use trace_machine::machine::kept;
 use trace_machine::machine::reset;
-use trace_machine::machine::with_interaction;
+use trace_machine::machine::stepped;
+use trace_machine::machine::with_panel;
 use trace_machine::machine::with_set;
 use trace_machine::passes::pass;
 use trace_text::calls::ASK;
@@ -45,7 +45,7 @@ fn inserted(
     lent: &mut Lent,
     a: &mut Answer,
     w: &[u32],
-) -> Change {
+) -> Step {
     let before = m.set;
     let placed = insert(a, before, words, numbers, edges, lent, w);
     let set = placed.set;
@@ -53,20 +53,20 @@ fn inserted(
     with_set(m, set, reply)
 }
 
-fn clear_widgets(m: Machine, w: &[u32]) -> Change {
+fn clear_widgets(m: Machine, w: &[u32]) -> Step {
     if w.len() > 0 {
         return kept(m, malformed());
     }
     with_set(m, empty(), taken(0))
 }
 
-fn set_tally(m: Machine, w: &[u32]) -> Change {
+fn set_tally(m: Machine, w: &[u32]) -> Step {
     if w.len() != 1 {
         return kept(m, malformed());
     }
     let p = m.panel;
-    let interaction = p.interaction;
-    with_interaction(m, interaction, at(w, 0), taken(0))
+    let panel = Panel { tally: at(w, 0), ..p };
+    with_panel(m, panel, taken(0))
 }
 
 fn interacted(
@@ -77,13 +77,13 @@ fn interacted(
     numbers: &Numbers,
     a: &mut Answer,
     w: &[u32],
-) -> Change {
+) -> Step {
     let p = m.panel;
     let set = m.set;
     let out = interact(a, p, set, codes, presses, words, numbers, w);
-    let interaction = out.interaction;
+    let panel = out.panel;
     let reply = out.reply;
-    with_interaction(m, interaction, out.tally, reply)
+    with_panel(m, panel, reply)
 }
 
 fn asked(
@@ -156,7 +156,7 @@ fn change(
     a: &mut Answer,
     kind: u32,
     w: &[u32],
-) -> Change {
+) -> Step {
     match kind {
         INSERT => inserted(m, words, numbers, edges, lent, a, w),
         CLEAR_WIDGETS => clear_widgets(m, w),
@@ -221,7 +221,9 @@ pub fn call(
                 kind,
                 w,
             );
-            changed(m, c)
+            let after = c.machine;
+            let reply = c.reply;
+            stepped(m, after, reply)
         }
     }
 }

@@ -207,8 +207,8 @@ fn ended(out: &mut Buffer, s: Going, form: Form, cut: bool) {
     say_end(out, s.bytes, form, cut, t);
 }
 
-fn start() -> Going {
-    let machine = fresh();
+fn start(presses: &mut [u8; 145]) -> Going {
+    let machine = fresh(presses);
     let tally = text::none();
     Going {
         machine,
@@ -231,7 +231,7 @@ pub fn replay(form: Form, limit: usize) {
     let mut answer = [0u32; 65536];
     let mut out = [0u8; 65536];
     let mut request = [0u32; 262144];
-    let mut s = start();
+    let mut s = start(&mut presses);
     let mut left = limit;
     let mut more = is_read(&mut request, 1);
     while more {

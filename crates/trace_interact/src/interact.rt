@@ -2,9 +2,9 @@
 use hit_lists::Hit;
 use hit_lists::MaybeHit;
 use interaction_state::state::Interacted;
-use interaction_state::state::Interaction;
 use interaction_state::state::InteractionSnapshot;
 use panel::state::Panel;
+use panel::state::after_interact;
 use pointer_events::CODES;
 use trace_state::parts::maybe_id;
 use trace_words::reply::Reply;
@@ -22,10 +22,9 @@ use widget_index::table::WidgetRects;
 use widget_index::table::Words;
 ghost use Prim.Native.Nat.{_≤_, _<_};
 
-// What an interact leaves for the next one, and the answer.
+// The panel after an interact, and the answer.
 pub struct Stepped {
-    pub interaction: Interaction,
-    pub tally: u32,
+    pub panel: Panel,
     pub reply: Reply,
 }
 
@@ -130,29 +129,12 @@ fn snapshot(a: &mut Answer, s: InteractionSnapshot, tally: u32, top: &[u64], all
     word(a, m, tally)
 }
 
-// A refused interact leaves the interaction and the tally as they were.
-fn answered(
-    a: &mut Answer,
-    before: Interaction,
-    tally: u32,
-    out: Interacted,
-    top: &[u64],
-    all: &[u64],
-) -> Stepped {
+fn reply_of(a: &mut Answer, out: Interacted, top: &[u64], all: &[u64]) -> Reply {
     match out {
-        Interacted::Refused(why) => Stepped {
-            interaction: before,
-            tally,
-            reply: refused_interact(a, why),
-        },
+        Interacted::Refused(why) => refused_interact(a, why),
         Interacted::Taken(x) => {
             let shot = x.snapshot;
-            let interaction = x.interaction;
-            Stepped {
-                interaction,
-                tally: x.tally,
-                reply: taken(snapshot(a, shot, x.tally, top, all)),
-            }
+            taken(snapshot(a, shot, x.tally, top, all))
         }
     }
 }
@@ -199,7 +181,10 @@ fn interact_with(
         top,
         all,
     );
-    answered(a, state, p.tally, out, top, all)
+    Stepped {
+        panel: after_interact(p, out),
+        reply: reply_of(a, out, top, all),
+    }
 }
 
 // As many entries and places as the request says.
@@ -248,10 +233,8 @@ pub fn interact(
     w: &[u32],
 ) -> Stepped {
     if !is_well_formed(w) {
-        let interaction = p.interaction;
         return Stepped {
-            interaction,
-            tally: p.tally,
+            panel: p,
             reply: malformed(),
         };
     }

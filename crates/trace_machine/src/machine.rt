@@ -1,7 +1,7 @@
 // The panel and the widget set between two calls; the lent arrays stand beside them.
 use input_pass::begin::Begun;
-use interaction_state::state::Interaction;
 use panel::state::Panel;
+use panel::state::after_pass;
 use panel::widgets::empty;
 use survey::reading::MaybePassRefusal;
 use trace_words::reply::Reply;
@@ -17,27 +17,21 @@ pub struct Machine {
     pub set: WidgetRects,
 }
 
+// What a call makes of the machine, and its answer.
 pub struct Step {
     pub machine: Machine,
     pub reply: Reply,
 }
 
-// What a call other than RESET and PASS may change, and the answer.
-pub struct Change {
-    pub set: WidgetRects,
-    pub interaction: Interaction,
-    pub tally: u32,
-    pub reply: Reply,
-}
-
-pub fn fresh() -> Machine {
-    let panel = panel::state::fresh();
+// A fresh panel and an empty set. The lent presses are cleared.
+pub fn fresh(presses: &mut [u8; 145]) -> Machine {
+    let panel = panel::state::fresh(presses);
     let set = empty();
     Machine { panel, set }
 }
 
 // A call that is refused leaves the machine `m` as it was.
-fn stepped(m: Machine, after: Machine, reply: Reply) -> Step
+pub fn stepped(m: Machine, after: Machine, reply: Reply) -> Step
     ensures { λ r. ⌜ ((r .reply .code ≡ 0 → ⊥) → r .machine ≡ m) ⌝ }
 {
     if reply.code == 0 {
@@ -56,14 +50,14 @@ pub fn refused(m: Machine) -> Step
     stepped(m, m, malformed())
 }
 
+// RESET: a fresh machine. Refused, the presses are as before.
 pub fn reset(m: Machine, presses: &mut [u8; 145], w: &[u32]) -> Step
     ensures { λ r. ⌜ ((r .reply .code ≡ 0 → ⊥) → r .machine ≡ m) ⌝ }
 {
     if w.len() > 0 {
         return refused(m);
     }
-    *presses = [0; 145];
-    stepped(m, fresh(), taken(0))
+    stepped(m, fresh(presses), taken(0))
 }
 
 fn pass_answer(a: &mut Answer, refusal: MaybePassRefusal) -> Reply {
@@ -79,68 +73,29 @@ pub fn passed(m: Machine, a: &mut Answer, begun: Begun) -> Step
 {
     let p = m.panel;
     let set = m.set;
-    let interaction = p.interaction;
-    let input = begun.state;
-    let devices = begun.devices;
     let refusal = begun.refusal;
-    let panel = Panel {
-        input,
-        devices,
-        interaction,
-        tally: p.tally,
-    };
+    let panel = after_pass(p, begun);
     stepped(m, Machine { panel, set }, pass_answer(a, refusal))
 }
 
-// After a call that changes no input.
-pub fn changed(m: Machine, c: Change) -> Step
-    ensures { λ r. ⌜ ((r .reply .code ≡ 0 → ⊥) → r .machine ≡ m) ⌝ }
-{
-    let p = m.panel;
-    let input = p.input;
-    let devices = p.devices;
-    let interaction = c.interaction;
-    let set = c.set;
-    let reply = c.reply;
-    let panel = Panel {
-        input,
-        devices,
-        interaction,
-        tally: c.tally,
-    };
-    stepped(m, Machine { panel, set }, reply)
-}
-
 // The answer alone.
-pub fn kept(m: Machine, reply: Reply) -> Change {
-    let p = m.panel;
-    let set = m.set;
-    let interaction = p.interaction;
-    Change {
-        set,
-        interaction,
-        tally: p.tally,
+pub fn kept(m: Machine, reply: Reply) -> Step {
+    let machine = m;
+    Step { machine, reply }
+}
+
+pub fn with_set(m: Machine, set: WidgetRects, reply: Reply) -> Step {
+    let panel = m.panel;
+    Step {
+        machine: Machine { panel, set },
         reply,
     }
 }
 
-pub fn with_set(m: Machine, set: WidgetRects, reply: Reply) -> Change {
-    let p = m.panel;
-    let interaction = p.interaction;
-    Change {
-        set,
-        interaction,
-        tally: p.tally,
-        reply,
-    }
-}
-
-pub fn with_interaction(m: Machine, interaction: Interaction, tally: u32, reply: Reply) -> Change {
+pub fn with_panel(m: Machine, panel: Panel, reply: Reply) -> Step {
     let set = m.set;
-    Change {
-        set,
-        interaction,
-        tally,
+    Step {
+        machine: Machine { panel, set },
         reply,
     }
 }
