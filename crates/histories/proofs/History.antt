@@ -138,7 +138,7 @@ module _ (x : Running) (start : Starts x) where
     answers-from-fresh : answers ≡ outcomes fresh calls
     answers-from-fresh = followed .is-run .answers-are ∙ ap (λ (p : Panel). outcomes p calls) shows-fresh
 
-    run-from-fresh : shows y ≡ run fresh calls
+    pub run-from-fresh : shows y ≡ run fresh calls
     run-from-fresh = followed .is-run .panel-is ∙ ap (λ (p : Panel). run p calls) shows-fresh
 
 pub every-history-is-run : EveryHistoryIsRun
