@@ -17,14 +17,18 @@ pub struct Reply {
 // The request doesn't follow the format.
 pub const MALFORMED: u32 = 255;
 
-pub fn malformed() -> Reply {
+pub fn malformed() -> Reply
+    ensures { λ r. ⌜ (r .code ≡ 255) × (r .words ≡ 0) ⌝ }
+{
     Reply {
         code: MALFORMED,
         words: 0,
     }
 }
 
-pub fn taken(words: usize) -> Reply {
+pub fn taken(words: usize) -> Reply
+    ensures { λ r. ⌜ (r .code ≡ 0) × (r .words ≡ words) ⌝ }
+{
     Reply { code: 0, words }
 }
 

@@ -3,28 +3,42 @@ use data::layers::LayerId;
 use data::widget::WidgetRect;
 use emath::pos2::Pos2;
 use emath::rect::Rect;
+ghost use mathlib.Core.Path.{_≡_};
+ghost use Rattle.data.specs.Bits.{bit-of};
+ghost use Rattle.trace_words.specs.Request.{word-at, float-at, id-at, seconds-at};
 
-pub fn at(w: &[u32], i: usize) -> u32 {
+pub fn at(w: &[u32], i: usize) -> u32
+    ensures { λ r. ⌜ r ≡ word-at (now (w .entry)) i ⌝ }
+{
     if i < w.len() {
         return w[i];
     }
     0
 }
 
-pub fn float(w: &[u32], i: usize) -> f32 {
+pub fn float(w: &[u32], i: usize) -> f32
+    ensures { λ r. ⌜ r ≡ float-at (now (w .entry)) i ⌝ }
+{
     ieee::bits::from_bits32(at(w, i))
 }
 
 // Low word, high word.
-pub fn id(w: &[u32], i: usize, j: usize) -> u64 {
+pub fn id(w: &[u32], i: usize, j: usize) -> u64
+    ensures { λ r. ⌜ r ≡ id-at (now (w .entry)) i j ⌝ }
+{
     at(w, i) as u64 + at(w, j) as u64 * 0x1_0000_0000
 }
 
-pub fn seconds(w: &[u32], i: usize, j: usize) -> f64 {
+pub fn seconds(w: &[u32], i: usize, j: usize) -> f64
+    ensures { λ r. ⌜ r ≡ seconds-at (now (w .entry)) i j ⌝ }
+{
     ieee::bits::from_bits64(id(w, i, j))
 }
 
-pub fn bit(w: u32, of: u32) -> bool {
+// The bit of weight `of`.
+pub fn bit(w: u32, of: u32) -> bool
+    ensures { λ r. ⌜ r ≡ bit-of of w ⌝ }
+{
     if of == 0 {
         return false;
     }
