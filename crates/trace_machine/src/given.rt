@@ -10,15 +10,21 @@ use trace_words::request::at;
 use trace_words::request::bit;
 use trace_words::request::float;
 use trace_words::request::seconds;
+ghost use mathlib.Core.Path.{_≡_};
+ghost use Rattle.trace_machine.specs.Given.{time-given, rect-given, options-given, pass-input};
 
-fn time_given(w: &[u32]) -> MaybeF64 {
+fn time_given(w: &[u32]) -> MaybeF64
+    ensures { λ r. ⌜ r ≡ time-given (now (w .entry)) ⌝ }
+{
     if bit(at(w, 0), 1) {
         return MaybeF64::Some(seconds(w, 1, 2));
     }
     MaybeF64::None
 }
 
-fn rect_given(w: &[u32]) -> MaybeRect {
+fn rect_given(w: &[u32]) -> MaybeRect
+    ensures { λ r. ⌜ r ≡ rect-given (now (w .entry)) ⌝ }
+{
     if bit(at(w, 0), 2) {
         let min = Pos2 {
             x: float(w, 6),
@@ -33,7 +39,9 @@ fn rect_given(w: &[u32]) -> MaybeRect {
     MaybeRect::None
 }
 
-fn options(w: &[u32]) -> InputOptions {
+fn options(w: &[u32]) -> InputOptions
+    ensures { λ r. ⌜ r ≡ options-given (now (w .entry)) ⌝ }
+{
     let patterns = at(w, 17);
     let zoom_modifier = Modifiers::of(patterns);
     let horizontal_scroll_modifier = Modifiers::of(patterns / 32);
@@ -50,7 +58,9 @@ fn options(w: &[u32]) -> InputOptions {
     }
 }
 
-pub fn pass_input(w: &[u32]) -> PassInput {
+pub fn pass_input(w: &[u32]) -> PassInput
+    ensures { λ r. ⌜ r ≡ pass-input (now (w .entry)) ⌝ }
+{
     let time = time_given(w);
     let screen_rect = rect_given(w);
     let options = options(w);

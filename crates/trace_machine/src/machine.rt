@@ -10,7 +10,10 @@ use trace_words::reply::refused_pass;
 use trace_words::reply::taken;
 use trace_words::words::Answer;
 use widget_index::table::WidgetRects;
+ghost use mathlib.Core.Option.{none};
 ghost use mathlib.Core.Path.{_≡_};
+ghost use Rattle.survey.specs.Survey.{option};
+ghost use Rattle.trace_machine.specs.Machine.{machine, step, stepped, Starts, Resets, AfterPass};
 
 pub struct Machine {
     pub panel: Panel,
@@ -24,7 +27,9 @@ pub struct Step {
 }
 
 // A fresh panel and an empty set. The lent presses are cleared.
-pub fn fresh(presses: &mut [u8; 145]) -> Machine {
+pub fn fresh(presses: &mut [u8; 145]) -> Machine
+    ensures { λ r. ⌜ Starts (now (presses .exit)) r ⌝ }
+{
     let panel = panel::state::fresh(presses);
     let set = empty();
     Machine { panel, set }
@@ -32,7 +37,7 @@ pub fn fresh(presses: &mut [u8; 145]) -> Machine {
 
 // A call that is refused leaves the machine `m` as it was.
 pub fn stepped(m: Machine, after: Machine, reply: Reply) -> Step
-    ensures { λ r. ⌜ ((r .reply .code ≡ 0 → ⊥) → r .machine ≡ m) ⌝ }
+    ensures { λ r. ⌜ r ≡ stepped m after reply ⌝ }
 {
     if reply.code == 0 {
         return Step {
@@ -45,22 +50,36 @@ pub fn stepped(m: Machine, after: Machine, reply: Reply) -> Step
 
 // The request doesn't follow the format.
 pub fn refused(m: Machine) -> Step
-    ensures { λ r. ⌜ ((r .reply .code ≡ 0 → ⊥) → r .machine ≡ m) ⌝ }
+    ensures { λ r. ⌜ (r .reply .code ≡ 255) × (r .machine ≡ m) ⌝ }
 {
-    stepped(m, m, malformed())
+    kept(m, malformed())
+}
+
+// RESET has no words.
+fn reset_reply(words: usize) -> Reply
+    ensures { λ r. ⌜ (words ≡ 0 → r .code ≡ 0) × ((words ≡ 0 → ⊥) → r .code ≡ 255) ⌝ }
+{
+    if words > 0 {
+        return malformed();
+    }
+    taken(0)
 }
 
 // RESET: a fresh machine. Refused, the presses are as before.
 pub fn reset(m: Machine, presses: &mut [u8; 145], w: &[u32]) -> Step
-    ensures { λ r. ⌜ ((r .reply .code ≡ 0 → ⊥) → r .machine ≡ m) ⌝ }
+    ensures { λ r. ⌜ Resets m (now (w .entry)) (now (presses .entry)) (now (presses .exit)) r ⌝ }
 {
-    if w.len() > 0 {
-        return refused(m);
+    let reply = reset_reply(w.len());
+    if reply.code != 0 {
+        return kept(m, reply);
     }
-    stepped(m, fresh(presses), taken(0))
+    kept(fresh(presses), reply)
 }
 
-fn pass_answer(a: &mut Answer, refusal: MaybePassRefusal) -> Reply {
+// A pass that is taken has no words to answer.
+fn pass_answer(a: &mut Answer, refusal: MaybePassRefusal) -> Reply
+    ensures { λ r. ⌜ (option refusal ≡ none → r .code ≡ 0) ⌝ }
+{
     match refusal {
         MaybePassRefusal::None => taken(0),
         MaybePassRefusal::Some(why) => refused_pass(a, why),
@@ -69,7 +88,7 @@ fn pass_answer(a: &mut Answer, refusal: MaybePassRefusal) -> Reply {
 
 // After a pass.
 pub fn passed(m: Machine, a: &mut Answer, begun: Begun) -> Step
-    ensures { λ r. ⌜ ((r .reply .code ≡ 0 → ⊥) → r .machine ≡ m) ⌝ }
+    ensures { λ r. ⌜ AfterPass m begun r ⌝ }
 {
     let p = m.panel;
     let set = m.set;
@@ -79,12 +98,16 @@ pub fn passed(m: Machine, a: &mut Answer, begun: Begun) -> Step
 }
 
 // The answer alone.
-pub fn kept(m: Machine, reply: Reply) -> Step {
+pub fn kept(m: Machine, reply: Reply) -> Step
+    ensures { λ r. ⌜ r ≡ step m reply ⌝ }
+{
     let machine = m;
     Step { machine, reply }
 }
 
-pub fn with_set(m: Machine, set: WidgetRects, reply: Reply) -> Step {
+pub fn with_set(m: Machine, set: WidgetRects, reply: Reply) -> Step
+    ensures { λ r. ⌜ r ≡ step (machine (m .panel) «set») reply ⌝ }
+{
     let panel = m.panel;
     Step {
         machine: Machine { panel, set },
@@ -92,7 +115,9 @@ pub fn with_set(m: Machine, set: WidgetRects, reply: Reply) -> Step {
     }
 }
 
-pub fn with_panel(m: Machine, panel: Panel, reply: Reply) -> Step {
+pub fn with_panel(m: Machine, panel: Panel, reply: Reply) -> Step
+    ensures { λ r. ⌜ r ≡ step (machine panel (m .«set»)) reply ⌝ }
+{
     let set = m.set;
     Step {
         machine: Machine { panel, set },

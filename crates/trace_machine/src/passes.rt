@@ -10,7 +10,8 @@ use pointer_events::CODES;
 use pointer_events::PLACES;
 use trace_words::request::PASS_WORDS;
 use trace_words::words::Answer;
-ghost use mathlib.Core.Path.{_≡_};
+ghost use Rattle.input_state.specs.View.{lent};
+ghost use Rattle.trace_machine.specs.Machine.{Passes};
 
 pub fn pass(
     m: Machine,
@@ -22,7 +23,9 @@ pub fn pass(
     a: &mut Answer,
     w: &[u32],
 ) -> Step
-    ensures { λ r. ⌜ ((r .reply .code ≡ 0 → ⊥) → r .machine ≡ m) ⌝ }
+    ensures { λ r. ⌜ Passes m (now (w .entry))
+        (lent (now (times .entry)) (now (positions .entry)) (now (codes .entry)) (now (places .entry)) (now (presses .entry)))
+        (lent (now (times .exit)) (now (positions .exit)) (now (codes .exit)) (now (places .exit)) (now (presses .exit))) r ⌝ }
 {
     if w.len() < PASS_WORDS {
         return refused(m);
