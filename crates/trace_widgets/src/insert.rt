@@ -30,6 +30,8 @@ use widget_index::table::layer_of;
 use widget_index::table::layers_of;
 use widget_insert::decide;
 use widget_slices::settled;
+ghost use mathlib.Core.Path.{_≡_};
+ghost use Rattle.trace_widgets.specs.Insert.{Insertion};
 
 // The set after an insertion, and the answer.
 pub struct Placed {
@@ -82,7 +84,9 @@ fn follow(words: &Words, numbers: &Numbers, lent: &mut Lent, a: [WidgetRect; 102
     scatter(lent, set, numbers, b, layer_of(numbers[PLACES + (e - 1)]));
 }
 
-fn answered(a: &mut Answer, position: usize, many: usize, w: WidgetRect) -> Reply {
+fn answered(a: &mut Answer, position: usize, many: usize, w: WidgetRect) -> Reply
+    ensures { λ r. ⌜ r .code ≡ 0 ⌝ }
+{
     let mut m = count(a, 0, position);
     m = count(a, m, many);
     taken(records::widget(a, m, w))
@@ -96,7 +100,11 @@ fn insert_into(
     edges: &mut Edges,
     lent: &mut Lent,
     w: &[u32],
-) -> Placed {
+) -> Placed
+    ensures { λ r. ⌜ Insertion
+        h (now (words .entry)) (now (numbers .entry)) (now (edges .entry)) (now (lent .entry))
+        r (now (words .exit)) (now (numbers .exit)) (now (edges .exit)) (now (lent .exit)) ⌝ }
+{
     let new = widget(w);
     let before = slice(h, words, numbers, lent, w, new);
     let d = decide(
@@ -134,7 +142,11 @@ pub fn insert(
     edges: &mut Edges,
     lent: &mut Lent,
     w: &[u32],
-) -> Placed {
+) -> Placed
+    ensures { λ r. ⌜ Insertion
+        h (now (words .entry)) (now (numbers .entry)) (now (edges .entry)) (now (lent .entry))
+        r (now (words .exit)) (now (numbers .exit)) (now (edges .exit)) (now (lent .exit)) ⌝ }
+{
     if !is_well_formed(w) {
         return Placed {
             set: h,
