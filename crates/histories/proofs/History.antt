@@ -12,7 +12,7 @@ use Rattle.model.specs.Pass.{Panel, PassInput, fresh}
 use Rattle.model.specs.Interact.{InteractInput, InteractionSnapshot, interact, with-interaction}
 use Rattle.model.specs.Calls.{Call, passes, interacts, Outcome, refused-interact, passed, answered, of-pass, of-interact, call, after, run, outcomes}
 use Rattle.theorems.specs.Balance as Model
-use Rattle.theorems.specs.Clearing.{Clears, Takes, Fair, Alike, twice}
+use Rattle.theorems.specs.Clearing.{Clears, Takes, Fair, Since, nothing-since, Alike, twice}
 use Rattle.theorems.proofs.Balance.{balance}
 use Rattle.theorems.proofs.Clearing.{clearing}
 use Rattle.survey.specs.Survey.{option}
@@ -205,14 +205,14 @@ module _ (past : List Call) (c : PassInput) (x : InteractInput) (later : List Ca
   later-answers : one .answers ≡ outcomes (shows (one .cleared)) later
   later-answers = follows (to-clear .in-order) (one .later-history) .is-run .answers-are
 
-answer-alike : (came clicked : Bool) (p q : Panel) (later : List Call) → Alike came clicked p q later → AnswerAlike came clicked p q (outcomes p later) (outcomes q later)
+answer-alike : (came : Bool) (since : Since) (p q : Panel) (later : List Call) → Alike came since p q later → AnswerAlike came since p q (outcomes p later) (outcomes q later)
 unfolding outcomes
-answer-alike came clicked p q [] h = tt
-answer-alike came clicked p q (c ∷ calls) h = (h .0, answer-alike _ _ (after p (call p c)) (after q (call q c)) calls (h .1))
+answer-alike came since p q [] h = tt
+answer-alike came since p q (c ∷ calls) h = (h .0, answer-alike _ _ (after p (call p c)) (after q (call q c)) calls (h .1))
 
 pub histories-clear : HistoriesClear
 histories-clear past₁ past₂ later c x one two clears fair =
-    subst₂ (AnswerAlike false false p q) (sym (later-answers past₁ c x later one)) (sym (later-answers past₂ c x later two)) (answer-alike false false p q later (alike clears fair))
+    subst₂ (AnswerAlike false nothing-since p q) (sym (later-answers past₁ c x later one)) (sym (later-answers past₂ c x later two)) (answer-alike false nothing-since p q later (alike clears fair))
   where
     p : Panel
     p = shows (one .cleared)
@@ -221,8 +221,8 @@ histories-clear past₁ past₂ later c x one two clears fair =
     q = shows (two .cleared)
 
     alike : (cl : Clears c (shows (one .before)) (shows (two .before))) → Fair (λ o. o ≡ c .options) (twice (c .options .«max_double_click_delay»)) (cl .time) false p q later
-        → Alike false false p q later
+        → Alike false nothing-since p q later
     alike =
-        subst₂ (λ (s t : Panel). (cl : Clears c s t) → Fair (λ o. o ≡ c .options) (twice (c .options .«max_double_click_delay»)) (cl .time) false p q later → Alike false false p q later)
+        subst₂ (λ (s t : Panel). (cl : Clears c s t) → Fair (λ o. o ≡ c .options) (twice (c .options .«max_double_click_delay»)) (cl .time) false p q later → Alike false nothing-since p q later)
         (sym (past-run past₁ c x later one)) (sym (past-run past₂ c x later two))
         (λ cl f. clearing past₁ past₂ later c x p q cl (takes past₁ c x later one) (takes past₂ c x later two) f)

@@ -11,7 +11,7 @@ use Rattle.model.specs.Pass as Model
 use Rattle.model.specs.Interact.{InteractInput, InteractionSnapshot}
 use Rattle.model.specs.Calls.{Call, passes, interacts, Outcome, refused-interact, passed, answered, of-pass, after, run, outcomes}
 use Rattle.theorems.specs.Balance.{one-if-is, starts, stops, last-dragged, all-starts}
-use Rattle.theorems.specs.Clearing.{Clears, Fair, Same, When, is-passed, has-click, twice}
+use Rattle.theorems.specs.Clearing.{Clears, Fair, Since, nothing-since, then-since, Same, When, is-passed, twice}
 use Rattle.survey.specs.Survey.{option}
 use Rattle.hit_lists.specs.declared.MaybeHit.{MaybeHit}
 use Rattle.hit_refusals.specs.Refusals.{input}
@@ -139,12 +139,12 @@ pub record Life (past : List Call) (c : Model.PassInput) (x : InteractInput) (la
 
 -- "from the next taken pass on all their later answers are equal", and so are the replies to every question asked after them: theorems' `Alike`, of what
 -- the two panels answered
-abbrev pub AnswerAlike : Bool → Bool → Model.Panel → Model.Panel → List Outcome → List Outcome → Type 0
-AnswerAlike came clicked p q [] [] = Unit {0}
-AnswerAlike came clicked p q [] (b ∷ more) = ⊥
-AnswerAlike came clicked p q (a ∷ more) [] = ⊥
-AnswerAlike came clicked p q (a ∷ more) (b ∷ more′) =
-    When (is-passed a || came) (Same (has-click a || clicked) p q a b) × AnswerAlike (is-passed a || came) (has-click a || clicked) (after p a) (after q b) more more′
+abbrev pub AnswerAlike : Bool → Since → Model.Panel → Model.Panel → List Outcome → List Outcome → Type 0
+AnswerAlike came since p q [] [] = Unit {0}
+AnswerAlike came since p q [] (b ∷ more) = ⊥
+AnswerAlike came since p q (a ∷ more) [] = ⊥
+AnswerAlike came since p q (a ∷ more) (b ∷ more′) =
+    When (is-passed a || came) (Same (then-since a since) p q a b) × AnswerAlike (is-passed a || came) (then-since a since) (after p a) (after q b) more more′
 
 -- Two panels with any two pasts, the same clearing pass, the same interact and the same later list.
 abbrev pub HistoriesClear : Type 0
@@ -152,4 +152,4 @@ HistoriesClear =
     (past₁ past₂ later : List Call) (c : Model.PassInput) (x : InteractInput) (one : Life past₁ c x later) (two : Life past₂ c x later)
     (clears : Clears c (shows (one .before)) (shows (two .before)))
     → Fair (λ o. o ≡ c .options) (twice (c .options .«max_double_click_delay»)) (clears .time) false (shows (one .cleared)) (shows (two .cleared)) later
-    → AnswerAlike false false (shows (one .cleared)) (shows (two .cleared)) (one .answers) (two .answers)
+    → AnswerAlike false nothing-since (shows (one .cleared)) (shows (two .cleared)) (one .answers) (two .answers)
