@@ -133,7 +133,7 @@ unfoldable pub source-if : Bool → MouseWheelSource → MaybeMouseWheelSource
 source-if false s = no-source
 source-if true s = some-source s
 
--- how long until a press turns into a context menu
+-- how long until a press turns into a context menu; egui asks too whether max_click_duration is finite, which in the domain it is
 unfoldable pub until-menu : InputOptions → Float → MaybeF64 → MaybeF64
 until-menu o now no-time = no-time
 until-menu o now (some-time t) =
