@@ -65,7 +65,10 @@ fn set_tally(m: Machine, w: &[u32]) -> Step {
         return kept(m, malformed());
     }
     let p = m.panel;
-    let panel = Panel { tally: at(w, 0), ..p };
+    let panel = Panel {
+        tally: at(w, 0),
+        ..p
+    };
     with_panel(m, panel, taken(0))
 }
 
