@@ -1,6 +1,7 @@
 -- `is_short` meets its contract. Assumes nothing.
 use borrow.Author.Needs.{needs}
-use mathlib.Core.Path.{sym}
+use mathlib.Core.Path.{_≡_, sym}
+use mathlib.Core.Bool.{true}
 use lib.Dec.{T}
 use Rattle.emath.specs.Vec.{length}
 use Rattle.model.specs.Numbers.{eight}
@@ -15,7 +16,8 @@ length-sq-requires c κs = search needs
 returns : tie.Need-returns
 unfolding length ofBits
 returns c =
-    let h : T (le sixty-four (c .before .length-sq .result)) = rw (c .if1 .taken) tt in
+    let above : le sixty-four (c .before .length-sq .result) ≡ true = c .if1 .taken in
+    let h : T (le sixty-four (c .before .length-sq .result)) = rw above tt in
     sym (not-short _ (rw (c .before .length-sq .ensures) at h))
 
 length-requires : tie.Need-length-requires
