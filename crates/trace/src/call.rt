@@ -35,7 +35,8 @@ use trace_words::words::Answer;
 use widget_index::table::Edges;
 use widget_index::table::Numbers;
 use widget_index::table::Words;
-ghost use mathlib.Core.Path.{_≡_};
+ghost use Rattle.input_state.specs.View.{lent as lent-arrays};
+ghost use Rattle.trace.specs.Call.{arrays, Changes, Called};
 
 fn inserted(
     m: Machine,
@@ -45,7 +46,11 @@ fn inserted(
     lent: &mut Lent,
     a: &mut Answer,
     w: &[u32],
-) -> Step {
+) -> Step
+    ensures { λ r. ⌜ Changes
+        (now (words .entry)) (now (numbers .entry)) (now (edges .entry)) (now (lent .entry))
+        r (now (words .exit)) (now (numbers .exit)) (now (edges .exit)) (now (lent .exit)) ⌝ }
+{
     let before = m.set;
     let placed = insert(a, before, words, numbers, edges, lent, w);
     let set = placed.set;
@@ -159,7 +164,11 @@ fn change(
     a: &mut Answer,
     kind: u32,
     w: &[u32],
-) -> Step {
+) -> Step
+    ensures { λ r. ⌜ Changes
+        (now (words .entry)) (now (numbers .entry)) (now (edges .entry)) (now (lent .entry))
+        r (now (words .exit)) (now (numbers .exit)) (now (edges .exit)) (now (lent .exit)) ⌝ }
+{
     match kind {
         INSERT => inserted(m, words, numbers, edges, lent, a, w),
         CLEAR_WIDGETS => clear_widgets(m, w),
@@ -187,7 +196,7 @@ fn change(
     }
 }
 
-// One request. The lent arrays of a refused one are as before too: the panel's contracts say so.
+// One request.
 pub fn call(
     m: Machine,
     times: &mut [f64; MAX_LEN],
@@ -203,7 +212,11 @@ pub fn call(
     kind: u32,
     w: &[u32],
 ) -> Step
-    ensures { λ r. ⌜ ((r .reply .code ≡ 0 → ⊥) → r .machine ≡ m) ⌝ }
+    ensures { λ r. ⌜ Called m kind (now (w .entry))
+        (arrays (lent-arrays (now (times .entry)) (now (positions .entry)) (now (codes .entry)) (now (places .entry)) (now (presses .entry)))
+        (now (words .entry)) (now (numbers .entry)) (now (edges .entry)) (now (lent .entry)))
+        (arrays (lent-arrays (now (times .exit)) (now (positions .exit)) (now (codes .exit)) (now (places .exit)) (now (presses .exit)))
+        (now (words .exit)) (now (numbers .exit)) (now (edges .exit)) (now (lent .exit))) r ⌝ }
 {
     match kind {
         RESET => reset(m, presses, w),

@@ -1,0 +1,40 @@
+-- What one request makes of the machine and of every lent array. A reply of code 0 says that it is taken.
+use Prim.Native.Nat.{ℕ}
+use mathlib.Core.Path.{_≡_}
+use mathlib.Core.List.{List}
+use lib.Ieee.{Float}
+use Rattle.input_state.specs.View.{Lent, lent}
+use Rattle.trace_machine.specs.declared.machine.Machine.{Machine}
+use Rattle.trace_machine.specs.declared.machine.Step.{Step}
+use Rattle.trace_machine.specs.Machine.{Resets, Passes}
+
+-- what is lent: the pass's arrays; the set's three; the records of the widgets, 17 words each
+pub record Arrays : Type 0 where
+  pub lent : Lent
+  pub words : List ℕ
+  pub numbers : List ℕ
+  pub edges : List Float
+  pub records : List ℕ
+
+abbrev pub arrays : Lent → List ℕ → List ℕ → List Float → List ℕ → Arrays
+arrays l words numbers edges records = record { lent = l; words = words; numbers = numbers; edges = edges; records = records }
+
+-- compare/FORMAT.md: "0 RESET", "1 PASS"
+abbrev pub reset-kind : ℕ
+reset-kind = 0
+
+abbrev pub pass-kind : ℕ
+pass-kind = 1
+
+-- a call that is neither: refused, every place of the set's arrays and of the records is as before
+pub record Changes (words numbers : List ℕ) (edges : List Float) (records : List ℕ) (r : Step) (words' numbers' : List ℕ) (edges' : List Float) (records' : List ℕ) : Type 0 where
+  pub refused : (r .reply .code ≡ 0 → ⊥) → (words' ≡ words) × (numbers' ≡ numbers) × (edges' ≡ edges) × (records' ≡ records)
+
+-- one request of this kind with these words, over the arrays a, which are a' after it
+pub record Called (m : Machine) (kind : ℕ) (w : List ℕ) (a a' : Arrays) (r : Step) : Type 0 where
+  -- refused, whatever its kind: the machine and every place of every lent array are as before
+  pub refused : (r .reply .code ≡ 0 → ⊥) → (r .machine ≡ m) × (a' ≡ a)
+  -- RESET: by its own contract, of the presses
+  pub reset : kind ≡ reset-kind → Resets m w (a .lent .presses) (a' .lent .presses) r
+  -- PASS: by its own contract, of the pass's arrays
+  pub pass : kind ≡ pass-kind → Passes m w (a .lent) (a' .lent) r
