@@ -1,8 +1,6 @@
 -- `hit_lists::lies_from` meets its contract. Assumes nothing.
-use Prim.Native.Nat.{ℕ, _*_, _≤_}
+use Prim.Native.Nat.{_*_, _≤_}
 use mathlib.Core.Path.{_≡_, sym, _∙_}
-use mathlib.Core.Bool.{true}
-use lib.Dec.{leb}
 use lib.ListN.{length}
 use lib.Seq.{length-take-le}
 use native.Mathlib.Omega.{arith}
@@ -17,11 +15,11 @@ use Rattle.hit_lists.proofs.has_hit.Reads as has-hit-reads
 use Rattle.hit_lists.proofs.hit_at.Reads as hit-at-reads
 use Rattle.hit_lists.proofs.hit_below.Reads as hit-below-reads
 
-not-below-none : (n : ℕ) → leb 0 n ≡ true
-not-below-none n = le-leb 0 n (omega arith)
-
 returns : tie.Need-returns
-returns c = rw (c .if1 .taken, not-below-none)
+returns c =
+    let a = c .before .before .args in
+    let bottom : a .top ≡ 0 = c .if1 .taken in
+    sym (le-leb (a .top) _ (omega arith))
 
 returns-2 : tie.Need-returns-2
 returns-2 c =

@@ -1,8 +1,9 @@
 -- `id_lists::insert_both` meets its contract. Assumes nothing.
-use mathlib.Core.Path.{sym, _∙_, ap}
+use mathlib.Core.Path.{_≡_, sym, _∙_, ap}
 use mathlib.Core.List.{[]}
 use native.Mathlib.Omega.{arith}
-use Rattle.model.specs.Interact.{insert-some}
+use Rattle.model.specs.Interact.{insert-some, hit-id}
+use Rattle.hit_lists.specs.Hits.{view}
 use Rattle.id_set.specs.Ids.{option-of}
 use Rattle.id_set.proofs.Insert.{some-more}
 use Rattle.id_set.proofs.Written.{then-by}
@@ -32,7 +33,11 @@ same-length c = search needs
 
 returns : tie.Need-returns
 returns c =
-    rw (← c .before .before .before .hit-id2 .ensures, ← c .before .before .before .before .before .before .before .before .hit-id .ensures)
+    let second = c .before .before .before in
+    let first = second .before .before .before .before .before in
+    let drag : option-of (first .hit-id .result) ≡ hit-id (view (first .before .before .before .args .drag)) = first .hit-id .ensures in
+    let click : option-of (second .hit-id2 .result) ≡ hit-id (view (first .before .before .before .args .click)) = second .hit-id2 .ensures in
+    rw (← click, ← drag)
     (then-by _ _ _ _ (c .before .before .before .before .before .before .before .insert-some .ensures) (insert-some _) (λ t. some-more _ t .0) _ _ (c .before .before .insert-some2 .ensures))
 
 pub insert-both-spec : {M : Type 1} → statement M
