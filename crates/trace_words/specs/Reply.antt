@@ -12,14 +12,16 @@ abbrev pub index-count : Option ℕ → ℕ
 index-count none = 0
 index-count (some i) = 1
 
+-- it stands in word 0, and every other place keeps its contents
 abbrev pub with-index : Option ℕ → List ℕ → List ℕ
 with-index none a = a
 with-index (some i) a = set a 0 (i % 0x1_0000_0000)
 
+-- what a call refused by this row writes
 pub record Answers (row : Row) (a : List ℕ) (r : Reply) (b : List ℕ) : Type 0 where
   -- 01's number
   pub code : r .code ≡ row .number
   -- the index follows in the rows that return one
   pub words : r .words ≡ index-count (row .index)
-  -- every other place of the lent array keeps its contents
+  -- every place of the lent array
   pub array : b ≡ with-index (row .index) a
