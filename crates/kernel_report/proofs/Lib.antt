@@ -1,0 +1,3 @@
+-- What the proofs of the functions rest on.
+pub mod Told
+pub mod Written
