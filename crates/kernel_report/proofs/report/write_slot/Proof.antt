@@ -160,22 +160,21 @@ returns-5 c =
     let begin = at-change .before .before .before .before .before .before .args in
     let words = words-of-replaced at-change in
     let lifted = rw (read-back (begin .s .acted .id) (first .before .struct-told4 .given .0 .1)) at (first .write-touch4 .ensures) in
-    let wrote = rw (read-back (begin .s .now .id) (second .before .struct-told5 .given .0 .1)) at (second .write-touch5 .ensures) in
-    (
+    let wrote = rw (read-back (begin .s .now .id) (second .before .struct-told5 .given .0 .1)) at (second .write-touch5 .ensures) in (
       omega (arith, wrote .0, lifted .0, simp length-append at (ap length words), replaced-length at-change, replaced-length-2 at-change),
       put-two
-        (begin .at)
-        (first .write-touch4 .result)
-        (encode (touch (begin .device) End (begin .s .acted .id) (begin .s .now)))
-        (encode (touch (begin .device) Start (begin .s .now .id) (begin .s .now)))
-        (encode-all (slot-events (begin .device) (begin .s)))
-        (begin .feed .now)
-        _
-        _
-        (omega (arith, lifted .0, replaced-length at-change))
-        (lifted .1)
-        (wrote .1)
-        words,
+          (begin .at)
+          (first .write-touch4 .result)
+          (encode (touch (begin .device) End (begin .s .acted .id) (begin .s .now)))
+          (encode (touch (begin .device) Start (begin .s .now .id) (begin .s .now)))
+          (encode-all (slot-events (begin .device) (begin .s)))
+          (begin .feed .now)
+          _
+          _
+          (omega (arith, lifted .0, replaced-length at-change))
+          (lifted .1)
+          (wrote .1)
+          words,
     )
 
 pub write-slot-spec : {M : Type 1} → statement M

@@ -1,0 +1,3 @@
+-- What the proofs of the functions rest on.
+pub mod Run
+pub mod Calls
