@@ -1,4 +1,6 @@
 -- `kernel_report::touch::position` meets its contract. Assumes nothing.
+use mathlib.Core.Path.{_≡_, ap, _∙_}
+use lib.Ieee.{ofInt, binary32}
 use Rattle.kernel_report.proofs.Told.{read-back}
 use Rattle.kernel_report.specs.Report.{position}
 use borrow.Author.Needs.{needs}
@@ -14,7 +16,11 @@ coordinate-requires-2 c κs = search needs
 returns : tie.Need-returns
 unfolding position
 returns c =
-    rw (c .coordinate2 .ensures, c .before .before .coordinate .ensures, read-back _ (c .before .struct-told2 .given .1 .0 .1), read-back _ (c .before .struct-told2 .given .1 .1 .0 .1))
+    let f = c .before .before .before .before .args .f in
+    let told = c .before .struct-told2 .given in
+    let x : c .before .before .coordinate .result ≡ ofInt binary32 (f .x) = c .before .before .coordinate .ensures ∙ ap (ofInt binary32) (read-back (f .x) (told .1 .0 .1)) in
+    let y : c .coordinate2 .result ≡ ofInt binary32 (f .y) = c .coordinate2 .ensures ∙ ap (ofInt binary32) (read-back (f .y) (told .1 .1 .0 .1)) in
+    (λ j. record { x = x j; y = y j })
 
 pub position-spec : {M : Type 1} → statement M
 position-spec = tie.close (tie.spec coordinate-requires coordinate-requires-2 returns)
