@@ -1,4 +1,4 @@
-// A call in plain text: one line that says when, what, and what came of it.
+// A call in plain text: one line that says when, what, and what came of it; the events of a pass stand below it.
 use crate::calls::ASK;
 use crate::calls::CLEAR_WIDGETS;
 use crate::calls::DUMP;
@@ -6,7 +6,8 @@ use crate::calls::INSERT;
 use crate::calls::INTERACT;
 use crate::calls::PASS;
 use crate::calls::RESET;
-use feed::split::following;
+use trace_events::clearing::is_clearing;
+use trace_events::events::event_count;
 use trace_output::output::Buffer;
 use trace_output::output::aligned;
 use trace_output::output::byte;
@@ -16,22 +17,28 @@ use trace_words::reply::Reply;
 use trace_words::request::PASS_WORDS;
 use trace_words::request::at;
 use trace_words::request::id;
-ghost use Prim.Native.Nat.{_<_, _≤_};
-ghost use lib.ListN.{length};
+ghost use Prim.Native.Nat.{_≤_};
 
-// Drags started and stopped so far, and calls.
+// Calls so far; drags started and stopped since the panel was fresh, and how many go on, 0 or 1.
 pub struct Tally {
     pub calls: u64,
     pub starts: u64,
     pub stops: u64,
+    pub dragged: u64,
+}
+
+// So many calls, and a fresh panel.
+fn fresh(calls: u64) -> Tally {
+    Tally {
+        calls,
+        starts: 0,
+        stops: 0,
+        dragged: 0,
+    }
 }
 
 pub fn none() -> Tally {
-    Tally {
-        calls: 0,
-        starts: 0,
-        stops: 0,
-    }
+    fresh(0)
 }
 
 fn shifted(m: u64, by: u64) -> u64 {
@@ -139,39 +146,34 @@ fn refused(out: &mut Buffer, n: usize, a: &[u32], r: Reply, kind: u32) -> usize 
     meaning(out, m, r.code)
 }
 
-// The place after the event at `at`; the end, where it is cut short.
-fn next_place(feed: &[u32], at: usize) -> usize
-    requires { ⌜ at < length (now feed) ⌝ }
-    ensures { λ r. ⌜ at < r ⌝ }
-{
-    let n = following(feed[at]);
-    if n < feed.len() - at {
-        return at + (n + 1);
+// A clearing pass gives a time and a screen rectangle.
+fn is_clearing_pass(w: &[u32], feed: &[u32]) -> bool {
+    if at(w, 0) % 4 != 3 {
+        return false;
     }
-    feed.len()
+    is_clearing(feed)
 }
 
-// How many events the feed has.
-fn event_count(feed: &[u32]) -> u64 {
-    let mut events: u64 = 0;
-    let mut at: usize = 0;
-    while at < feed.len() {
-        events = std::num::wrapping_add_u64(events, 1);
-        at = next_place(feed, at);
+// How many events there are, and each of them below.
+fn counted_events(out: &mut Buffer, n: usize, w: &[u32], feed: &[u32]) -> usize {
+    let k = event_count(feed);
+    let mut m = decimal(out, n, k);
+    if k == 1 {
+        m = bytes(out, m, b" event");
+        return trace_events::events::events(out, m, feed);
     }
-    events
+    m = bytes(out, m, b" events");
+    if is_clearing_pass(w, feed) {
+        m = bytes(out, m, b", a clearing pass");
+    }
+    trace_events::events::events(out, m, feed)
 }
 
 fn events(out: &mut Buffer, n: usize, w: &[u32]) -> usize {
     if w.len() < PASS_WORDS {
         return n;
     }
-    let k = event_count(&w[PASS_WORDS..]);
-    let m = decimal(out, n, k);
-    if k == 1 {
-        return bytes(out, m, b" event");
-    }
-    bytes(out, m, b" events")
+    counted_events(out, n, w, &w[PASS_WORDS..])
 }
 
 // What was done to a widget, if to any.
@@ -185,16 +187,34 @@ fn did(out: &mut Buffer, n: usize, what: &[u8], d: u64) -> usize {
     bytes(out, m, b"  ")
 }
 
+// Each drag that started has stopped or goes on.
+fn is_balanced(t: Tally) -> bool {
+    t.starts == std::num::wrapping_add_u64(t.stops, t.dragged)
+}
+
+fn balance(out: &mut Buffer, n: usize, t: Tally) -> usize {
+    let mut m = bytes(out, n, b"starts ");
+    m = decimal(out, m, t.starts);
+    m = bytes(out, m, b", stops ");
+    m = decimal(out, m, t.stops);
+    if t.dragged == 0 {
+        m = bytes(out, m, b", none dragged: ");
+    } else {
+        m = bytes(out, m, b", one dragged: ");
+    }
+    if is_balanced(t) {
+        return bytes(out, m, b"balanced");
+    }
+    bytes(out, m, b"NOT BALANCED")
+}
+
 fn snapshot(out: &mut Buffer, n: usize, a: &[u32], t: Tally) -> usize {
     let mut m = did(out, n, b"clicked", id(a, 0, 1));
     m = did(out, m, b"long touched", id(a, 2, 3));
     m = did(out, m, b"drag started", id(a, 4, 5));
     m = did(out, m, b"dragged", id(a, 6, 7));
     m = did(out, m, b"drag stopped", id(a, 8, 9));
-    m = bytes(out, m, b"starts ");
-    m = decimal(out, m, t.starts);
-    m = bytes(out, m, b" stops ");
-    decimal(out, m, t.stops)
+    balance(out, m, t)
 }
 
 fn inserted(out: &mut Buffer, n: usize, a: &[u32]) -> usize {
@@ -242,21 +262,26 @@ fn one_if(d: u64) -> u64 {
     1
 }
 
-// A taken interact that names a drag start or stop is counted.
+// After a taken interact.
+fn interacted(t: Tally, calls: u64, a: &[u32]) -> Tally {
+    Tally {
+        calls,
+        starts: std::num::wrapping_add_u64(t.starts, one_if(id(a, 4, 5))),
+        stops: std::num::wrapping_add_u64(t.stops, one_if(id(a, 8, 9))),
+        dragged: one_if(id(a, 6, 7)),
+    }
+}
+
+// After a call. A taken interact that names a drag start or stop is counted; a taken reset starts the count anew.
 pub fn counted(t: Tally, a: &[u32], r: Reply, kind: u32) -> Tally {
     let calls = std::num::wrapping_add_u64(t.calls, 1);
     if (kind == INTERACT) & (r.code == 0) {
-        return Tally {
-            calls,
-            starts: std::num::wrapping_add_u64(t.starts, one_if(id(a, 4, 5))),
-            stops: std::num::wrapping_add_u64(t.stops, one_if(id(a, 8, 9))),
-        };
+        return interacted(t, calls, a);
     }
-    Tally {
-        calls,
-        starts: t.starts,
-        stops: t.stops,
+    if (kind == RESET) & (r.code == 0) {
+        return fresh(calls);
     }
+    Tally { calls, ..t }
 }
 
 pub fn line(
@@ -285,9 +310,7 @@ pub fn end(out: &mut Buffer, n: usize, cut: bool, t: Tally) -> usize {
         m = bytes(out, m, b"the trace ends inside a call\n");
     }
     m = decimal(out, m, t.calls);
-    m = bytes(out, m, b" calls, drags started ");
-    m = decimal(out, m, t.starts);
-    m = bytes(out, m, b", stopped ");
-    m = decimal(out, m, t.stops);
+    m = bytes(out, m, b" calls; ");
+    m = balance(out, m, t);
     byte(out, m, b'\n')
 }

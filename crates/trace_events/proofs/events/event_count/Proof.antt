@@ -1,16 +1,16 @@
 -- Safe, and it ends: the measure is what is left. Assumes nothing.
 use Prim.Native.Nat.{_≤_, _-_}
 use lib.ListN.{length}
-use borrow.Author.Needs.{needs}
 use native.Mathlib.Omega.{arith}
-use Rattle.trace_text.proofs.text.event_count.Statement.{statement}
-use Rattle.trace_text.proofs.text.event_count.Tie as tie
+use borrow.Author.Needs.{needs}
+use Rattle.trace_events.proofs.events.event_count.Statement.{statement}
+use Rattle.trace_events.proofs.events.event_count.Tie as tie
 
 abbrev Inv-loop : tie.InvT-loop
-Inv-loop feed events₀ at₀ events at = 0 ≤ at
+Inv-loop feed events₀ from₀ events from = 0 ≤ from
 
 abbrev μ-loop : tie.MeasureT-loop
-μ-loop feed events₀ at₀ events at = length feed - at
+μ-loop feed events₀ from₀ events from = length feed - from
 
 loop-holds : tie.Need-loop-holds Inv-loop μ-loop
 loop-holds c = search needs
@@ -22,8 +22,7 @@ next-place-requires : tie.Need-next-place-requires Inv-loop μ-loop
 next-place-requires c κs = search needs
 
 loop-less : tie.Need-loop-less Inv-loop μ-loop
-loop-less c =
-    let o = c .before .before in omega (arith, c .next-place .ensures, o .loop-test .taken)
+loop-less c = search needs
 
 loop-again : tie.Need-loop-again Inv-loop μ-loop
 loop-again c = search needs
