@@ -16,7 +16,7 @@ use Rattle.kernel_touch.specs.declared.answer.KernelRead.{KernelRead}
 use Rattle.kernel_read.specs.declared.Looked.{Looked}
 use Rattle.kernel_read.specs.declared.Looked.the-variants as looks
 use Rattle.kernel_read.specs.declared.Filled.{Filled}
-use Rattle.kernel_read.specs.Read.{KernelOutcome, refused, taken, run, all-records, read, kernel-of, words-of, feed-of, answer-of, read-of, is-taken, Reads}
+use Rattle.kernel_read.specs.Read.{KernelOutcome, refused, taken, run, all-records, read, kernel-of, words-of, feed-of, answer-of, read-of, is-taken, row-of, outcome-row, Reads}
 use Rattle.kernel_read.specs.Steps.{looked, Fills}
 
 looked-refused : (b : Bool) (o : KernelOutcome) (q : KernelRefusal) → looked b o ≡ looks.Refused q → o ≡ refused q
@@ -34,6 +34,11 @@ unfolding is-taken answer-of words-of
 taken-answer b (refused q) e = absurd (true≢false (sym e))
 taken-answer b (taken next es) e = refl
 
+answer-row : (b : Bool) (o : KernelOutcome) → row-of (answer-of b o) ≡ outcome-row o
+unfolding answer-of
+answer-row b (refused q) = refl
+answer-row b (taken next es) = refl
+
 module _ (k : KernelTouches) (device : ℕ) (bytes feed : List ℕ) where
   abbrev outcome : KernelOutcome
   outcome = run device (length feed) (all-records bytes) k []
@@ -41,7 +46,8 @@ module _ (k : KernelTouches) (device : ℕ) (bytes feed : List ℕ) where
   -- a refused call leaves all as before
   refused-reads : (q : KernelRefusal) → read k device bytes (length feed) ≡ refused q → Reads k device bytes feed (record { kernel = k; answer = answer.Refused q }) feed
   unfolding read-of kernel-of answer-of feed-of words-of
-  refused-reads q e = record { result = sym (ap (read-of k (held-dropped (all-records bytes))) e); feed-is = sym (ap (feed-of feed) e) }
+  refused-reads q e =
+      record { result = sym (ap (read-of k (held-dropped (all-records bytes))) e); row = sym (ap outcome-row e); feed-is = sym (ap (feed-of feed) e) }
 
   read-run : length bytes % record-bytes ≡ 0 → read k device bytes (length feed) ≡ outcome
   unfolding read
@@ -67,5 +73,6 @@ module _ (k : KernelTouches) (device : ℕ) (bytes feed : List ℕ) where
       let answers : answer.Taken (r .words) d ≡ answer-of held outcome = (λ j. answer.Taken (s .words j) (fits .1 j)) ∙ sym (taken-answer held outcome (fits .0)) in
       record {
         result = (λ j. record { kernel = s .kernel j; answer = answers j }) ∙ sym (ap (read-of k held) (read-run h));
+        row = ap row-of answers ∙ answer-row held outcome ∙ sym (ap outcome-row (read-run h));
         feed-is = s .feed-is ∙ sym (ap (feed-of feed) (read-run h));
       }

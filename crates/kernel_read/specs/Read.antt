@@ -3,7 +3,7 @@ use Prim.Native.Nat.{ℕ, _/_, _%_}
 use mathlib.Core.Path.{_≡_}
 use mathlib.Core.Bool.{Bool, true, false, cond}
 use mathlib.Core.List.{List, [], _∷_, _++_}
-use mathlib.Core.Option.{none, some}
+use mathlib.Core.Option.{Option, none, some}
 use lib.Dec.{eqb, leb}
 use lib.ListN.{length, drop}
 use Rattle.data.specs.Numbers.{Row}
@@ -88,9 +88,21 @@ unfoldable pub is-taken : KernelOutcome → Bool
 is-taken (refused q) = false
 is-taken (taken next es) = true
 
+-- the row that a call answers; a taken one has none
+abbrev pub row-of : KernelAnswer → Option Row
+row-of (answer.Taken words dropped) = none
+row-of (answer.Refused q) = some (kernel-row q)
+
+-- the same of what the records come to
+abbrev pub outcome-row : KernelOutcome → Option Row
+outcome-row (refused q) = some (kernel-row q)
+outcome-row (taken next es) = none
+
 -- ---- the contract of a call, for all inputs
 pub record Reads (k : KernelTouches) (device : ℕ) (bytes feed : List ℕ) (r : KernelRead) (feed′ : List ℕ) : Type 0 where
   -- the slots and the answer: as before, and the first refusal; or those of the records
   pub result : r ≡ read-of k (held-dropped (all-records bytes)) (read k device bytes (length feed))
+  -- what the answer's row returns: the number alone, or 2 "index 0 if not in a feed"
+  pub row : row-of (r .answer) ≡ outcome-row (read k device bytes (length feed))
   -- the feed buffer: as before; or the words of the events, with the places past them as before
   pub feed-is : feed′ ≡ feed-of feed (read k device bytes (length feed))
