@@ -1,6 +1,6 @@
 -- Narrowing and the root give the nearest value of the format, and they, sums, products and differences keep the order. Other crates may cite those marked pub.
 mod Units
-mod RoundOrder
+pub mod RoundOrder
 mod RootOrder
 mod Kept
 mod Overflow

@@ -1,0 +1,6 @@
+-- The theorems of specs/Laws.
+pub mod Runs
+pub mod Range
+pub mod Bytes
+pub mod Goes
+pub mod Balanced
