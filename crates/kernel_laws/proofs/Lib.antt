@@ -4,3 +4,4 @@ pub mod Range
 pub mod Bytes
 pub mod Goes
 pub mod Balanced
+pub mod Examples
