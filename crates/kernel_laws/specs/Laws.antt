@@ -3,14 +3,18 @@ use Prim.Native.Nat.{ℕ, _+_, _%_, _≤_}
 use mathlib.Core.Path.{_≡_}
 use mathlib.Core.Bool.{Bool, _||_}
 use mathlib.Core.List.{List, _++_, map}
+use mathlib.Core.Logic.{_⊎_}
 use mathlib.Core.Option.{none, some}
 use lib.ListN.{length, take}
 use Rattle.data.specs.Limits.{max-events}
+use Rattle.data.specs.Numbers.{pass-refusal-number}
 use Rattle.feed.specs.Types.{Event, PassRefusal, TooManyEvents}
 use Rattle.feed.specs.Decode.{good, Item, items}
 use Rattle.feed.specs.Feed.{events-of, feed-refusal}
 use Rattle.feed.specs.Encode.{encode-all}
 use Rattle.feed_events.specs.Events.{AllOk}
+use Rattle.model.specs.Pass as Pass
+use Rattle.model.specs.Pass.{Panel, PassInput, own-refusal, pass}
 use Rattle.kernel_record.specs.Records.{record-bytes, held-dropped}
 use Rattle.kernel_touch.specs.declared.slots.KernelTouches.{KernelTouches}
 use Rattle.kernel_touch.specs.declared.answer.KernelAnswer.the-variants.{Taken}
@@ -41,6 +45,12 @@ pub record Says (es : List Event) (ws : List ℕ) : Type 0 where
 abbrev pub Decodes : Type 0
 Decodes =
     (k : KernelTouches) (c : Call) (next : KernelTouches) (es : List Event) → InRange (k .slots) → outcome k c ≡ taken next es → Says es (encode-all es)
+
+-- a pass with such a feed is refused for its own numbers (2, 3), or with 4 or 5
+abbrev pub LeftToPass : Type 0
+LeftToPass =
+    (p : Panel) (i : PassInput) (es : List Event) (q : PassRefusal) → Says es (i .feed) → pass p i ≡ Pass.refused q →
+    (own-refusal i (p .clock .time) ≡ some q) ⊎ ((pass-refusal-number q ≡ 4) ⊎ (pass-refusal-number q ≡ 5))
 
 -- ---- "Fits"
 abbrev pub Fits : Type 0
