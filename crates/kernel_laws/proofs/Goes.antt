@@ -21,10 +21,10 @@ use Rattle.kernel_touch.specs.declared.answer.MaybeRefusal.the-variants as mayb
 use Rattle.kernel_touch.specs.Slots.{fresh}
 use Rattle.kernel_touch.specs.Step.{after, refusal, unless}
 use Rattle.kernel_report.proofs.Written.{encode-append}
-use Rattle.kernel_read.specs.Read.{acts, events, verdict, KernelOutcome, refused, taken, by, run, all-records, read, words-of, feed-of, answer-of, read-of, Reads}
-use Rattle.kernel_laws.specs.Calls.{Call, outcome, events-in, after-calls, joined, then-read}
+use Rattle.kernel_read.specs.Read.{acts, events, verdict, KernelOutcome, refused, taken, by, run, all-records, read, kernel-of, words-of, feed-of, answer-of, read-of, Reads}
+use Rattle.kernel_laws.specs.Calls.{Call, Called, none-yet, once, outcome, events-in, after-calls, joined, then-read}
 use Rattle.kernel_laws.specs.Slots.{InRange}
-use Rattle.kernel_laws.specs.Laws.{Says, Fits, Answered, GoesOn}
+use Rattle.kernel_laws.specs.Laws.{Running, Says, Fits, Answered, GoesOn}
 use Rattle.kernel_laws.proofs.Runs.{by-cases, taken-call, call-fits, room-enough}
 use Rattle.kernel_laws.proofs.Range.{keeps-range, decodes}
 use Rattle.kernel_laws.proofs.Bytes.{joined-records, joined-whole, joined-dropped}
@@ -148,3 +148,13 @@ answered past device bytes feed r feed′ n dropped h e =
     let held = held-dropped (all-records bytes) in
     let same : answer-of held o ≡ Taken n dropped = sym (ap (λ (x : KernelRead). x .answer) (h .result)) ∙ e in
     call-answered k device bytes feed feed′ n dropped held o (keeps-range .calls past) refl same (h .feed-is)
+
+-- ---- the slots that it returns are those of the definitions
+called : {k : KernelTouches} {cs : List Call} {last : KernelTouches} → Called k cs last → last ≡ after-calls k cs
+unfolding after-calls outcome read-of
+called none-yet = refl
+called (once {k = k} {cs = cs} device bytes feed feed′ r h rest) =
+    called rest ∙ ap (λ (x : KernelTouches). after-calls x cs) (ap (λ (x : KernelRead). x .kernel) (h .result))
+
+pub running : Running
+running k k′ cs c = called c

@@ -5,7 +5,8 @@ use lib.ListN.{length}
 use Rattle.feed.specs.Types.{Event}
 use Rattle.feed.specs.Encode.{encode-all}
 use Rattle.kernel_touch.specs.declared.slots.KernelTouches.{KernelTouches}
-use Rattle.kernel_read.specs.Read.{KernelOutcome, refused, taken, read, kernel-of}
+use Rattle.kernel_touch.specs.declared.answer.KernelRead.{KernelRead}
+use Rattle.kernel_read.specs.Read.{KernelOutcome, refused, taken, read, kernel-of, Reads}
 
 pub record Call : Type 0 where
   pub device : ℕ
@@ -30,6 +31,12 @@ after-calls k (c ∷ cs) = after-calls (kernel-of k (outcome k c)) cs
 unfoldable pub calls-events : KernelTouches → List Call → List Event
 calls-events k [] = []
 calls-events k (c ∷ cs) = events-in (outcome k c) ++ calls-events (kernel-of k (outcome k c)) cs
+
+-- calls of `read_records` itself, each on the slots that the last one returned
+pub data Called : KernelTouches → List Call → KernelTouches → Type 0 where
+  none-yet : {k : KernelTouches} → Called k [] k
+  once : {k : KernelTouches} {cs : List Call} {last : KernelTouches} (device : ℕ) (bytes feed feed′ : List ℕ) (r : KernelRead) →
+      Reads k device bytes feed r feed′ → Called (r .kernel) cs last → Called k (record { device = device; bytes = bytes; room = length feed } ∷ cs) last
 
 -- ---- two calls as one
 
