@@ -4,11 +4,11 @@ use native.Mathlib.Omega.{arith}
 use mathlib.Core.Path.{_≡_, refl, sym, ap, _∙_, subst}
 use mathlib.Core.Bool.{Bool, true, false, cond, true≢false}
 use mathlib.Core.List.{List, [], _∷_, _++_, append-nil, append-assoc, map, map-append}
-use borrow.Author.Tests.{eq-eqb, ne-eqb, eqb-true}
+use borrow.Author.Tests.{eq-eqb, ne-eqb}
 use lib.Dec.{eqb}
 use lib.IntN.{ℤ, pos, negsuc}
 use Rattle.data.specs.Bits.{bit-number}
-use Rattle.feed.specs.Types.{Event, TouchPhase, Start, Move, End}
+use Rattle.feed.specs.Types.{Event, TouchPhase, Start, End}
 use Rattle.kernel_values.specs.Value.{is-finger, same-number, max-slots}
 use Rattle.kernel_record.specs.declared.KernelRecord.{KernelRecord}
 use Rattle.kernel_record.specs.declared.KernelRecord.the-variants.{MtSlot, MtPositionX, MtPositionY, MtTrackingId, ReportEnd, Dropped, Other}
@@ -16,16 +16,15 @@ use Rattle.kernel_record.specs.Records.{is-end}
 use Rattle.kernel_touch.specs.declared.slots.Finger.{Finger}
 use Rattle.kernel_touch.specs.declared.slots.Slot.{Slot}
 use Rattle.kernel_touch.specs.declared.slots.KernelTouches.{KernelTouches}
-use Rattle.kernel_touch.specs.Slots.{no-finger, empty-slots, fresh, put-at, chosen-finger, put-finger, with-x, with-y, with-id, choose, skips, settle, settled}
+use Rattle.kernel_touch.specs.Slots.{no-finger, empty-slots, fresh, put-at, put-finger, with-x, with-y, with-id, choose, skips, settle, settled}
 use Rattle.kernel_touch.specs.Step.{done, skipped, after}
-use Rattle.kernel_report.specs.declared.change.Change.{Change}
 use Rattle.kernel_report.specs.declared.change.Change.the-variants.{Still, Begun, Moved, Lifted, Replaced}
 use Rattle.kernel_report.specs.Report.{touch, same-place, moved, replaced, change, change-events, slot-events, report}
 use Rattle.kernel_read.specs.Read.{acts, events, KernelOutcome, refused, taken, all-records, kernel-of, is-taken}
 use Rattle.kernel_laws.specs.Calls.{Call, outcome, events-in, after-calls, calls-events}
 use Rattle.kernel_laws.specs.Slots.{SlotEvent, numbered, slots-report, slots-run, slots-call, slots-calls, of-slot, in-phase, count, starts, ends, reported, held-in, held}
 use Rattle.kernel_laws.specs.Laws.{Balance}
-use Rattle.kernel_laws.proofs.Runs.{by-cases, Steps, last, step, steps-of, taken-call}
+use Rattle.kernel_laws.proofs.Runs.{Steps, last, step, steps-of, taken-call}
 
 abbrev holds : Finger → ℕ
 holds f = bit-number (is-finger (f .id))

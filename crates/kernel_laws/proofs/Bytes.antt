@@ -1,8 +1,8 @@
 -- The records of two runs of bytes, one after the other. Assumes nothing.
-use Prim.Native.Nat.{ℕ, zero, suc, _+_, _*_, _/_, _%_, _≤_, _<_}
+use Prim.Native.Nat.{ℕ, zero, suc, _+_, _*_, _/_, _%_, _≤_}
 use native.Mathlib.Omega.{arith}
 use mathlib.Core.Path.{_≡_, refl, sym, ap, _∙_}
-use mathlib.Core.Bool.{Bool, true, false, _||_, or-assoc}
+use mathlib.Core.Bool.{Bool, _||_, or-assoc}
 use mathlib.Core.List.{List, [], _∷_, _++_}
 use lib.ListN.{length, getD, length-append, List·getD-append}
 use lib.Seq.{getD-append-add}

@@ -2,10 +2,10 @@
 use Prim.Native.Nat.{ℕ, _+_, _-_, _%_, _≤_}
 use native.Mathlib.Omega.{arith}
 use mathlib.Core.Path.{_≡_, refl, sym, ap, _∙_, subst}
-use mathlib.Core.Bool.{Bool, true, false, cond}
+use mathlib.Core.Bool.{Bool, true, cond}
 use mathlib.Core.List.{List, [], _∷_, _++_, append-assoc, append-nil}
-use borrow.Author.Tests.{eq-eqb, eqb-true, leb-true, leb-false, le-leb, lt-leb}
-use lib.Dec.{eqb, leb}
+use borrow.Author.Tests.{eq-eqb, eqb-true}
+use lib.Dec.{leb}
 use lib.ListN.{length, length-append, take, drop}
 use lib.Seq.{take-at}
 use Rattle.feed.specs.Types.{Event}
@@ -13,7 +13,7 @@ use Rattle.feed.specs.Encode.{encode-all}
 use Rattle.kernel_record.specs.declared.KernelRecord.{KernelRecord}
 use Rattle.kernel_record.specs.Records.{record-bytes, held-dropped}
 use Rattle.kernel_touch.specs.declared.slots.KernelTouches.{KernelTouches}
-use Rattle.kernel_touch.specs.declared.answer.KernelRefusal.the-variants.{Length, FeedFull}
+use Rattle.kernel_touch.specs.declared.answer.KernelRefusal.the-variants.{FeedFull}
 use Rattle.kernel_touch.specs.declared.answer.KernelAnswer.the-variants.{Taken}
 use Rattle.kernel_touch.specs.declared.answer.KernelRead.{KernelRead}
 use Rattle.kernel_touch.specs.declared.answer.MaybeRefusal.{MaybeRefusal}
@@ -21,11 +21,12 @@ use Rattle.kernel_touch.specs.declared.answer.MaybeRefusal.the-variants as mayb
 use Rattle.kernel_touch.specs.Slots.{fresh}
 use Rattle.kernel_touch.specs.Step.{after, refusal, unless}
 use Rattle.kernel_report.proofs.Written.{encode-append}
-use Rattle.kernel_read.specs.Read.{acts, events, verdict, KernelOutcome, refused, taken, by, run, all-records, read, kernel-of, words-of, feed-of, answer-of, read-of, Reads}
+use Rattle.kernel_read.specs.Read.{acts, events, verdict, KernelOutcome, refused, taken, by, run, all-records, read, words-of, feed-of, answer-of, read-of}
+use Rattle.kernel_read.proofs.Run.{shifted}
 use Rattle.kernel_laws.specs.Calls.{Call, Called, none-yet, once, outcome, events-in, after-calls, joined, then-read}
 use Rattle.kernel_laws.specs.Slots.{InRange}
 use Rattle.kernel_laws.specs.Laws.{Running, Says, Fits, Answered, GoesOn}
-use Rattle.kernel_laws.proofs.Runs.{by-cases, taken-call, call-fits, room-enough}
+use Rattle.kernel_laws.proofs.Runs.{read-run, taken-call, call-fits, room-enough}
 use Rattle.kernel_laws.proofs.Range.{keeps-range, decodes}
 use Rattle.kernel_laws.proofs.Bytes.{joined-records, joined-whole, joined-dropped}
 
@@ -49,11 +50,6 @@ run-append device room (r ∷ rs) ss k es =
     ∙ by-then v (run device room rs (after r k) (es ++ events device r k)) device room ss
 
 -- ---- with events before: in the room that they leave
-shifted : (used more room : ℕ) → used ≤ room → leb (used + more) room ≡ leb more (room - used)
-shifted used more room h = by-cases (leb (used + more) room ≡ leb more (room - used)) (leb more (room - used))
-    (λ t. le-leb (used + more) room (omega (arith, leb-true more (room - used) t)) ∙ sym t)
-    (λ f. lt-leb (used + more) room (omega (arith, leb-false more (room - used) f)) ∙ sym f)
-
 verdict-joined : (room : ℕ) (es fs : List Event) (r : KernelRecord) (k : KernelTouches) → length (encode-all es) ≤ room →
     verdict room (es ++ fs) r k ≡ verdict (room - length (encode-all es)) fs r k
 unfolding verdict
@@ -61,7 +57,7 @@ verdict-joined room es fs r k h =
     let both : length (encode-all (es ++ fs)) ≡ length (encode-all es) + length (encode-all fs) =
     ap length (encode-append es fs) ∙ length-append (encode-all es) (encode-all fs) in
     ap (λ (b : Bool). cond (acts r k) (unless b FeedFull) (refusal r k))
-    (ap (λ (n : ℕ). leb n room) both ∙ shifted (length (encode-all es)) (length (encode-all fs)) room h)
+    (ap (λ (n : ℕ). leb n room) both ∙ shifted (length (encode-all es)) (length (encode-all fs)) (room - length (encode-all es)) room (omega arith))
 
 by-joined : (q : MaybeRefusal) (es : List Event) (o : KernelOutcome) → by q (joined es o) ≡ joined es (by q o)
 unfolding by joined
@@ -83,8 +79,7 @@ run-joined device room es h (r ∷ rs) k fs =
 -- ---- bytes after bytes
 read-is : (k : KernelTouches) (device : ℕ) (bytes : List ℕ) (room : ℕ) → length bytes % record-bytes ≡ 0 →
     read k device bytes room ≡ run device room (all-records bytes) k []
-unfolding read
-read-is k device bytes room h = ap (λ (b : Bool). cond b (run device room (all-records bytes) k []) (refused Length)) (eq-eqb (length bytes % record-bytes) 0 h)
+read-is k device bytes room h = read-run k device bytes room true (eq-eqb (length bytes % record-bytes) 0 h)
 
 pub one-buffer : (k : KernelTouches) (device : ℕ) (bs cs : List ℕ) (room : ℕ) → length bs % record-bytes ≡ 0 → length cs % record-bytes ≡ 0 →
     read k device (bs ++ cs) room ≡ then-read (read k device bs room) device cs room

@@ -1,7 +1,7 @@
 -- A pass with the words of a call: of its feed, only 4 and 5 refuse it. Assumes nothing.
 use Prim.Native.Nat.{ℕ, zero, suc}
 use native.Mathlib.Omega.{arith}
-use mathlib.Core.Path.{_≡_, refl, sym, ap, _∙_, subst}
+use mathlib.Core.Path.{_≡_, sym, ap, _∙_}
 use mathlib.Core.Bool.{Bool, true, false, cond}
 use mathlib.Core.List.{List, [], _∷_, map}
 use mathlib.Core.Logic.{_⊎_, inl, inr}
@@ -13,7 +13,7 @@ use Rattle.feed.specs.Decode.{Decoded, good, Item, items}
 use Rattle.model.specs.Touch.{TouchState}
 use Rattle.model.specs.Pass as Pass
 use Rattle.model.specs.Pass.{Panel, PassInput, own-refusal, pass, crowded, item-refusal, item-devices, or-else, survey, pass-refusal, pass-by}
-use Rattle.kernel_laws.specs.Laws.{Says, LeftToPass}
+use Rattle.kernel_laws.specs.Laws.{LeftToPass}
 
 abbrev FourOrFive : PassRefusal → Type 0
 FourOrFive q = (pass-refusal-number q ≡ 4) ⊎ (pass-refusal-number q ≡ 5)

@@ -1,29 +1,23 @@
 -- A call that is taken, record by record: its room, and its events. Assumes nothing.
-use Prim.Native.Nat.{ℕ, _+_, _-_, _%_, _≤_}
+use Prim.Native.Nat.{ℕ, _%_, _≤_}
 use native.Mathlib.Omega.{arith}
 use mathlib.Core.Path.{_≡_, refl, sym, ap, _∙_, subst}
 use mathlib.Core.Bool.{Bool, true, false, cond}
-use mathlib.Core.List.{List, [], _∷_, _++_, append-assoc}
-use borrow.Author.Tests.{leb-true, leb-false, le-leb, lt-leb}
+use mathlib.Core.List.{List, [], _∷_, _++_}
+use borrow.Author.Tests.{leb-true, le-leb}
 use lib.Dec.{eqb, leb}
-use lib.ListN.{length, length-append}
+use lib.ListN.{length}
 use Rattle.feed.specs.Types.{Event}
 use Rattle.feed.specs.Encode.{encode-all}
 use Rattle.kernel_record.specs.declared.KernelRecord.{KernelRecord}
 use Rattle.kernel_record.specs.Records.{record-bytes}
 use Rattle.kernel_touch.specs.declared.slots.KernelTouches.{KernelTouches}
-use Rattle.kernel_touch.specs.declared.answer.KernelRefusal.{KernelRefusal}
 use Rattle.kernel_touch.specs.declared.answer.KernelRefusal.the-variants.{Length, FeedFull}
-use Rattle.kernel_touch.specs.declared.answer.MaybeRefusal.{MaybeRefusal}
 use Rattle.kernel_touch.specs.declared.answer.MaybeRefusal.the-variants as maybe
 use Rattle.kernel_touch.specs.Step.{after, refusal, unless}
-use Rattle.kernel_report.proofs.Written.{encode-append, encode-none}
-use Rattle.kernel_read.specs.Read.{acts, events, verdict, KernelOutcome, refused, taken, run, all-records, read, is-taken}
-use Rattle.kernel_read.proofs.Run.{grown, no-words, run-next, taken-verdict}
-
-pub by-cases : (P : Type 0) (b : Bool) → (b ≡ true → P) → (b ≡ false → P) → P
-by-cases P true f g = f refl
-by-cases P false f g = g refl
+use Rattle.kernel_report.proofs.Written.{encode-none}
+use Rattle.kernel_read.specs.Read.{acts, events, verdict, refused, taken, run, all-records, read, is-taken}
+use Rattle.kernel_read.proofs.Run.{by-cases, grown, no-words, fits-if, run-next, taken-verdict}
 
 -- ---- a run that is taken: no record of it is refused
 pub data Steps (device room : ℕ) (next : KernelTouches) (all : List Event) : List KernelRecord → KernelTouches → List Event → Type 0 where
@@ -51,7 +45,7 @@ run-of device room next all (r ∷ rs) k es (step v s) =
     run-next device room r rs k es v ∙ run-of device room next all rs (after r k) (es ++ events device r k) s
 
 -- ---- a call
-read-run : (k : KernelTouches) (device : ℕ) (bytes : List ℕ) (room : ℕ) (b : Bool) → eqb (length bytes % record-bytes) 0 ≡ b →
+pub read-run : (k : KernelTouches) (device : ℕ) (bytes : List ℕ) (room : ℕ) (b : Bool) → eqb (length bytes % record-bytes) 0 ≡ b →
     read k device bytes room ≡ cond b (run device room (all-records bytes) k []) (refused Length)
 unfolding read
 read-run k device bytes room b e = ap (λ (x : Bool). cond x (run device room (all-records bytes) k []) (refused Length)) e
@@ -77,11 +71,6 @@ pub call-taken : (k : KernelTouches) (device : ℕ) (bytes : List ℕ) (room : �
 call-taken k device bytes room next es w = read-run k device bytes room true (w .whole) ∙ w .runs
 
 -- ---- its words fit
-fits-if : (b : Bool) → unless b FeedFull ≡ maybe.None → b ≡ true
-unfolding unless
-fits-if true e = refl
-fits-if false e = let z : _≡_ {A = ℕ} 0 1 = cc in absurd (omega arith)
-
 -- a record that is not refused
 pub record-fits : (device room : ℕ) (r : KernelRecord) (k : KernelTouches) (es : List Event) → length (encode-all es) ≤ room →
     verdict room (es ++ events device r k) r k ≡ maybe.None → length (encode-all (es ++ events device r k)) ≤ room

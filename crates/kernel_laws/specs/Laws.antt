@@ -21,7 +21,7 @@ use Rattle.kernel_touch.specs.declared.answer.KernelAnswer.the-variants.{Taken}
 use Rattle.kernel_touch.specs.declared.answer.KernelRead.{KernelRead}
 use Rattle.kernel_touch.specs.Slots.{fresh}
 use Rattle.kernel_read.specs.Read.{taken, all-records, read, kernel-of, Reads}
-use Rattle.kernel_laws.specs.Calls.{Call, Called, outcome, events-in, after-calls, calls-events, joined, then-read}
+use Rattle.kernel_laws.specs.Calls.{Call, Called, outcome, events-in, after-calls, calls-events, then-read}
 use Rattle.kernel_laws.specs.Slots.{InRange, SlotEvent, slots-calls, of-slot, starts, ends, reported, held-in, held}
 
 -- ---- what follows of `after-calls` holds of the running code

@@ -7,7 +7,7 @@ use mathlib.Core.Option.{none, some}
 use lib.IntN.{ℤ, pos, negsuc}
 use lib.Ieee.{binary32, ofInt}
 use Rattle.data.specs.Numbers.{Row}
-use Rattle.feed.specs.Types.{Pos2, TouchPhase, Start, Move, End, no-force, Event, Touch}
+use Rattle.feed.specs.Types.{TouchPhase, Start, Move, End, no-force, Event, Touch}
 use Rattle.feed.specs.Encode.{join}
 use Rattle.kernel_record.specs.Records.{held-dropped}
 use Rattle.kernel_touch.specs.declared.slots.KernelTouches.{KernelTouches}

@@ -22,7 +22,7 @@ use Rattle.kernel_report.specs.Put.{put}
 use Rattle.kernel_report.proofs.Written.{encode-append, encode-none, put-two, put-first}
 use Rattle.kernel_read.specs.Read.{acts, events, verdict, KernelOutcome, refused, taken, by, run, is-taken}
 
-by-cases : (P : Type 0) (b : Bool) → (b ≡ true → P) → (b ≡ false → P) → P
+pub by-cases : (P : Type 0) (b : Bool) → (b ≡ true → P) → (b ≡ false → P) → P
 by-cases P true f g = f refl
 by-cases P false f g = g refl
 
@@ -75,7 +75,7 @@ unfolding events
 report-events device r k e = ap (λ (b : Bool). cond b (report device (k .slots)) []) e
 
 -- ---- a record's verdict, by the room that is left
-shifted : (used words left room : ℕ) → left + used ≡ room → leb (used + words) room ≡ leb words left
+pub shifted : (used words left room : ℕ) → left + used ≡ room → leb (used + words) room ≡ leb words left
 shifted used words left room e = by-cases (leb (used + words) room ≡ leb words left) (leb words left)
     (λ h. le-leb (used + words) room (omega (arith, leb-true words left h)) ∙ sym h)
     (λ h. lt-leb (used + words) room (omega (arith, leb-false words left h)) ∙ sym h)
@@ -89,7 +89,7 @@ verdict-is device room words left es r k e w =
     let all : length (encode-all (es ++ events device r k)) ≡ used + words = grown device r k es ∙ ap (λ (n : ℕ). used + n) (sym w) in
     ap (λ (b : Bool). cond (acts r k) (unless b FeedFull) (refusal r k)) (ap (λ (n : ℕ). leb n room) all ∙ shifted used words left room e)
 
-fits-if : (b : Bool) → unless b FeedFull ≡ maybe.None → b ≡ true
+pub fits-if : (b : Bool) → unless b FeedFull ≡ maybe.None → b ≡ true
 unfolding unless
 fits-if true e = refl
 fits-if false e = let z : _≡_ {A = ℕ} 0 1 = cc in absurd (omega arith)
