@@ -1,4 +1,5 @@
 pub mod Types
+pub mod Kinds
 pub mod Numbers
 pub mod Bits
 pub mod Modifiers

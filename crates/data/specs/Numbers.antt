@@ -3,6 +3,7 @@ use Prim.Native.Nat.{ℕ}
 use mathlib.Core.List.{List, [], _∷_}
 use mathlib.Core.Option.{Option, none, some}
 use lib.Ieee.{Float}
+use Rattle.data.specs.Kinds.{key-kind, modifiers-kind, moved-kind, motion-kind, button-kind, gone-kind, zoom-kind, rotate-kind, touch-kind, wheel-kind, focus-kind, other-kind}
 use Rattle.data.specs.Types.{Pos2, Click, MaybeClick, no-click, some-click}
 use Rattle.data.specs.Types.{PointerButton, Primary, Secondary, Middle, Extra1, Extra2, TouchPhase, Start, Move, End, Cancel}
 use Rattle.data.specs.Types.{MouseWheelUnit, Point, Line, Page, MouseWheelSource, Unknown, Wheel, Trackpad, Momentum}
@@ -89,18 +90,18 @@ pointer-event-click (Released (some-click click) button) = some click
 
 -- the kind, of "The feed"
 abbrev pub kind-number : Event → ℕ
-kind-number (Key place pressed) = 1
-kind-number (ModifiersChanged m) = 2
-kind-number (PointerMoved pos) = 3
-kind-number (MouseMoved delta) = 4
-kind-number (Button pos b pressed m) = 5
-kind-number PointerGone = 6
-kind-number (Zoom factor) = 7
-kind-number (Rotate radians) = 8
-kind-number (Touch device id phase pos force) = 9
-kind-number (MouseWheel unit delta phase source m) = 10
-kind-number (WindowFocused focused) = 11
-kind-number Other = 12
+kind-number (Key place pressed) = key-kind
+kind-number (ModifiersChanged m) = modifiers-kind
+kind-number (PointerMoved pos) = moved-kind
+kind-number (MouseMoved delta) = motion-kind
+kind-number (Button pos b pressed m) = button-kind
+kind-number PointerGone = gone-kind
+kind-number (Zoom factor) = zoom-kind
+kind-number (Rotate radians) = rotate-kind
+kind-number (Touch device id phase pos force) = touch-kind
+kind-number (MouseWheel unit delta phase source m) = wheel-kind
+kind-number (WindowFocused focused) = focus-kind
+kind-number Other = other-kind
 
 -- what a row of "Answers of a refused call" returns: its number, and an index in the rows that return one
 pub record Row : Type 0 where

@@ -1,6 +1,7 @@
 // egui's input data as plain values. Each Option is an enum of its own.
 pub mod bits;
 pub mod event;
+pub mod kinds;
 pub mod layers;
 pub mod limits;
 pub mod modifiers;

@@ -9,6 +9,7 @@ use lib.Dec.{eqb, ltb, lit<}
 use lib.ListN.{getD, length, take, drop, length-drop, drop-of-length-le}
 use lib.Seq.{take-all, length-take-le, getD-take, drop-cons, drop-drop}
 use borrow.Author.Tests.{eqb-true, ltb-true, ltb-false, lt-ltb, le-ltb}
+use Rattle.data.specs.Kinds.{key-kind, modifiers-kind, moved-kind, motion-kind, button-kind, gone-kind, zoom-kind, rotate-kind, touch-kind, wheel-kind}
 use Rattle.feed.specs.Types.{MaybeEvent, no-event, some-event, EventAt, Touch, some-force}
 use Rattle.feed.specs.Types.found as found
 use Rattle.feed.specs.Split.{kind, low-bits, lengths, following, piece-length, Piece, pieces, pieces-from}
@@ -23,34 +24,34 @@ cond-same false f e = e
 -- the shape goes by no word past those that the table counts
 module _ (k low : ℕ) (us ws : List ℕ)
     (same : (i : ℕ) → i < getD lengths k 0 → getD us i 0 ≡ getD ws i 0)
-    (same-force : k ≡ 9 → low / 4 % 2 ≡ 1 → getD us 6 0 ≡ getD ws 6 0) where
+    (same-force : k ≡ touch-kind → low / 4 % 2 ≡ 1 → getD us 6 0 ≡ getD ws 6 0) where
   word : (j i : ℕ) → eqb k j ≡ true → i < getD lengths j 0 → getD us i 0 ≡ getD ws i 0
   word j i t p = same i (rw (eqb-true k j t) p)
 
-  force-same : eqb k 9 ≡ true → force-of (low / 4 % 2) (getD us 6 0) ≡ force-of (low / 4 % 2) (getD ws 6 0)
+  force-same : eqb k touch-kind ≡ true → force-of (low / 4 % 2) (getD us 6 0) ≡ force-of (low / 4 % 2) (getD ws 6 0)
   unfolding force-of
   force-same t =
-      cond-same (eqb (low / 4 % 2) 1) (λ p. ap (λ (w : ℕ). some-force (float-of w)) (same-force (eqb-true k 9 t) (eqb-true (low / 4 % 2) 1 p))) refl
+      cond-same (eqb (low / 4 % 2) 1) (λ p. ap (λ (w : ℕ). some-force (float-of w)) (same-force (eqb-true k touch-kind t) (eqb-true (low / 4 % 2) 1 p))) refl
 
-  touch-same : eqb k 9 ≡ true → touch-shape low us ≡ touch-shape low ws
+  touch-same : eqb k touch-kind ≡ true → touch-shape low us ≡ touch-shape low ws
   unfolding touch-shape
   touch-same t =
-      rw (word 9 0 t (lit< tt), word 9 1 t (lit< tt), word 9 2 t (lit< tt), word 9 3 t (lit< tt), word 9 4 t (lit< tt), word 9 5 t (lit< tt), force-same t)
+      rw (word touch-kind 0 t (lit< tt), word touch-kind 1 t (lit< tt), word touch-kind 2 t (lit< tt), word touch-kind 3 t (lit< tt), word touch-kind 4 t (lit< tt), word touch-kind 5 t (lit< tt), force-same t)
 
   by-kind-same : shape-by-kind k low us ≡ shape-by-kind k low ws
   unfolding shape-by-kind
   by-kind-same =
       cond-same (eqb k 0) (λ t. refl)
-      (cond-same (eqb k 1) (λ t. refl)
-      (cond-same (eqb k 2) (λ t. refl)
-      (cond-same (eqb k 3) (λ t. rw (word 3 0 t (lit< tt), word 3 1 t (lit< tt)))
-      (cond-same (eqb k 4) (λ t. rw (word 4 0 t (lit< tt), word 4 1 t (lit< tt)))
-      (cond-same (eqb k 5) (λ t. rw (word 5 0 t (lit< tt), word 5 1 t (lit< tt)))
-      (cond-same (eqb k 6) (λ t. refl)
-      (cond-same (eqb k 7) (λ t. rw (word 7 0 t (lit< tt)))
-      (cond-same (eqb k 8) (λ t. rw (word 8 0 t (lit< tt)))
-      (cond-same (eqb k 9) touch-same
-      (cond-same (eqb k 10) (λ t. rw (word 10 0 t (lit< tt), word 10 1 t (lit< tt)))
+      (cond-same (eqb k key-kind) (λ t. refl)
+      (cond-same (eqb k modifiers-kind) (λ t. refl)
+      (cond-same (eqb k moved-kind) (λ t. rw (word moved-kind 0 t (lit< tt), word moved-kind 1 t (lit< tt)))
+      (cond-same (eqb k motion-kind) (λ t. rw (word motion-kind 0 t (lit< tt), word motion-kind 1 t (lit< tt)))
+      (cond-same (eqb k button-kind) (λ t. rw (word button-kind 0 t (lit< tt), word button-kind 1 t (lit< tt)))
+      (cond-same (eqb k gone-kind) (λ t. refl)
+      (cond-same (eqb k zoom-kind) (λ t. rw (word zoom-kind 0 t (lit< tt)))
+      (cond-same (eqb k rotate-kind) (λ t. rw (word rotate-kind 0 t (lit< tt)))
+      (cond-same (eqb k touch-kind) touch-same
+      (cond-same (eqb k wheel-kind) (λ t. rw (word wheel-kind 0 t (lit< tt), word wheel-kind 1 t (lit< tt)))
       refl))))))))))
 
 by-kind-taken : (w : ℕ) (ws : List ℕ) → shape-by-kind (kind w) (low-bits w) (take (following w) ws) ≡ shape-by-kind (kind w) (low-bits w) ws

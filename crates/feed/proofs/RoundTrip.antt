@@ -11,6 +11,7 @@ use lib.Ieee.{Float, binary32, fits, ofBits, toBits}
 use lib.Ieee.Bits.{ofBits-toBits, is-true}
 use lib.Ieee.Fits.{and-l, and-r}
 use borrow.Author.Tests.{lt-ltb}
+use Rattle.data.specs.Kinds.{kind-unit, key-kind, modifiers-kind, moved-kind, motion-kind, button-kind, gone-kind, zoom-kind, rotate-kind, touch-kind, wheel-kind, focus-kind, other-kind}
 use Rattle.data.specs.Bits.{bit-number, bit-of}
 use Rattle.data.specs.Modifiers.{modifiers-number, modifiers-of}
 use Rattle.data.specs.Numbers.{button-number, phase-number, unit-number, source-number}
@@ -26,13 +27,13 @@ use Rattle.feed.specs.Encode.{float-word, pos-words, vec-words, id-words
 use Rattle.feed.specs.Laws.{DecodeAfterEncode}
 
 -- ---- the first word
-shape-head : (k f : ℕ) (ws : List ℕ) → f < 0x1000_0000 →
-    shape ((k * 0x1000_0000 + f) ∷ ws) ≡ cond (ltb (length ws) (getD lengths k 0 + cond (eqb k 9) (f / 4 % 2) 0)) no-event (shape-by-kind k f ws)
+shape-head : (k f : ℕ) (ws : List ℕ) → f < kind-unit →
+    shape ((k * kind-unit + f) ∷ ws) ≡ cond (ltb (length ws) (getD lengths k 0 + cond (eqb k touch-kind) (f / 4 % 2) 0)) no-event (shape-by-kind k f ws)
 unfolding shape following
 shape-head k f ws h =
-    let kinds : kind (k * 0x1000_0000 + f) ≡ k = omega arith in
-    let lows : low-bits (k * 0x1000_0000 + f) ≡ f = omega arith in
-    let forces : (k * 0x1000_0000 + f) / 4 % 2 ≡ f / 4 % 2 = omega arith in
+    let kinds : kind (k * kind-unit + f) ≡ k = omega arith in
+    let lows : low-bits (k * kind-unit + f) ≡ f = omega arith in
+    let forces : (k * kind-unit + f) / 4 % 2 ≡ f / 4 % 2 = omega arith in
     rw (kinds, lows, forces)
 
 -- ---- fields
@@ -235,11 +236,11 @@ unfolding encode fields words-after id-words pos-words force-words shape-by-kind
 touch-back device id p pos no-force h hf =
     let hp = phase-le p in
     let n : (phase-number p + 0) / 4 % 2 ≡ 0 = omega arith in
-    shape-head 9 (phase-number p + 0) _ (omega arith) ∙ rw n (touched-back device id p pos no-force (phase-number p + 0) h hf refl)
+    shape-head touch-kind (phase-number p + 0) _ (omega arith) ∙ rw n (touched-back device id p pos no-force (phase-number p + 0) h hf refl)
 touch-back device id p pos (some-force x) h hf =
     let hp = phase-le p in
     let n : (phase-number p + 4) / 4 % 2 ≡ 1 = top-digit ((phase-number p + 4) / 4) 1 2 (omega arith) (omega arith) in
-    shape-head 9 (phase-number p + 4) _ (omega arith) ∙ rw n (touched-back device id p pos (some-force x) (phase-number p + 4) h hf refl)
+    shape-head touch-kind (phase-number p + 4) _ (omega arith) ∙ rw n (touched-back device id p pos (some-force x) (phase-number p + 4) h hf refl)
 
 -- ---- every event
 shape-back : (e : Event) → T (fields-ok e) → T (event-ok e) → shape (encode e) ≡ some-event e
@@ -247,25 +248,25 @@ unfolding encode fields words-after fields-ok event-ok pos-words vec-words shape
 shape-back (Key place pressed) h ok =
     let b = bit-le pressed in
     let l : place < key-count = ltb→lt place key-count h in
-    shape-head 1 (place % 256 + 256 * bit-number pressed) [] (omega arith)
+    shape-head key-kind (place % 256 + 256 * bit-number pressed) [] (omega arith)
     ∙ key-back place (place % 256 + 256 * bit-number pressed) pressed l (omega arith)
-shape-back (ModifiersChanged m) h ok = shape-head 2 (modifiers-number m) [] (omega (arith, modifiers-lt m)) ∙ changed-back m (modifiers-number m) refl
-shape-back (PointerMoved pos) h ok = shape-head 3 0 _ (omega arith) ∙ rw (pos-back pos ok)
-shape-back (MouseMoved delta) h ok = shape-head 4 0 _ (omega arith) ∙ rw (vec-back delta ok)
+shape-back (ModifiersChanged m) h ok = shape-head modifiers-kind (modifiers-number m) [] (omega (arith, modifiers-lt m)) ∙ changed-back m (modifiers-number m) refl
+shape-back (PointerMoved pos) h ok = shape-head moved-kind 0 _ (omega arith) ∙ rw (pos-back pos ok)
+shape-back (MouseMoved delta) h ok = shape-head motion-kind 0 _ (omega arith) ∙ rw (vec-back delta ok)
 shape-back (Button pos b pressed m) h ok =
-    shape-head 5 (modifiers-number m + 32 * button-number b + 256 * bit-number pressed) _ (omega (arith, modifiers-lt m, button-le b, bit-le pressed))
+    shape-head button-kind (modifiers-number m + 32 * button-number b + 256 * bit-number pressed) _ (omega (arith, modifiers-lt m, button-le b, bit-le pressed))
     ∙ pressed-back b pressed m _ _ _ refl
     ∙ rw (pos-back pos ok)
-shape-back PointerGone h ok = shape-head 6 0 [] (omega arith)
-shape-back (Zoom factor) h ok = shape-head 7 0 _ (omega arith) ∙ rw (float-back factor (and-l (fits binary32 factor) _ ok))
-shape-back (Rotate radians) h ok = shape-head 8 0 _ (omega arith) ∙ rw (float-back radians (within-fits _ _ radians ok))
+shape-back PointerGone h ok = shape-head gone-kind 0 [] (omega arith)
+shape-back (Zoom factor) h ok = shape-head zoom-kind 0 _ (omega arith) ∙ rw (float-back factor (and-l (fits binary32 factor) _ ok))
+shape-back (Rotate radians) h ok = shape-head rotate-kind 0 _ (omega arith) ∙ rw (float-back radians (within-fits _ _ radians ok))
 shape-back (Touch device id p pos force) h ok = touch-back device id p pos force (and-l (pos-ok pos) _ ok) (and-r (pos-ok pos) _ ok)
 shape-back (MouseWheel u delta p s m) h ok =
-    shape-head 10 (modifiers-number m + 32 * unit-number u + 128 * phase-number p + 512 * source-number s) _ (omega (arith, modifiers-lt m, unit-le u, phase-le p, source-le s))
+    shape-head wheel-kind (modifiers-number m + 32 * unit-number u + 128 * phase-number p + 512 * source-number s) _ (omega (arith, modifiers-lt m, unit-le u, phase-le p, source-le s))
     ∙ wheel-back u p s m _ _ _ refl
     ∙ rw (vec-back delta ok)
-shape-back (WindowFocused b) h ok = shape-head 11 (bit-number b) [] (omega (arith, bit-le b)) ∙ focused-back b (bit-number b) refl
-shape-back Other h ok = shape-head 12 0 [] (omega arith)
+shape-back (WindowFocused b) h ok = shape-head focus-kind (bit-number b) [] (omega (arith, bit-le b)) ∙ focused-back b (bit-number b) refl
+shape-back Other h ok = shape-head other-kind 0 [] (omega arith)
 
 pub decode-after-encode : DecodeAfterEncode
 unfolding decode check-floats

@@ -8,6 +8,7 @@ use native.Mathlib.Omega.{arith}
 use lib.Dec.{T, eqb, ltb, lt→ltb}
 use lib.ListN.{getD, length}
 use borrow.Author.Tests.{ltb-true, ltb-false}
+use Rattle.data.specs.Kinds.{key-kind, modifiers-kind, moved-kind, motion-kind, button-kind, gone-kind, zoom-kind, rotate-kind, touch-kind, wheel-kind, focus-kind, other-kind}
 use Rattle.data.specs.Limits.{key-count, event-ok}
 use Rattle.feed.specs.Types.{Event, MaybeEvent, no-event, some-event, EventAt}
 use Rattle.feed.specs.Types.found as found
@@ -107,18 +108,18 @@ by-kind-fine : (k low : ℕ) (ws : List ℕ) → T (fine (shape-by-kind k low ws
 unfolding shape-by-kind key-shape modifiers-shape moved-shape motion-shape button-shape zoom-shape rotate-shape touch-shape wheel-shape focus-shape fine fields-ok
 by-kind-fine k low ws =
     cond-fine (eqb k 0) _ _ (λ t. tt)
-    (cond-fine (eqb k 1) _ _ (λ t. clean-fine 512 low _ (below-fine key-count (low % 256) _ (λ h. lt→ltb (low % 256) key-count h)))
-    (cond-fine (eqb k 2) _ _ (λ t. clean-fine 32 low _ tt)
-    (cond-fine (eqb k 3) _ _ (λ t. clean-fine 1 low _ tt)
-    (cond-fine (eqb k 4) _ _ (λ t. clean-fine 1 low _ tt)
-    (cond-fine (eqb k 5) _ _ (λ t. clean-fine 512 low _ (below-fine 5 _ _ (λ h. tt)))
-    (cond-fine (eqb k 6) _ _ (λ t. clean-fine 1 low _ tt)
-    (cond-fine (eqb k 7) _ _ (λ t. clean-fine 1 low _ tt)
-    (cond-fine (eqb k 8) _ _ (λ t. clean-fine 1 low _ tt)
-    (cond-fine (eqb k 9) _ _ (λ t. clean-fine 8 low _ tt)
-    (cond-fine (eqb k 10) _ _ (λ t. clean-fine 2048 low _ (below-fine 3 _ _ (λ h. tt)))
-    (cond-fine (eqb k 11) _ _ (λ t. clean-fine 2 low _ tt)
-    (cond-fine (eqb k 12) _ _ (λ t. clean-fine 1 low _ tt)
+    (cond-fine (eqb k key-kind) _ _ (λ t. clean-fine 512 low _ (below-fine key-count (low % 256) _ (λ h. lt→ltb (low % 256) key-count h)))
+    (cond-fine (eqb k modifiers-kind) _ _ (λ t. clean-fine 32 low _ tt)
+    (cond-fine (eqb k moved-kind) _ _ (λ t. clean-fine 1 low _ tt)
+    (cond-fine (eqb k motion-kind) _ _ (λ t. clean-fine 1 low _ tt)
+    (cond-fine (eqb k button-kind) _ _ (λ t. clean-fine 512 low _ (below-fine 5 _ _ (λ h. tt)))
+    (cond-fine (eqb k gone-kind) _ _ (λ t. clean-fine 1 low _ tt)
+    (cond-fine (eqb k zoom-kind) _ _ (λ t. clean-fine 1 low _ tt)
+    (cond-fine (eqb k rotate-kind) _ _ (λ t. clean-fine 1 low _ tt)
+    (cond-fine (eqb k touch-kind) _ _ (λ t. clean-fine 8 low _ tt)
+    (cond-fine (eqb k wheel-kind) _ _ (λ t. clean-fine 2048 low _ (below-fine 3 _ _ (λ h. tt)))
+    (cond-fine (eqb k focus-kind) _ _ (λ t. clean-fine 2 low _ tt)
+    (cond-fine (eqb k other-kind) _ _ (λ t. clean-fine 1 low _ tt)
     tt))))))))))))
 
 shape-fine : (ws : List ℕ) → T (fine (shape ws))

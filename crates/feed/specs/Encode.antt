@@ -4,6 +4,7 @@ use mathlib.Core.Bool.{Bool, true}
 use mathlib.Core.List.{List, [], _∷_, _++_, map}
 use lib.Dec.{ltb}
 use lib.Ieee.{Float, binary32, toBits}
+use Rattle.data.specs.Kinds.{kind-unit}
 use Rattle.data.specs.Limits.{key-count}
 use Rattle.data.specs.Numbers.{button-number, phase-number, unit-number, source-number, kind-number}
 use Rattle.data.specs.Bits.{bit-number}
@@ -64,7 +65,7 @@ words-after (WindowFocused focused) = []
 words-after Other = []
 
 unfoldable pub encode : Event → List ℕ
-encode e = (kind-number e * 0x1000_0000 + fields e) ∷ words-after e
+encode e = (kind-number e * kind-unit + fields e) ∷ words-after e
 
 -- lists of words, one after the other
 unfoldable pub join : List (List ℕ) → List ℕ

@@ -57,7 +57,7 @@ EventSixtyFive =
     (ws : List ℕ) (before : List (ℕ × Event)) (i : Item) (after : List Item) →
     length before ≡ max-events → items ws ≡ map good-item before ++ i ∷ after → feed-refusal ws ≡ some (TooManyEvents (i .index))
 
--- a feed that is not refused: at most 64 events, each of them good
+-- a feed that is not refused: at most `max-events` events, each of them good
 abbrev pub Accepted : Type 0
 Accepted =
     (ws : List ℕ) → feed-refusal ws ≡ none →

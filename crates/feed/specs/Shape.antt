@@ -6,6 +6,7 @@ use mathlib.Core.List.{List, [], _∷_}
 use lib.Dec.{eqb, ltb}
 use lib.ListN.{getD, length}
 use lib.Ieee.{Float, binary32, ofBits}
+use Rattle.data.specs.Kinds.{key-kind, modifiers-kind, moved-kind, motion-kind, button-kind, gone-kind, zoom-kind, rotate-kind, touch-kind, wheel-kind, focus-kind, other-kind}
 use Rattle.data.specs.Limits.{key-count, button-count, unit-count}
 use Rattle.data.specs.Bits.{bit-of}
 use Rattle.data.specs.Modifiers.{modifiers-of}
@@ -107,18 +108,18 @@ focus-shape low = clean 2 low (some-event (WindowFocused (bit-of 1 low)))
 unfoldable pub shape-by-kind : ℕ → ℕ → List ℕ → MaybeEvent
 shape-by-kind k low ws =
     cond (eqb k 0) no-event
-    (cond (eqb k 1) (key-shape low)
-    (cond (eqb k 2) (modifiers-shape low)
-    (cond (eqb k 3) (moved-shape low (getD ws 0 0) (getD ws 1 0))
-    (cond (eqb k 4) (motion-shape low (getD ws 0 0) (getD ws 1 0))
-    (cond (eqb k 5) (button-shape low (getD ws 0 0) (getD ws 1 0))
-    (cond (eqb k 6) (clean 1 low (some-event PointerGone))
-    (cond (eqb k 7) (zoom-shape low (getD ws 0 0))
-    (cond (eqb k 8) (rotate-shape low (getD ws 0 0))
-    (cond (eqb k 9) (touch-shape low ws)
-    (cond (eqb k 10) (wheel-shape low (getD ws 0 0) (getD ws 1 0))
-    (cond (eqb k 11) (focus-shape low)
-    (cond (eqb k 12) (clean 1 low (some-event Other))
+    (cond (eqb k key-kind) (key-shape low)
+    (cond (eqb k modifiers-kind) (modifiers-shape low)
+    (cond (eqb k moved-kind) (moved-shape low (getD ws 0 0) (getD ws 1 0))
+    (cond (eqb k motion-kind) (motion-shape low (getD ws 0 0) (getD ws 1 0))
+    (cond (eqb k button-kind) (button-shape low (getD ws 0 0) (getD ws 1 0))
+    (cond (eqb k gone-kind) (clean 1 low (some-event PointerGone))
+    (cond (eqb k zoom-kind) (zoom-shape low (getD ws 0 0))
+    (cond (eqb k rotate-kind) (rotate-shape low (getD ws 0 0))
+    (cond (eqb k touch-kind) (touch-shape low ws)
+    (cond (eqb k wheel-kind) (wheel-shape low (getD ws 0 0) (getD ws 1 0))
+    (cond (eqb k focus-kind) (focus-shape low)
+    (cond (eqb k other-kind) (clean 1 low (some-event Other))
     no-event))))))))))))
 
 -- an event's first word and the words after, of which enough are there

@@ -4,13 +4,14 @@ use mathlib.Core.Bool.{cond}
 use mathlib.Core.List.{List, [], _∷_}
 use lib.Dec.{eqb}
 use lib.ListN.{getD, take}
+use Rattle.data.specs.Kinds.{kind-unit, touch-kind}
 
 -- "top 4 bits the kind", and the bits below
 abbrev pub kind : ℕ → ℕ
-kind w = w / 0x1000_0000
+kind w = w / kind-unit
 
 abbrev pub low-bits : ℕ → ℕ
-low-bits w = w % 0x1000_0000
+low-bits w = w % kind-unit
 
 -- "The words that follow each kind come from a fixed table of sixteen lengths"
 abbrev pub lengths : List ℕ
@@ -18,7 +19,7 @@ lengths = 0 ∷ 0 ∷ 0 ∷ 2 ∷ 2 ∷ 2 ∷ 0 ∷ 1 ∷ 1 ∷ 6 ∷ 2 ∷ 0 �
 
 -- the words after an event's first word w: "touch adds one when force is present"
 unfoldable pub following : ℕ → ℕ
-following w = getD lengths (kind w) 0 + cond (eqb (kind w) 9) (w / 4 % 2) 0
+following w = getD lengths (kind w) 0 + cond (eqb (kind w) touch-kind) (w / 4 % 2) 0
 
 -- the words of an event, its first word w among them
 unfoldable pub piece-length : ℕ → ℕ

@@ -1,5 +1,18 @@
 // Whether the words at a place are an event of the domain, and whose list it goes to: what `event_at` answers, without the event.
 // `low` is the first word's low 28 bits, `next` the place after the last word.
+use data::kinds::BUTTON_KIND;
+use data::kinds::FOCUS_KIND;
+use data::kinds::GONE_KIND;
+use data::kinds::KEY_KIND;
+use data::kinds::KIND_UNIT;
+use data::kinds::MODIFIERS_KIND;
+use data::kinds::MOTION_KIND;
+use data::kinds::MOVED_KIND;
+use data::kinds::OTHER_KIND;
+use data::kinds::ROTATE_KIND;
+use data::kinds::TOUCH_KIND;
+use data::kinds::WHEEL_KIND;
+use data::kinds::ZOOM_KIND;
 use data::limits::BUTTON_COUNT;
 use data::limits::KEY_COUNT;
 use data::limits::UNIT_COUNT;
@@ -109,33 +122,33 @@ fn by_kind(feed: &[u32], at: usize, head: u32, next: usize) -> Verdict
     requires { ⌜ at + following head < length (now feed) ⌝ }
     ensures { λ r. ⌜ r ≡ verdict-of (list-of (kind head)) (found-at (check-floats (shape-by-kind (kind head) (low-bits head) (drop (suc at) (now (feed .entry))))) next) ⌝ }
 {
-    let low = head % 0x1000_0000;
-    match head / 0x1000_0000 {
+    let low = head % KIND_UNIT;
+    match head / KIND_UNIT {
         0 => Verdict::Malformed,
-        1 => bare((low < 512) & (low % 256 < KEY_COUNT), KEYS, next),
-        2 => bare(low < 32, KEYS, next),
-        3 => placed(feed, at, low < 1, POINTER, next),
-        4 => placed(feed, at, low < 1, POINTER, next),
-        5 => placed(
+        KEY_KIND => bare((low < 512) & (low % 256 < KEY_COUNT), KEYS, next),
+        MODIFIERS_KIND => bare(low < 32, KEYS, next),
+        MOVED_KIND => placed(feed, at, low < 1, POINTER, next),
+        MOTION_KIND => placed(feed, at, low < 1, POINTER, next),
+        BUTTON_KIND => placed(
             feed,
             at,
             (low < 512) & (low / 32 % 8 < BUTTON_COUNT),
             POINTER,
             next,
         ),
-        6 => bare(low < 1, POINTER, next),
-        7 => zoom(low, feed[at + 1], next),
-        8 => rotate(low, feed[at + 1], next),
-        9 => touch(feed, at, low, next),
-        10 => placed(
+        GONE_KIND => bare(low < 1, POINTER, next),
+        ZOOM_KIND => zoom(low, feed[at + 1], next),
+        ROTATE_KIND => rotate(low, feed[at + 1], next),
+        TOUCH_KIND => touch(feed, at, low, next),
+        WHEEL_KIND => placed(
             feed,
             at,
             (low < 2048) & (low / 32 % 4 < UNIT_COUNT),
             WHEEL,
             next,
         ),
-        11 => bare(low < 2, KEYS, next),
-        12 => bare(low < 1, UNREAD, next),
+        FOCUS_KIND => bare(low < 2, KEYS, next),
+        OTHER_KIND => bare(low < 1, UNREAD, next),
         13..=15 => Verdict::Malformed,
         // four bits: there is no more
         _ => Verdict::Malformed,

@@ -1,5 +1,18 @@
 // An event's words, by their kind.
 use data::event::Event;
+use data::kinds::BUTTON_KIND;
+use data::kinds::FOCUS_KIND;
+use data::kinds::GONE_KIND;
+use data::kinds::KEY_KIND;
+use data::kinds::KIND_UNIT;
+use data::kinds::MODIFIERS_KIND;
+use data::kinds::MOTION_KIND;
+use data::kinds::MOVED_KIND;
+use data::kinds::OTHER_KIND;
+use data::kinds::ROTATE_KIND;
+use data::kinds::TOUCH_KIND;
+use data::kinds::WHEEL_KIND;
+use data::kinds::ZOOM_KIND;
 use feed::found::MaybeEvent;
 use feed_shape::shape::bare;
 use feed_shape::shape::button_shape;
@@ -24,21 +37,21 @@ pub fn shape_at(feed: &[u32], at: usize) -> MaybeEvent
     ensures { λ r. ⌜ r ≡ shape-by-kind (kind (getD (now (feed .entry)) at 0)) (low-bits (getD (now (feed .entry)) at 0)) (drop (suc at) (now (feed .entry))) ⌝ }
 {
     let head = feed[at];
-    let low = head % 0x1000_0000;
-    match head / 0x1000_0000 {
+    let low = head % KIND_UNIT;
+    match head / KIND_UNIT {
         0 => MaybeEvent::None,
-        1 => key_shape(low),
-        2 => modifiers_shape(low),
-        3 => moved_shape(low, feed[at + 1], feed[at + 2]),
-        4 => motion_shape(low, feed[at + 1], feed[at + 2]),
-        5 => button_shape(low, feed[at + 1], feed[at + 2]),
-        6 => bare(low, Event::PointerGone),
-        7 => zoom_shape(low, feed[at + 1]),
-        8 => rotate_shape(low, feed[at + 1]),
-        9 => touch_shape(feed, at, low),
-        10 => wheel_shape(low, feed[at + 1], feed[at + 2]),
-        11 => focus_shape(low),
-        12 => bare(low, Event::Other),
+        KEY_KIND => key_shape(low),
+        MODIFIERS_KIND => modifiers_shape(low),
+        MOVED_KIND => moved_shape(low, feed[at + 1], feed[at + 2]),
+        MOTION_KIND => motion_shape(low, feed[at + 1], feed[at + 2]),
+        BUTTON_KIND => button_shape(low, feed[at + 1], feed[at + 2]),
+        GONE_KIND => bare(low, Event::PointerGone),
+        ZOOM_KIND => zoom_shape(low, feed[at + 1]),
+        ROTATE_KIND => rotate_shape(low, feed[at + 1]),
+        TOUCH_KIND => touch_shape(feed, at, low),
+        WHEEL_KIND => wheel_shape(low, feed[at + 1], feed[at + 2]),
+        FOCUS_KIND => focus_shape(low),
+        OTHER_KIND => bare(low, Event::Other),
         13..=15 => MaybeEvent::None,
         // four bits: there is no more
         _ => MaybeEvent::None,

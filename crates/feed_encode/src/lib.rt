@@ -1,6 +1,19 @@
 // The words of an event.
 use data::bits::bit_number;
 use data::event::Event;
+use data::kinds::BUTTON_KIND;
+use data::kinds::FOCUS_KIND;
+use data::kinds::GONE_KIND;
+use data::kinds::KEY_KIND;
+use data::kinds::KIND_UNIT;
+use data::kinds::MODIFIERS_KIND;
+use data::kinds::MOTION_KIND;
+use data::kinds::MOVED_KIND;
+use data::kinds::OTHER_KIND;
+use data::kinds::ROTATE_KIND;
+use data::kinds::TOUCH_KIND;
+use data::kinds::WHEEL_KIND;
+use data::kinds::ZOOM_KIND;
 use data::touch::MaybeF32;
 use data::touch::TouchPhase;
 use emath::pos2::Pos2;
@@ -9,6 +22,31 @@ ghost use mathlib.Core.List.{[], _∷_};
 ghost use Rattle.feed.specs.Types.{Touch};
 ghost use Rattle.feed.specs.Encode.{float-word, encode};
 ghost use Rattle.feed_encode.specs.Words.{words-of};
+
+// The first word of an event whose low bits are 0, by its kind.
+const KEY_HEAD: u32 = KEY_KIND * KIND_UNIT;
+
+const MODIFIERS_HEAD: u32 = MODIFIERS_KIND * KIND_UNIT;
+
+const MOVED_HEAD: u32 = MOVED_KIND * KIND_UNIT;
+
+const MOTION_HEAD: u32 = MOTION_KIND * KIND_UNIT;
+
+const BUTTON_HEAD: u32 = BUTTON_KIND * KIND_UNIT;
+
+const GONE_HEAD: u32 = GONE_KIND * KIND_UNIT;
+
+const ZOOM_HEAD: u32 = ZOOM_KIND * KIND_UNIT;
+
+const ROTATE_HEAD: u32 = ROTATE_KIND * KIND_UNIT;
+
+const TOUCH_HEAD: u32 = TOUCH_KIND * KIND_UNIT;
+
+const WHEEL_HEAD: u32 = WHEEL_KIND * KIND_UNIT;
+
+const FOCUS_HEAD: u32 = FOCUS_KIND * KIND_UNIT;
+
+const OTHER_HEAD: u32 = OTHER_KIND * KIND_UNIT;
 
 // The first `count` of `words`.
 pub struct EventWords {
@@ -65,13 +103,13 @@ fn touch_words(device: u64, id: u64, phase: TouchPhase, pos: Pos2, force: MaybeF
     let y = float_word(pos.y);
     match force {
         MaybeF32::None => EventWords {
-            words: [0x9000_0000 + (p + 0), a, b, c, d, x, y, 0],
+            words: [TOUCH_HEAD + (p + 0), a, b, c, d, x, y, 0],
             count: 7,
         },
         MaybeF32::Some(f) => {
             let z = float_word(f);
             EventWords {
-                words: [0x9000_0000 + (p + 4), a, b, c, d, x, y, z],
+                words: [TOUCH_HEAD + (p + 4), a, b, c, d, x, y, z],
                 count: 8,
             }
         }
@@ -84,21 +122,21 @@ pub fn encode(e: Event) -> EventWords
     match e {
         Event::Key(place, pressed) => {
             let p = bit_number(pressed);
-            one(0x1000_0000 + (place % 256 + 256 * p))
+            one(KEY_HEAD + (place % 256 + 256 * p))
         }
         Event::ModifiersChanged(modifiers) => {
             let m = modifiers.number();
-            one(0x2000_0000 + m)
+            one(MODIFIERS_HEAD + m)
         }
         Event::PointerMoved(pos) => {
             let x = float_word(pos.x);
             let y = float_word(pos.y);
-            three(0x3000_0000, x, y)
+            three(MOVED_HEAD, x, y)
         }
         Event::MouseMoved(delta) => {
             let x = float_word(delta.x);
             let y = float_word(delta.y);
-            three(0x4000_0000, x, y)
+            three(MOTION_HEAD, x, y)
         }
         Event::PointerButton(pos, button, pressed, modifiers) => {
             let m = modifiers.number();
@@ -106,16 +144,16 @@ pub fn encode(e: Event) -> EventWords
             let p = bit_number(pressed);
             let x = float_word(pos.x);
             let y = float_word(pos.y);
-            three(0x5000_0000 + (m + 32 * b + 256 * p), x, y)
+            three(BUTTON_HEAD + (m + 32 * b + 256 * p), x, y)
         }
-        Event::PointerGone => one(0x6000_0000),
+        Event::PointerGone => one(GONE_HEAD),
         Event::Zoom(factor) => {
             let x = float_word(factor);
-            two(0x7000_0000, x)
+            two(ZOOM_HEAD, x)
         }
         Event::Rotate(radians) => {
             let x = float_word(radians);
-            two(0x8000_0000, x)
+            two(ROTATE_HEAD, x)
         }
         Event::Touch(device, id, phase, pos, force) => touch_words(device, id, phase, pos, force),
         Event::MouseWheel(unit, delta, phase, source, modifiers) => {
@@ -125,12 +163,12 @@ pub fn encode(e: Event) -> EventWords
             let s = source.number();
             let x = float_word(delta.x);
             let y = float_word(delta.y);
-            three(0xa000_0000 + (m + 32 * u + 128 * p + 512 * s), x, y)
+            three(WHEEL_HEAD + (m + 32 * u + 128 * p + 512 * s), x, y)
         }
         Event::WindowFocused(focused) => {
             let f = bit_number(focused);
-            one(0xb000_0000 + f)
+            one(FOCUS_HEAD + f)
         }
-        Event::Other => one(0xc000_0000),
+        Event::Other => one(OTHER_HEAD),
     }
 }

@@ -6,6 +6,7 @@ use mathlib.Core.Bool.{cond}
 use mathlib.Core.List.{List, [], _∷_, _++_, map}
 use lib.Dec.{eqb}
 use lib.ListN.{getD, length, take}
+use Rattle.data.specs.Kinds.{kind-unit, key-kind, modifiers-kind, moved-kind, motion-kind, button-kind, gone-kind, zoom-kind, rotate-kind, touch-kind, wheel-kind, focus-kind, other-kind}
 use Rattle.data.specs.Bits.{bit-number}
 use Rattle.data.specs.Modifiers.{modifiers-number}
 use Rattle.data.specs.Numbers.{button-number, phase-number, unit-number, source-number}
@@ -45,38 +46,38 @@ unfolding pieces
 joined-split ps h = split-from ps 0 h
 
 -- ---- an encoded event is whole
-follows : (k f : ℕ) → f < 0x1000_0000 → following (k * 0x1000_0000 + f) ≡ getD lengths k 0 + cond (eqb k 9) (f / 4 % 2) 0
+follows : (k f : ℕ) → f < kind-unit → following (k * kind-unit + f) ≡ getD lengths k 0 + cond (eqb k touch-kind) (f / 4 % 2) 0
 unfolding following
 follows k f h =
-    let kinds : kind (k * 0x1000_0000 + f) ≡ k = omega arith in
-    let forces : (k * 0x1000_0000 + f) / 4 % 2 ≡ f / 4 % 2 = omega arith in
+    let kinds : kind (k * kind-unit + f) ≡ k = omega arith in
+    let forces : (k * kind-unit + f) / 4 % 2 ≡ f / 4 % 2 = omega arith in
     rw (kinds, forces)
 
-whole-of : (k f : ℕ) (ws : List ℕ) → f < 0x1000_0000 → length ws ≡ getD lengths k 0 + cond (eqb k 9) (f / 4 % 2) 0 → Whole ((k * 0x1000_0000 + f) ∷ ws)
-whole-of k f ws h e = whole (k * 0x1000_0000 + f) ws (e ∙ sym (follows k f h))
+whole-of : (k f : ℕ) (ws : List ℕ) → f < kind-unit → length ws ≡ getD lengths k 0 + cond (eqb k touch-kind) (f / 4 % 2) 0 → Whole ((k * kind-unit + f) ∷ ws)
+whole-of k f ws h e = whole (k * kind-unit + f) ws (e ∙ sym (follows k f h))
 
 pub encoded-whole : (e : Event) → Whole (encode e)
 unfolding encode fields words-after pos-words vec-words id-words force-words
-encoded-whole (Key place pressed) = whole-of 1 (place % 256 + 256 * bit-number pressed) [] (omega (arith, bit-le pressed)) refl
-encoded-whole (ModifiersChanged m) = whole-of 2 (modifiers-number m) [] (omega (arith, modifiers-lt m)) refl
-encoded-whole (PointerMoved v) = whole-of 3 0 _ (omega arith) refl
-encoded-whole (MouseMoved v) = whole-of 4 0 _ (omega arith) refl
-encoded-whole (Button v b p m) = whole-of 5 (modifiers-number m + 32 * button-number b + 256 * bit-number p) _ (omega (arith, modifiers-lt m, button-le b, bit-le p)) refl
-encoded-whole PointerGone = whole-of 6 0 [] (omega arith) refl
-encoded-whole (Zoom x) = whole-of 7 0 _ (omega arith) refl
-encoded-whole (Rotate x) = whole-of 8 0 _ (omega arith) refl
+encoded-whole (Key place pressed) = whole-of key-kind (place % 256 + 256 * bit-number pressed) [] (omega (arith, bit-le pressed)) refl
+encoded-whole (ModifiersChanged m) = whole-of modifiers-kind (modifiers-number m) [] (omega (arith, modifiers-lt m)) refl
+encoded-whole (PointerMoved v) = whole-of moved-kind 0 _ (omega arith) refl
+encoded-whole (MouseMoved v) = whole-of motion-kind 0 _ (omega arith) refl
+encoded-whole (Button v b p m) = whole-of button-kind (modifiers-number m + 32 * button-number b + 256 * bit-number p) _ (omega (arith, modifiers-lt m, button-le b, bit-le p)) refl
+encoded-whole PointerGone = whole-of gone-kind 0 [] (omega arith) refl
+encoded-whole (Zoom x) = whole-of zoom-kind 0 _ (omega arith) refl
+encoded-whole (Rotate x) = whole-of rotate-kind 0 _ (omega arith) refl
 encoded-whole (Touch d i ph v no-force) =
     let hp = phase-le ph in
     let n : 0 ≡ (phase-number ph + 0) / 4 % 2 = omega arith in
-    whole-of 9 (phase-number ph + 0) _ (omega arith) (ap (λ (k : ℕ). 6 + k) n)
+    whole-of touch-kind (phase-number ph + 0) _ (omega arith) (ap (λ (k : ℕ). 6 + k) n)
 encoded-whole (Touch d i ph v (some-force x)) =
     let hp = phase-le ph in
     let q : (phase-number ph + 4) / 4 ≡ 1 = omega arith in
-    whole-of 9 (phase-number ph + 4) _ (omega arith) (ap (λ (k : ℕ). 6 + k % 2) (sym q))
+    whole-of touch-kind (phase-number ph + 4) _ (omega arith) (ap (λ (k : ℕ). 6 + k % 2) (sym q))
 encoded-whole (MouseWheel u v ph s m) =
-    whole-of 10 (modifiers-number m + 32 * unit-number u + 128 * phase-number ph + 512 * source-number s) _ (omega (arith, modifiers-lt m, unit-le u, phase-le ph, source-le s)) refl
-encoded-whole (WindowFocused b) = whole-of 11 (bit-number b) [] (omega (arith, bit-le b)) refl
-encoded-whole Other = whole-of 12 0 [] (omega arith) refl
+    whole-of wheel-kind (modifiers-number m + 32 * unit-number u + 128 * phase-number ph + 512 * source-number s) _ (omega (arith, modifiers-lt m, unit-le u, phase-le ph, source-le s)) refl
+encoded-whole (WindowFocused b) = whole-of focus-kind (bit-number b) [] (omega (arith, bit-le b)) refl
+encoded-whole Other = whole-of other-kind 0 [] (omega arith) refl
 
 -- ---- and read again
 whats-from : (es : List Event) (i : ℕ) → AllOk es → map (λ (t : Item). t .what) (map item-of (pieces-from i 0 (join (map encode es)))) ≡ map good es

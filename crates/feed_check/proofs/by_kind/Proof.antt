@@ -3,7 +3,8 @@ use mathlib.Core.Path.{sym, _∙_}
 use native.Mathlib.Omega.{arith}
 use borrow.Author.Tests.{ne-eqb}
 use borrow.Author.Needs.{needs}
-use Rattle.data.specs.Limits.{event-ok, pos-ok, vec-ok}
+use Rattle.data.specs.Kinds.{moved-kind, motion-kind, button-kind, zoom-kind, rotate-kind, wheel-kind}
+use Rattle.data.specs.Limits.{event-ok, pos-ok, vec-ok, key-count, button-count, unit-count}
 use Rattle.feed.specs.Shape.{pos-of, vec-of, key-shape, modifiers-shape, moved-shape, motion-shape, button-shape, zoom-shape, rotate-shape, touch-shape, wheel-shape, focus-shape, shape-by-kind}
 use Rattle.feed.specs.Decode.{check-floats, found-at}
 use Rattle.feed.proofs.Lengths.{length-least, touch-following}
@@ -20,13 +21,13 @@ bare-requires-2 : tie.Need-bare-requires-2
 bare-requires-2 c κs = search needs
 
 placed-requires : tie.Need-placed-requires
-placed-requires c κs = omega (arith, length-least _ 3 (c .match .keys4))
+placed-requires c κs = omega (arith, length-least _ moved-kind (c .match .keys4))
 
 placed-requires-2 : tie.Need-placed-requires-2
-placed-requires-2 c κs = omega (arith, length-least _ 4 (c .match .keys5))
+placed-requires-2 c κs = omega (arith, length-least _ motion-kind (c .match .keys5))
 
 placed-requires-3 : tie.Need-placed-requires-3
-placed-requires-3 c κs = omega (arith, length-least _ 5 (c .match .keys6))
+placed-requires-3 c κs = omega (arith, length-least _ button-kind (c .match .keys6))
 
 bare-requires-3 : tie.Need-bare-requires-3
 bare-requires-3 c κs = search needs
@@ -38,7 +39,7 @@ mul-zoom : tie.Need-mul-zoom
 mul-zoom c = search needs
 
 shared-slice-read-zoom : tie.Need-shared-slice-read-zoom
-shared-slice-read-zoom c = omega (arith, length-least _ 7 (c .before .match .keys8))
+shared-slice-read-zoom c = omega (arith, length-least _ zoom-kind (c .before .match .keys8))
 
 zoom-requires : tie.Need-zoom-requires
 zoom-requires c κs = search needs
@@ -50,7 +51,7 @@ mul-rotate : tie.Need-mul-rotate
 mul-rotate c = search needs
 
 shared-slice-read-rotate : tie.Need-shared-slice-read-rotate
-shared-slice-read-rotate c = omega (arith, length-least _ 8 (c .before .match .keys9))
+shared-slice-read-rotate c = omega (arith, length-least _ rotate-kind (c .before .match .keys9))
 
 rotate-requires : tie.Need-rotate-requires
 rotate-requires c κs = search needs
@@ -59,7 +60,7 @@ touch-requires : tie.Need-touch-requires
 touch-requires c κs = omega (arith, touch-following _ (c .match .keys10))
 
 placed-requires-4 : tie.Need-placed-requires-4
-placed-requires-4 c κs = omega (arith, length-least _ 10 (c .match .keys11))
+placed-requires-4 c κs = omega (arith, length-least _ wheel-kind (c .match .keys11))
 
 bare-requires-4 : tie.Need-bare-requires-4
 bare-requires-4 c κs = search needs
@@ -73,7 +74,7 @@ returns c = rw (c .match .keys1)
 
 returns-2 : tie.Need-returns-2
 unfolding shape-by-kind event-ok key-shape
-returns-2 c = rw (c .before .match .keys2) (c .bare .ensures ∙ sym (field-is _ _ _ 512 _ 145 _))
+returns-2 c = rw (c .before .match .keys2) (c .bare .ensures ∙ sym (field-is _ _ _ 512 _ key-count _))
 
 returns-3 : tie.Need-returns-3
 unfolding shape-by-kind event-ok modifiers-shape
@@ -89,7 +90,7 @@ returns-5 c = rw (c .before .match .keys5, word-after _ _ 0, word-after _ _ 1) (
 
 returns-6 : tie.Need-returns-6
 unfolding shape-by-kind event-ok button-shape
-returns-6 c = rw (c .before .match .keys6, word-after _ _ 0, word-after _ _ 1) (c .placed3 .ensures ∙ sym (field-is _ _ _ 512 _ 5 _))
+returns-6 c = rw (c .before .match .keys6, word-after _ _ 0, word-after _ _ 1) (c .placed3 .ensures ∙ sym (field-is _ _ _ 512 _ button-count _))
 
 returns-7 : tie.Need-returns-7
 unfolding shape-by-kind event-ok
@@ -109,7 +110,7 @@ returns-10 c = rw (c .before .match .keys10, word-after _ _ 4, word-after _ _ 5,
 
 returns-11 : tie.Need-returns-11
 unfolding shape-by-kind event-ok wheel-shape pos-ok vec-ok pos-of vec-of
-returns-11 c = rw (c .before .match .keys11, word-after _ _ 0, word-after _ _ 1) (c .placed4 .ensures ∙ sym (field-is _ _ _ 2048 _ 3 _))
+returns-11 c = rw (c .before .match .keys11, word-after _ _ 0, word-after _ _ 1) (c .placed4 .ensures ∙ sym (field-is _ _ _ 2048 _ unit-count _))
 
 returns-12 : tie.Need-returns-12
 unfolding shape-by-kind event-ok focus-shape
