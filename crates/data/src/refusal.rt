@@ -9,9 +9,9 @@ pub enum PassRefusal {
     OutsideDomain(usize),
     // 3: given time below the state's
     TimeBelow,
-    // 4: event 65
+    // 4: an event past `MAX_EVENTS`
     TooManyEvents(usize),
-    // 5: a fifth device, or Start of an eleventh touch
+    // 5: a device past `MAX_DEVICES`, or Start of a touch past `MAX_TOUCHES`
     NoPlace(usize),
 }
 
@@ -64,7 +64,7 @@ impl InsertRefusal {
 pub enum InteractRefusal {
     // 1: a sense bit that sense.rs doesn't name
     Malformed(usize),
-    // 4: hit entry 65
+    // 4: a hit entry past `MAX_HITS`
     TooManyHits(usize),
     // 8: an id buffer under 66 places
     ShortBuffer,
