@@ -11,6 +11,8 @@ use mir.Val.{hasKey}
 use types.Run.{OneOf, miss}
 use denote.Enum.Declared.{tagOf}
 use borrow.Author.Tests.{eqb-true, eqb-false, ltb-true, ltb-false}
+use Rattle.data.specs.Kinds.{key-kind, modifiers-kind, moved-kind, motion-kind, button-kind, gone-kind, zoom-kind, rotate-kind, touch-kind, wheel-kind, focus-kind, other-kind}
+use Rattle.data.specs.Limits.{key-count, button-count, unit-count}
 use Rattle.data.specs.Numbers.{kind-number}
 use Rattle.data.proofs.event.Event.{the-type}
 use Rattle.feed.specs.Types.{Event, Key, ModifiersChanged, PointerMoved, MouseMoved, Button, PointerGone, Zoom, Rotate, Touch, MouseWheel, WindowFocused, Other}
@@ -57,18 +59,18 @@ by-kind : (k low : ℕ) (ws : List ℕ) → Of k (shape-by-kind k low ws)
 unfolding shape-by-kind key-shape modifiers-shape moved-shape motion-shape button-shape zoom-shape rotate-shape touch-shape wheel-shape focus-shape fields-ok
 by-kind k low ws =
     by-cond k (eqb k 0) _ _ (λ t. none-of k)
-    (by-cond k (eqb k 1) _ _ (λ t. clean-of k 512 low _ (below-of k 145 _ _ (λ u. some-of k 1 _ t refl (subst T (sym u) tt))))
-    (by-cond k (eqb k 2) _ _ (λ t. clean-of k 32 low _ (some-of k 2 _ t refl tt))
-    (by-cond k (eqb k 3) _ _ (λ t. clean-of k 1 low _ (some-of k 3 _ t refl tt))
-    (by-cond k (eqb k 4) _ _ (λ t. clean-of k 1 low _ (some-of k 4 _ t refl tt))
-    (by-cond k (eqb k 5) _ _ (λ t. clean-of k 512 low _ (below-of k 5 _ _ (λ u. some-of k 5 _ t refl tt)))
-    (by-cond k (eqb k 6) _ _ (λ t. clean-of k 1 low _ (some-of k 6 _ t refl tt))
-    (by-cond k (eqb k 7) _ _ (λ t. clean-of k 1 low _ (some-of k 7 _ t refl tt))
-    (by-cond k (eqb k 8) _ _ (λ t. clean-of k 1 low _ (some-of k 8 _ t refl tt))
-    (by-cond k (eqb k 9) _ _ (λ t. clean-of k 8 low _ (some-of k 9 _ t refl tt))
-    (by-cond k (eqb k 10) _ _ (λ t. clean-of k 2048 low _ (below-of k 3 _ _ (λ u. some-of k 10 _ t refl tt)))
-    (by-cond k (eqb k 11) _ _ (λ t. clean-of k 2 low _ (some-of k 11 _ t refl tt))
-    (by-cond k (eqb k 12) _ _ (λ t. clean-of k 1 low _ (some-of k 12 _ t refl tt))
+    (by-cond k (eqb k key-kind) _ _ (λ t. clean-of k 512 low _ (below-of k key-count _ _ (λ u. some-of k key-kind _ t refl (subst T (sym u) tt))))
+    (by-cond k (eqb k modifiers-kind) _ _ (λ t. clean-of k 32 low _ (some-of k modifiers-kind _ t refl tt))
+    (by-cond k (eqb k moved-kind) _ _ (λ t. clean-of k 1 low _ (some-of k moved-kind _ t refl tt))
+    (by-cond k (eqb k motion-kind) _ _ (λ t. clean-of k 1 low _ (some-of k motion-kind _ t refl tt))
+    (by-cond k (eqb k button-kind) _ _ (λ t. clean-of k 512 low _ (below-of k button-count _ _ (λ u. some-of k button-kind _ t refl tt)))
+    (by-cond k (eqb k gone-kind) _ _ (λ t. clean-of k 1 low _ (some-of k gone-kind _ t refl tt))
+    (by-cond k (eqb k zoom-kind) _ _ (λ t. clean-of k 1 low _ (some-of k zoom-kind _ t refl tt))
+    (by-cond k (eqb k rotate-kind) _ _ (λ t. clean-of k 1 low _ (some-of k rotate-kind _ t refl tt))
+    (by-cond k (eqb k touch-kind) _ _ (λ t. clean-of k 8 low _ (some-of k touch-kind _ t refl tt))
+    (by-cond k (eqb k wheel-kind) _ _ (λ t. clean-of k 2048 low _ (below-of k unit-count _ _ (λ u. some-of k wheel-kind _ t refl tt)))
+    (by-cond k (eqb k focus-kind) _ _ (λ t. clean-of k 2 low _ (some-of k focus-kind _ t refl tt))
+    (by-cond k (eqb k other-kind) _ _ (λ t. clean-of k 1 low _ (some-of k other-kind _ t refl tt))
     (none-of k)))))))))))))
 
 or-other : (k : ℕ) (m : MaybeEvent) → Of k m → Of-kind k (event-or-other m)
@@ -94,9 +96,9 @@ module _ (ws : List ℕ) (at : ℕ) where
       go true t = go2 (ltb (following (getD ws at 0)) (length ws - at)) refl (ltb-true _ _ t)
       go false t = rw (at-past ws at (ltb-false _ _ t)) (other-of _)
 
-  -- what the first word excludes; `Other` is of kind 12
-  pub not-of-kind : (k : ℕ) → (kind (getD ws at 0) ≡ k → ⊥) → (k ≡ 12 → ⊥) → kind-number (shaped-at ws at) ≡ k → ⊥
-  not-of-kind k other not-12 h = ⊎-elim (λ e. other (sym e ∙ h)) (λ e. not-12 (sym h ∙ rw e)) (of-kind .0)
+  -- what the first word excludes; `Other` is of the last kind
+  pub not-of-kind : (k : ℕ) → (kind (getD ws at 0) ≡ k → ⊥) → (k ≡ other-kind → ⊥) → kind-number (shaped-at ws at) ≡ k → ⊥
+  not-of-kind k other not-other h = ⊎-elim (λ e. other (sym e ∙ h)) (λ e. not-other (sym h ∙ rw e)) (of-kind .0)
 
   pub fields : T (fields-ok (shaped-at ws at))
   fields = of-kind .1

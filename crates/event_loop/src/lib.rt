@@ -1,6 +1,7 @@
 // A feed read for one component of the panel: it decodes only its own events, whose places are in its list.
 // Floats are not tested again: a pass is surveyed before.
 
+use data::kinds::KIND_UNIT;
 use data::limits::MAX_EVENTS;
 ghost use mathlib.Core.Path.{_≡_};
 ghost use Prim.Native.Nat.{_+_, _*_};
@@ -24,14 +25,14 @@ pub const WHEEL: u8 = 5;
 pub const LIST_COUNT: usize = 6;
 
 // The places of all lists: `MAX_EVENTS` for each.
-pub const LISTED: usize = 384;
+pub const LISTED: usize = LIST_COUNT * MAX_EVENTS;
 
 // The kind of the event at `at`; 0 past the end.
 pub fn kind_at(feed: &[u32], at: usize) -> u32
     ensures { λ r. ⌜ r ≡ kind (getD (now (feed .entry)) at 0) ⌝ }
 {
     if at < feed.len() {
-        return feed[at] / 0x1000_0000;
+        return feed[at] / KIND_UNIT;
     }
     0
 }

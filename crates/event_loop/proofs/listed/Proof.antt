@@ -3,6 +3,7 @@ use Prim.Native.Nat.{ℕ, _+_, _*_}
 use native.Mathlib.Omega.{arith}
 use lib.ListN.{List·getD-eq-default}
 use borrow.Author.Needs.{needs}
+use Rattle.data.specs.Limits.{max-events}
 use Rattle.event_loop.proofs.listed.Statement.{statement}
 use Rattle.event_loop.proofs.listed.Tie as tie
 
@@ -19,7 +20,7 @@ shared-slice-read-result : tie.Need-shared-slice-read-result
 shared-slice-read-result c = search needs
 
 cast-result : tie.Need-cast-result
-cast-result c = omega (arith, c .shared-slice-known .given (c .before .before .args .list * 64 + c .before .before .args .i))
+cast-result c = omega (arith, c .shared-slice-known .given (c .before .before .args .list * max-events + c .before .before .args .i))
 
 returns : tie.Need-returns
 returns c = search needs
