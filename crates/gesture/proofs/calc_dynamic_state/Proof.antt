@@ -4,6 +4,7 @@ use mathlib.Core.Path.{_≡_, _∙_, sym, ap}
 use native.Mathlib.Omega.{arith}
 use lib.ListN.{length, take, length-take, length-map}
 use Prim.Native.Nat.{_≤_, _<_}
+use Rattle.data.specs.Limits.{max-touches}
 use Rattle.model.specs.Touch.{center}
 use Rattle.gesture.proofs.Averages.{few, many-at, around}
 use Rattle.gesture.proofs.calc_dynamic_state.Statement.{statement}
@@ -18,8 +19,8 @@ returns c = sym (few _ (rw (c .before .len .ensures) at (c .if1 .taken)))
 recip-requires : tie.Need-recip-requires
 recip-requires c κs =
     let ts = c .before .before .args .ts in
-    let l : length (ts .places) ≡ 10 = simp length-map at (c .before .before .good .0 .1 .1 .1 .0 .1 .0 .1) in
-    let b : length (take (ts .count) (ts .places)) ≤ 10 = omega (arith, length-take (ts .count) (ts .places)) in
+    let l : length (ts .places) ≡ max-touches = simp length-map at (c .before .before .good .0 .1 .1 .1 .0 .1 .0 .1) in
+    let b : length (take (ts .count) (ts .places)) ≤ max-touches = omega (arith, length-take (ts .count) (ts .places)) in
     rw (c .before .len .ensures) b
 
 sum-requires : tie.Need-sum-requires

@@ -5,6 +5,7 @@ use borrow.Author.Needs.{needs}
 use native.Mathlib.Omega.{arith}
 use lib.ListN.{length, take, drop, set, length-map, length-set}
 use lib.Ieee.{ofBits}
+use Rattle.data.specs.Limits.{max-touches}
 use Rattle.model.specs.Touch.{sum-distance, sum-abs-distance2}
 use Rattle.touches.proofs.Places.{first-of, first-le}
 use Rattle.gesture.proofs.Turns.{distance-step, away-step, distance-end, away-end}
@@ -12,7 +13,7 @@ use Rattle.gesture.proofs.spread.Statement.{statement}
 use Rattle.gesture.proofs.spread.Tie as tie
 
 abbrev Inv-loop : tie.InvT-loop
-Inv-loop center n a distance₀ abs-distance2₀ i₀ distance abs-distance2 i = (i ≤ n) × (n ≤ length a) × (length a ≡ 10) × (sum-distance center distance (drop i (take n a)) ≡ sum-distance center distance₀ (take n a)) × (sum-abs-distance2 center abs-distance2 (drop i (take n a)) ≡ sum-abs-distance2 center abs-distance2₀ (take n a))
+Inv-loop center n a distance₀ abs-distance2₀ i₀ distance abs-distance2 i = (i ≤ n) × (n ≤ length a) × (length a ≡ max-touches) × (sum-distance center distance (drop i (take n a)) ≡ sum-distance center distance₀ (take n a)) × (sum-abs-distance2 center abs-distance2 (drop i (take n a)) ≡ sum-abs-distance2 center abs-distance2₀ (take n a))
 
 abbrev μ-loop : tie.MeasureT-loop
 μ-loop center n a distance₀ abs-distance2₀ i₀ distance abs-distance2 i = n - i
@@ -26,7 +27,7 @@ zero-requires c κs = search needs
 loop-holds : tie.Need-loop-holds Inv-loop μ-loop
 loop-holds c =
     let ts = c .before .before .before .args .ts in
-    let l : length (ts .places) ≡ 10 = simp length-map at (c .before .before .before .good .0 .1 .1 .1 .0 .1 .0 .1) in
+    let l : length (ts .places) ≡ max-touches = simp length-map at (c .before .before .before .good .0 .1 .1 .1 .0 .1 .0 .1) in
     let e = c .before .before .len .ensures in
     (omega arith, rw e (first-le (ts .count) (ts .places)), l, refl, refl)
 

@@ -5,6 +5,7 @@ use borrow.Author.Needs.{needs}
 use native.Mathlib.Omega.{arith}
 use lib.ListN.{length, take, drop, set, length-map, length-set}
 use lib.Ieee.{ofBits}
+use Rattle.data.specs.Limits.{max-touches}
 use Rattle.model.specs.Touch.{sum-force, sum-pos}
 use Rattle.touches.proofs.Places.{first-of, first-le}
 use Rattle.gesture.proofs.Turns.{force-step, pos-step, force-end, pos-end}
@@ -12,7 +13,7 @@ use Rattle.gesture.proofs.sum.Statement.{statement}
 use Rattle.gesture.proofs.sum.Tie as tie
 
 abbrev Inv-loop : tie.InvT-loop
-Inv-loop n a force₀ pos₀ i₀ force pos i = (i ≤ n) × (n ≤ length a) × (length a ≡ 10) × (sum-force force (drop i (take n a)) ≡ sum-force force₀ (take n a)) × (sum-pos pos (drop i (take n a)) ≡ sum-pos pos₀ (take n a))
+Inv-loop n a force₀ pos₀ i₀ force pos i = (i ≤ n) × (n ≤ length a) × (length a ≡ max-touches) × (sum-force force (drop i (take n a)) ≡ sum-force force₀ (take n a)) × (sum-pos pos (drop i (take n a)) ≡ sum-pos pos₀ (take n a))
 
 abbrev μ-loop : tie.MeasureT-loop
 μ-loop n a force₀ pos₀ i₀ force pos i = n - i
@@ -26,7 +27,7 @@ zero-requires c κs = search needs
 loop-holds : tie.Need-loop-holds Inv-loop μ-loop
 loop-holds c =
     let ts = c .before .before .before .args .ts in
-    let l : length (ts .places) ≡ 10 = simp length-map at (c .before .before .before .good .0 .1 .1 .1 .0 .1 .0 .1) in
+    let l : length (ts .places) ≡ max-touches = simp length-map at (c .before .before .before .good .0 .1 .1 .1 .0 .1 .0 .1) in
     let e = c .before .before .len .ensures in
     (omega arith, rw e (first-le (ts .count) (ts .places)), l, refl, refl)
 

@@ -5,6 +5,7 @@ use borrow.Author.Needs.{needs}
 use borrow.Author.Tests.{eq-eqb, ne-eqb}
 use native.Mathlib.Omega.{arith}
 use lib.ListN.{length, take, drop, length-map}
+use Rattle.data.specs.Limits.{max-touches}
 use Rattle.model.specs.Touch.{touch-id-of}
 use Rattle.touches.specs.Touches.{index}
 use Rattle.touches.proofs.Places.{first-of, first-le, index-skips, index-stops, index-ends}
@@ -12,7 +13,7 @@ use Rattle.touches.proofs.index_of.Statement.{statement}
 use Rattle.touches.proofs.index_of.Tie as tie
 
 abbrev Inv-loop : tie.InvT-loop
-Inv-loop id n a i₀ i = (i ≤ n) × (n ≤ length a) × (length a ≡ 10) × (i + index touch-id-of id (drop i (take n a)) ≡ index touch-id-of id (take n a))
+Inv-loop id n a i₀ i = (i ≤ n) × (n ≤ length a) × (length a ≡ max-touches) × (i + index touch-id-of id (drop i (take n a)) ≡ index touch-id-of id (take n a))
 
 abbrev μ-loop : tie.MeasureT-loop
 μ-loop id n a i₀ i = n - i
@@ -22,7 +23,7 @@ len-requires c κs = search needs
 
 loop-holds : tie.Need-loop-holds Inv-loop μ-loop
 loop-holds c =
-    let l : length (c .before .before .args .ts .places) ≡ 10 = simp length-map at (c .before .before .good .0 .1 .1 .1 .0 .1 .0 .1) in
+    let l : length (c .before .before .args .ts .places) ≡ max-touches = simp length-map at (c .before .before .good .0 .1 .1 .1 .0 .1 .0 .1) in
     (omega arith, rw (c .before .len .ensures) (first-le (c .before .before .args .ts .count) (c .before .before .args .ts .places)), l, omega arith)
 
 mul-x : tie.Need-mul-x Inv-loop μ-loop

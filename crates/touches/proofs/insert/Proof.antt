@@ -7,6 +7,7 @@ use borrow.Author.Needs.{needs}
 use borrow.Author.Tests.{eq-eqb, ne-eqb}
 use native.Mathlib.Omega.{arith}
 use lib.ListN.{length, set, length-map, length-set, length-take}
+use Rattle.data.specs.Limits.{max-touches}
 use Rattle.model.specs.Touch.{insert-touch}
 use Rattle.touches.specs.Touches.{list}
 use Rattle.touches.proofs.Places.{first-of, first-le, length-set-first}
@@ -17,7 +18,7 @@ use Rattle.touches.proofs.insert.Tie as tie
 
 abbrev Inv-loop : tie.InvT-loop
 Inv-loop ts t n s₀ carry₀ shifting₀ i₀ s carry shifting i =
-    (i ≤ n) × (n ≤ length (s .places)) × (length (s .places) ≡ 10) × (n ≡ length (list s)) × (shifting ≡ false → carry ≡ t)
+    (i ≤ n) × (n ≤ length (s .places)) × (length (s .places) ≡ max-touches) × (n ≡ length (list s)) × (shifting ≡ false → carry ≡ t)
     × (grown t n (s .places) carry shifting i ≡ insert-touch t (list s₀))
 
 abbrev μ-loop : tie.MeasureT-loop
@@ -30,7 +31,7 @@ loop-holds : tie.Need-loop-holds Inv-loop μ-loop
 loop-holds c =
     let ts = c .before .args .ts in
     let e = c .len .ensures in
-    let l : length (ts .places) ≡ 10 = simp length-map at (c .before .good .0 .1 .1 .1 .0 .1 .0 .1) in
+    let l : length (ts .places) ≡ max-touches = simp length-map at (c .before .good .0 .1 .1 .1 .0 .1 .0 .1) in
     (omega arith, rw e (first-le (ts .count) (ts .places)), l, e, λ q. refl, rw (← first-of _ (ts .count) (ts .places) e) (grown-start _ _ _ _))
 
 mul-x : tie.Need-mul-x Inv-loop μ-loop

@@ -5,6 +5,7 @@ use borrow.Author.Needs.{needs}
 use borrow.Author.Tests.{eq-eqb, ne-eqb}
 use native.Mathlib.Omega.{arith}
 use lib.ListN.{length, take, drop, length-map}
+use Rattle.data.specs.Limits.{max-touches}
 use Rattle.model.specs.Touch.{touch-id-of}
 use Rattle.touches.specs.Touches.{list, index}
 use Rattle.touches.proofs.Places.{first-of, first-le, set-first, index-skips, index-stops, index-ends}
@@ -14,7 +15,7 @@ use Rattle.touches.proofs.move_to.Tie as tie
 
 abbrev Inv-loop : tie.InvT-loop
 Inv-loop t n s₀ i₀ s i =
-    (i ≤ n) × (n ≤ length (s .places)) × (length (s .places) ≡ 10) × (n ≡ length (list s)) × (list s ≡ list s₀) × (i + index touch-id-of (t .id) (drop i (take n (s .places))) ≡ index touch-id-of (t .id) (list s))
+    (i ≤ n) × (n ≤ length (s .places)) × (length (s .places) ≡ max-touches) × (n ≡ length (list s)) × (list s ≡ list s₀) × (i + index touch-id-of (t .id) (drop i (take n (s .places))) ≡ index touch-id-of (t .id) (list s))
 
 abbrev μ-loop : tie.MeasureT-loop
 μ-loop t n s₀ i₀ s i = n - i
@@ -26,7 +27,7 @@ loop-holds : tie.Need-loop-holds Inv-loop μ-loop
 loop-holds c =
     let ts = c .before .args .ts in
     let e = c .len .ensures in
-    let l : length (ts .places) ≡ 10 = simp length-map at (c .before .good .0 .1 .1 .1 .0 .1 .0 .1) in
+    let l : length (ts .places) ≡ max-touches = simp length-map at (c .before .good .0 .1 .1 .1 .0 .1 .0 .1) in
     (omega arith, rw e (first-le (ts .count) (ts .places)), l, e, refl, rw (first-of _ (ts .count) (ts .places) e) (omega arith))
 
 mul-x : tie.Need-mul-x Inv-loop μ-loop

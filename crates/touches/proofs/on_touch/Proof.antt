@@ -4,6 +4,7 @@ use mathlib.Core.Path.{_≡_, _∙_, sym, ap}
 use native.Mathlib.Omega.{arith}
 use lib.ListN.{length, take, length-take, length-map}
 use Prim.Native.Nat.{_≤_, _<_}
+use Rattle.data.specs.Limits.{max-touches}
 use Rattle.model.specs.Touch.{on-touch}
 use Rattle.touches.specs.Touches.{on-touch-if-room}
 use Rattle.touches.proofs.Upsert.{fits, length-move, length-remove}
@@ -42,24 +43,24 @@ returns-2 : tie.Need-returns-2
 unfolding on-touch-if-room on-touch
 returns-2 c =
     let ts = c .before .before .before .args .ts in
-    let l : length (ts .places) ≡ 10 = simp length-map at (c .before .before .before .good .0 .1 .1 .1 .0 .1 .0 .1) in
-    let b : length (take (ts .count) (ts .places)) ≤ 10 = omega (arith, length-take (ts .count) (ts .places)) in
+    let l : length (ts .places) ≡ max-touches = simp length-map at (c .before .before .before .good .0 .1 .1 .1 .0 .1 .0 .1) in
+    let b : length (take (ts .count) (ts .places)) ≤ max-touches = omega (arith, length-take (ts .count) (ts .places)) in
     rw (c .before .enum-told2 .given .1, c .move-to .ensures) (sym (fits _ _ (rw length-move b)))
 
 returns-3 : tie.Need-returns-3
 unfolding on-touch-if-room on-touch
 returns-3 c =
     let ts = c .before .before .before .args .ts in
-    let l : length (ts .places) ≡ 10 = simp length-map at (c .before .before .before .good .0 .1 .1 .1 .0 .1 .0 .1) in
-    let b : length (take (ts .count) (ts .places)) ≤ 10 = omega (arith, length-take (ts .count) (ts .places)) in
+    let l : length (ts .places) ≡ max-touches = simp length-map at (c .before .before .before .good .0 .1 .1 .1 .0 .1 .0 .1) in
+    let b : length (take (ts .count) (ts .places)) ≤ max-touches = omega (arith, length-take (ts .count) (ts .places)) in
     rw (c .before .enum-told3 .given .1, c .remove .ensures) (sym (fits _ _ (omega (arith, length-remove (c .before .before .before .args .t .id) (take (ts .count) (ts .places))))))
 
 returns-4 : tie.Need-returns-4
 unfolding on-touch-if-room on-touch
 returns-4 c =
     let ts = c .before .before .before .args .ts in
-    let l : length (ts .places) ≡ 10 = simp length-map at (c .before .before .before .good .0 .1 .1 .1 .0 .1 .0 .1) in
-    let b : length (take (ts .count) (ts .places)) ≤ 10 = omega (arith, length-take (ts .count) (ts .places)) in
+    let l : length (ts .places) ≡ max-touches = simp length-map at (c .before .before .before .good .0 .1 .1 .1 .0 .1 .0 .1) in
+    let b : length (take (ts .count) (ts .places)) ≤ max-touches = omega (arith, length-take (ts .count) (ts .places)) in
     rw (c .before .enum-told4 .given .1, c .remove2 .ensures) (sym (fits _ _ (omega (arith, length-remove (c .before .before .before .args .t .id) (take (ts .count) (ts .places))))))
 
 pub on-touch-spec : {M : Type 1} → statement M

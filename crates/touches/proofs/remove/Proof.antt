@@ -5,6 +5,7 @@ use borrow.Author.Needs.{needs}
 use native.Mathlib.Omega.{arith}
 use lib.ListN.{length, length-map, length-set}
 use mathlib.Core.Logic.{⊎-elim}
+use Rattle.data.specs.Limits.{max-touches}
 use Rattle.touches.proofs.Places.{first-of, first-le}
 use Rattle.touches.proofs.Removal.{kept as held, kept-start, keeps, drops, kept-end}
 use Rattle.touches.proofs.remove.Statement.{statement}
@@ -12,7 +13,7 @@ use Rattle.touches.proofs.remove.Tie as tie
 
 abbrev Inv-loop : tie.InvT-loop
 Inv-loop id n s₀ kept₀ i₀ s kept i =
-    (kept ≤ i) × (i ≤ n) × (n ≤ 10) × (length (s .places) ≡ 10) × (held id n (s .places) kept i ≡ held id n (s₀ .places) 0 0)
+    (kept ≤ i) × (i ≤ n) × (n ≤ max-touches) × (length (s .places) ≡ max-touches) × (held id n (s .places) kept i ≡ held id n (s₀ .places) 0 0)
 
 abbrev μ-loop : tie.MeasureT-loop
 μ-loop id n s₀ kept₀ i₀ s kept i = n - i
@@ -23,7 +24,7 @@ len-requires c κs = search needs
 loop-holds : tie.Need-loop-holds Inv-loop μ-loop
 loop-holds c =
     let ts = c .before .args .ts in
-    let l : length (ts .places) ≡ 10 = simp length-map at (c .before .good .0 .1 .1 .1 .0 .1 .0 .1) in
+    let l : length (ts .places) ≡ max-touches = simp length-map at (c .before .good .0 .1 .1 .1 .0 .1 .0 .1) in
     let e = c .len .ensures in
     (omega arith, omega arith, omega (arith, first-le (ts .count) (ts .places)), l, refl)
 
