@@ -6,6 +6,7 @@ use native.Mathlib.Omega.{arith}
 use borrow.Author.Needs.{needs}
 use borrow.Author.Tests.{not-true, not-false}
 use lib.ListN.{length}
+use Rattle.data.specs.Limits.{max-hits}
 use Rattle.model.specs.Interact.{hits-refusal}
 use Rattle.hit_lists.specs.Hits.{hits-of}
 use Rattle.hit_refusals.specs.Refusals.{refusal-of}
@@ -18,7 +19,7 @@ use Rattle.hit_refusals.proofs.hits_refusal.Lts as lts
 use Rattle.hit_refusals.proofs.sense_ok.Reads as sense-ok-reads
 
 abbrev Inv-loop : tie.InvT-loop
-Inv-loop words n i₀ i = (n ≡ length words / 2) × (i ≤ n) × (i ≤ 64) × (hits-refusal (64 - i) i (rest words i) ≡ hits-refusal 64 0 (hits-of words))
+Inv-loop words n i₀ i = (n ≡ length words / 2) × (i ≤ n) × (i ≤ max-hits) × (hits-refusal (max-hits - i) i (rest words i) ≡ hits-refusal max-hits 0 (hits-of words))
 
 abbrev μ-loop : tie.MeasureT-loop
 μ-loop words n i₀ i = n - i
@@ -30,7 +31,7 @@ returns : tie.Need-returns Inv-loop μ-loop
 unfolding refusal-of
 returns c =
     let o = c .before .before in
-    sym (too-many _ 64 _ (c .before .loop-test .taken) (omega arith)) ∙ o .loop .inv .3
+    sym (too-many _ max-hits _ (c .before .loop-test .taken) (omega arith)) ∙ o .loop .inv .3
 
 mul-sense-ok : tie.Need-mul-sense-ok Inv-loop μ-loop
 mul-sense-ok c = search needs
@@ -51,7 +52,7 @@ returns-2 : tie.Need-returns-2 Inv-loop μ-loop
 unfolding refusal-of
 returns-2 c =
     let o = c .before .before .before .before .before in
-    let l : o .loop .i < 64 = omega arith in
+    let l : o .loop .i < max-hits = omega arith in
     sym (malformed _ _ _ (c .before .before .before .before .loop-test .taken) l (sym (c .before .sense-ok .ensures) ∙ not-true (c .before .sense-ok .result) (c .if2 .taken)))
     ∙ o .loop .inv .3
 
@@ -69,7 +70,7 @@ unfolding refusal-of
 returns-3 c =
     let s = c .before .before .before in
     let o = s .before .before .before .before in
-    let l : o .loop .i < 64 = omega arith in
+    let l : o .loop .i < max-hits = omega arith in
     sym (zero-id _ _ _ (s .before .before .before .loop-test .taken) l (sym (s .sense-ok .ensures) ∙ not-false (s .sense-ok .result) (c .before .before .if2 .left)) (c .if3 .taken))
     ∙ o .loop .inv .3
 
@@ -83,7 +84,7 @@ loop-again : tie.Need-loop-again Inv-loop μ-loop
 loop-again c =
     let s = c .before .before .before in
     let o = s .before .before .before .before in
-    let l : o .loop .i < 64 = omega arith in (
+    let l : o .loop .i < max-hits = omega arith in (
       refl,
       omega arith,
       omega arith,
