@@ -5,6 +5,7 @@ use mathlib.Core.List.{List, [], _∷_}
 use Prim.Native.Nat.{ℕ, _+_}
 use lib.ListN.{length}
 use lib.Ieee.{Float}
+use Rattle.data.specs.Kinds.{moved-kind, motion-kind, button-kind, gone-kind}
 use Rattle.emath.specs.History.{Sample}
 use Rattle.emath_history.specs.declared.history.History.{History}
 use Rattle.emath_history.specs.Ring.{view, free}
@@ -23,7 +24,7 @@ use Rattle.event_loop.proofs.Loops.{loop, own-law, any-loop, own-any-law}
 use Rattle.event_loop.proofs.OfKind.{not-read}
 
 -- ---- the pointer's place: kinds 3 to 6; whether it is gone: kind 6
-pub place-idle : (e : Event) (s : Place) → (kind-number e ≡ 3 → ⊥) → (kind-number e ≡ 4 → ⊥) → (kind-number e ≡ 5 → ⊥) → (kind-number e ≡ 6 → ⊥) → place-event e s ≡ s
+pub place-idle : (e : Event) (s : Place) → (kind-number e ≡ moved-kind → ⊥) → (kind-number e ≡ motion-kind → ⊥) → (kind-number e ≡ button-kind → ⊥) → (kind-number e ≡ gone-kind → ⊥) → place-event e s ≡ s
 unfolding place-event
 place-idle (Key k b) s h3 h4 h5 h6 = refl
 place-idle (ModifiersChanged m) s h3 h4 h5 h6 = refl
@@ -46,7 +47,7 @@ pub place-own : (es : List Event) (s : Place) → place-events (own pointer-list
 unfolding place-events
 place-own es s =
     own-law place-events place-event (λ s. refl) (λ e es s. refl) pointer-list
-    (λ e s h. place-idle e s (not-read pointer-list e 3 h refl) (not-read pointer-list e 4 h refl) (not-read pointer-list e 5 h refl) (not-read pointer-list e 6 h refl)) es s
+    (λ e s h. place-idle e s (not-read pointer-list e moved-kind h refl) (not-read pointer-list e motion-kind h refl) (not-read pointer-list e button-kind h refl) (not-read pointer-list e gone-kind h refl)) es s
 
 -- ---- whether the pointer is gone: kind 6
 pub gone-first : (e : Event) (es : List Event) → clear-history-after (e ∷ es) ≡ (clear-history-after (e ∷ []) || clear-history-after es)
@@ -64,7 +65,7 @@ gone-first (MouseWheel u v ph g m) es = refl
 gone-first (WindowFocused b) es = refl
 gone-first Other es = refl
 
-pub gone-idle : (e : Event) → (kind-number e ≡ 6 → ⊥) → clear-history-after (e ∷ []) ≡ false
+pub gone-idle : (e : Event) → (kind-number e ≡ gone-kind → ⊥) → clear-history-after (e ∷ []) ≡ false
 unfolding clear-history-after
 gone-idle (Key k b) h = refl
 gone-idle (ModifiersChanged m) h = refl
@@ -85,7 +86,7 @@ gone-loop = any-loop clear-history-after refl gone-first
 
 pub gone-own : (es : List Event) → clear-history-after (own pointer-list es) ≡ clear-history-after es
 unfolding clear-history-after
-gone-own es = own-any-law clear-history-after refl gone-first pointer-list (λ e h. gone-idle e (not-read pointer-list e 6 h refl)) es
+gone-own es = own-any-law clear-history-after refl gone-first pointer-list (λ e h. gone-idle e (not-read pointer-list e gone-kind h refl)) es
 
 -- ---- its part of a pass, of its own events alone
 pub place-pass-own : (time : Float) (es : List Event) (p : Place) → place-pass time (own pointer-list es) p ≡ place-pass time es p

@@ -1,5 +1,9 @@
 // Where the pointer is after a pass's events: its loop along the feed.
 use data::event::Event;
+use data::kinds::BUTTON_KIND;
+use data::kinds::GONE_KIND;
+use data::kinds::MOTION_KIND;
+use data::kinds::MOVED_KIND;
 use emath_history::history::MAX_LEN;
 use emath_history::history::PARTS;
 use event_loop::LISTED;
@@ -24,30 +28,30 @@ ghost use Rattle.event_loop.specs.Lists.{listed-events, pointer-list};
 ghost use Rattle.pointer_place.specs.View.{Placed};
 ghost use Rattle.place_loop.specs.Passed.{PlacePassed};
 
-// Kinds 3 to 6 are read, and each goes straight to its step.
+// Moves, motion, buttons and the pointer gone are read, and each goes straight to its step.
 fn place_at(p: Place, feed: &[u32], at: usize) -> Place
     ensures { λ r. ⌜ Placed (place-event (shaped-at (now (feed .entry)) at)) p r ⌝ }
 {
     match kind_at(feed, at) {
-        3 => {
+        MOVED_KIND => {
             let Event::PointerMoved(pos) = moved_at(feed, at) else {
                 return p;
             };
             moved_place(p, pos)
         }
-        4 => {
+        MOTION_KIND => {
             let Event::MouseMoved(delta) = motion_at(feed, at) else {
                 return p;
             };
             motion_place(p, delta)
         }
-        5 => {
+        BUTTON_KIND => {
             let Event::PointerButton(pos, _, pressed, _) = button_at(feed, at) else {
                 return p;
             };
             button_place(p, pos, pressed)
         }
-        6 => {
+        GONE_KIND => {
             let Event::PointerGone = event_readers::readers::gone_at(feed, at) else {
                 return p;
             };
@@ -74,7 +78,7 @@ fn place_events(p: Place, feed: &[u32], lists: &[u16; LISTED], count: u8) -> Pla
 fn gone_at(feed: &[u32], at: usize) -> bool
     ensures { λ r. ⌜ r ≡ clear-history-after (shaped-at (now (feed .entry)) at ∷ []) ⌝ }
 {
-    if kind_at(feed, at) == 6 {
+    if kind_at(feed, at) == GONE_KIND {
         let Event::PointerGone = event_readers::readers::gone_at(feed, at) else {
             return false;
         };

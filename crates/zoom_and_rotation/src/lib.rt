@@ -1,5 +1,7 @@
 // Zoom and rotation of egui's input_state/mod.rs: the product of the pass's zoom factors and the sum of its radians.
 use data::event::Event;
+use data::kinds::ROTATE_KIND;
+use data::kinds::ZOOM_KIND;
 use event_loop::LISTED;
 use event_loop::SUMS;
 use event_loop::kind_at;
@@ -10,11 +12,11 @@ ghost use Rattle.model.specs.Pass.{zoom-event, zoom-of, rotation-event, rotatio
 ghost use Rattle.event_loop.specs.Shaped.{shaped-at};
 ghost use Rattle.event_loop.specs.Lists.{listed-events, sums-list};
 
-// Kind 7 is read.
+// Zoom events are read.
 fn zoom_at(factor: f32, feed: &[u32], at: usize) -> f32
     ensures { λ r. ⌜ r ≡ zoom-event (shaped-at (now (feed .entry)) at) factor ⌝ }
 {
-    if kind_at(feed, at) == 7 {
+    if kind_at(feed, at) == ZOOM_KIND {
         let e = event_readers::readers::zoom_at(feed, at);
         let Event::Zoom(x) = e else {
             return factor;
@@ -37,11 +39,11 @@ pub fn zoom_of(feed: &[u32], lists: &[u16; LISTED], count: u8) -> f32
     factor
 }
 
-// Kind 8 is read.
+// Rotate events are read.
 fn rotation_at(radians: f32, feed: &[u32], at: usize) -> f32
     ensures { λ r. ⌜ r ≡ rotation-event (shaped-at (now (feed .entry)) at) radians ⌝ }
 {
-    if kind_at(feed, at) == 8 {
+    if kind_at(feed, at) == ROTATE_KIND {
         let e = event_readers::readers::rotate_at(feed, at);
         let Event::Rotate(x) = e else {
             return radians;

@@ -2,6 +2,7 @@
 use mathlib.Core.Path.{sym, _∙_}
 use native.Mathlib.Omega.{arith}
 use borrow.Author.Needs.{needs}
+use Rattle.data.specs.Kinds.{gone-kind}
 use Rattle.model.specs.Pointer.{clear-history-after}
 use Rattle.event_loop.proofs.OfKind.{not-of-kind, is-other}
 use Rattle.place_loop.proofs.Loops.{gone-idle}
@@ -29,7 +30,7 @@ returns-2 c =
     rw (← c .before .before .gone-at .ensures, c .enum-told .given .1)
 
 returns-3 : tie.Need-returns-3
-returns-3 c = sym (gone-idle _ (not-of-kind _ _ 6 (λ e. c .if1 .left (c .before .kind-at .ensures ∙ e)) (λ e. omega arith)))
+returns-3 c = sym (gone-idle _ (not-of-kind _ _ gone-kind (λ e. c .if1 .left (c .before .kind-at .ensures ∙ e)) (λ e. omega arith)))
 
 pub gone-at-spec : {M : Type 1} → statement M
 gone-at-spec =

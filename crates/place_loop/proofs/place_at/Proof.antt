@@ -2,6 +2,7 @@
 use mathlib.Core.Path.{refl, sym, _∙_}
 use native.Mathlib.Omega.{arith}
 use borrow.Author.Needs.{needs}
+use Rattle.data.specs.Kinds.{moved-kind, motion-kind, button-kind, gone-kind}
 use Rattle.model.specs.Pointer.{place-event}
 use Rattle.event_loop.proofs.OfKind.{not-of-kind, is-other}
 use Rattle.place_loop.proofs.Loops.{place-idle}
@@ -100,10 +101,10 @@ returns-9 c =
           λ times positions.
           sym
           (place-idle _ _
-          (not-of-kind _ _ 3 (λ e. r .0 .0 .0 .1 (k ∙ e)) (λ e. omega arith))
-          (not-of-kind _ _ 4 (λ e. r .0 .0 .1 (k ∙ e)) (λ e. omega arith))
-          (not-of-kind _ _ 5 (λ e. r .0 .1 (k ∙ e)) (λ e. omega arith))
-          (not-of-kind _ _ 6 (λ e. r .1 (k ∙ e)) (λ e. omega arith)));
+          (not-of-kind _ _ moved-kind (λ e. r .0 .0 .0 .1 (k ∙ e)) (λ e. omega arith))
+          (not-of-kind _ _ motion-kind (λ e. r .0 .0 .1 (k ∙ e)) (λ e. omega arith))
+          (not-of-kind _ _ button-kind (λ e. r .0 .1 (k ∙ e)) (λ e. omega arith))
+          (not-of-kind _ _ gone-kind (λ e. r .1 (k ∙ e)) (λ e. omega arith)));
       start = refl;
     }
 

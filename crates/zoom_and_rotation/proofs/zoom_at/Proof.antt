@@ -1,5 +1,6 @@
 -- `zoom_and_rotation::zoom_at` meets its contract: each way to a return is the case of the definition that its tests pick. Assumes nothing.
 use native.Mathlib.Omega.{arith}
+use Rattle.data.specs.Kinds.{zoom-kind}
 use Rattle.model.specs.Pass.{zoom-event}
 use Rattle.zoom_and_rotation.proofs.Idle.{zoom-idle}
 use Rattle.event_loop.proofs.OfKind.{not-of-kind, is-other}
@@ -30,7 +31,7 @@ returns-2 c =
     rw (← r .zoom-at .ensures, c .before .e .given .1)
 
 returns-3 : tie.Need-returns-3
-returns-3 c = sym (zoom-idle _ _ (not-of-kind _ _ 7 (λ e. c .if1 .left (c .before .kind-at .ensures ∙ e)) (λ e. omega arith)))
+returns-3 c = sym (zoom-idle _ _ (not-of-kind _ _ zoom-kind (λ e. c .if1 .left (c .before .kind-at .ensures ∙ e)) (λ e. omega arith)))
 
 pub zoom-at-spec : {M : Type 1} → statement M
 zoom-at-spec =
