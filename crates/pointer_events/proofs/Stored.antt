@@ -161,7 +161,7 @@ module _ (cs : List ℕ) (ps : List Float) (n : ℕ) (x : Entry) where
         let small : length (events-from cs ps 0 n ++ (e ∷ [])) ≤ max-events = simp (length-append, from-length) (omega arith) in
         rw (a, b, take-all max-events (events-from cs ps 0 n ++ (e ∷ [])) small, more cs' ps' 0 n, before-same 0 n (omega arith), z, entry-same, q)
 
--- where there are 64 already
+-- where there are `max-events` already
 pub full : (cs : List ℕ) (ps : List Float) (n : ℕ) (e : PointerEvent) → max-events ≤ n → events cs ps n ≡ take max-events (events cs ps n ++ (e ∷ []))
 full cs ps n e h =
     let l : max-events ≤ length (events cs ps n) = omega (arith, events-length cs ps n) in

@@ -50,7 +50,7 @@ unfoldable pub events-from : List ℕ → List Float → ℕ → ℕ → List Po
 events-from codes positions i zero = []
 events-from codes positions i (suc n) = event-of (entry-at codes positions i) ∷ events-from codes positions (suc i) n
 
--- a count over 64 counts as 64
+-- a count over `max-events` counts as that
 abbrev pub counted : ℕ → ℕ
 counted n = min n max-events
 
@@ -87,7 +87,7 @@ unfoldable pub positions-of : List PointerEvent → List Float
 positions-of [] = []
 positions-of (e ∷ es) = entry-of e .pos .x ∷ entry-of e .pos .y ∷ positions-of es
 
--- One event more; where there are 64, all stays. Only the event's own places are written.
+-- One event more; where there are `max-events`, all stays. Only the event's own places are written.
 pub record Pushed (e : PointerEvent) (n : ℕ) (codes : List ℕ) (positions : List Float) (r : ℕ) (codes' : List ℕ) (positions' : List Float) : Type 0 where
   pub result : events codes' positions' r ≡ take max-events (events codes positions n ++ (e ∷ []))
   pub count : r ≡ cond (ltb n max-events) (n + 1) n

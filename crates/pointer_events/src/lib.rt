@@ -1,4 +1,4 @@
-// The pass's pointer events, in order. The caller lends the places for 64 of them: specs/Events.antt says what stands where.
+// The pass's pointer events, in order. The caller lends the places for `MAX_EVENTS` of them: specs/Events.antt says what stands where.
 use data::limits::MAX_EVENTS;
 use data::modifiers::Modifiers;
 use data::pointer::Click;
@@ -195,7 +195,7 @@ fn set_position(positions: &mut [f32], i: usize, pos: Pos2)
     positions[i * 2 + 1] = pos.y;
 }
 
-// One event more, and the new count; where there are 64 all stays.
+// One event more, and the new count; where there are `MAX_EVENTS` all stays.
 pub fn push(
     codes: &mut [u32; CODES],
     positions: &mut [f32; PLACES],

@@ -5,6 +5,7 @@ use mathlib.Core.List.{List}
 use lib.Ieee.{Float}
 use borrow.Author.Needs.{needs}
 use native.Mathlib.Omega.{arith}
+use Rattle.data.specs.Limits.{max-events}
 use Rattle.model.specs.Pointer.{any}
 use Rattle.pointer_events.specs.Events.{asks, counted, entry-at, events}
 use Rattle.pointer_events.proofs.Stored.{rest, found, passed, none-left, whole}
@@ -12,7 +13,7 @@ use Rattle.pointer_events.proofs.any.Statement.{statement}
 use Rattle.pointer_events.proofs.any.Tie as tie
 
 abbrev Inv-loop : tie.InvT-loop
-Inv-loop codes count sought n i₀ i = (i ≤ n) × (n ≤ 64) × ((ps : List Float) → rest (asks sought) codes ps n i ≡ any (asks sought) (events codes ps count))
+Inv-loop codes count sought n i₀ i = (i ≤ n) × (n ≤ max-events) × ((ps : List Float) → rest (asks sought) codes ps n i ≡ any (asks sought) (events codes ps count))
 
 abbrev μ-loop : tie.MeasureT-loop
 μ-loop codes count sought n i₀ i = n - i
