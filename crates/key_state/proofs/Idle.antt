@@ -1,6 +1,7 @@
 -- Events of the kinds that the keys do not read leave them as they are; and their loop along their list. Assumes nothing.
 use mathlib.Core.Path.{_≡_, refl}
 use mathlib.Core.List.{List}
+use Rattle.data.specs.Kinds.{key-kind, modifiers-kind, focus-kind}
 use Rattle.data.specs.Numbers.{kind-number}
 use Rattle.model.specs.Types.{Event, Key, ModifiersChanged, PointerMoved, MouseMoved, Button, PointerGone, Zoom, Rotate, Touch, MouseWheel, WindowFocused, Other}
 use Rattle.model.specs.Pass.{Keys, key-event, key-events}
@@ -9,7 +10,7 @@ use Rattle.event_loop.specs.Loop.{Loop}
 use Rattle.event_loop.proofs.Loops.{loop, own-law}
 use Rattle.event_loop.proofs.OfKind.{not-read}
 
-pub key-idle : (e : Event) (s : Keys) → (kind-number e ≡ 1 → ⊥) → (kind-number e ≡ 2 → ⊥) → (kind-number e ≡ 11 → ⊥) → key-event e s ≡ s
+pub key-idle : (e : Event) (s : Keys) → (kind-number e ≡ key-kind → ⊥) → (kind-number e ≡ modifiers-kind → ⊥) → (kind-number e ≡ focus-kind → ⊥) → key-event e s ≡ s
 unfolding key-event
 key-idle (Key k b) s h1 h2 h11 = absurd (h1 refl)
 key-idle (ModifiersChanged m) s h1 h2 h11 = absurd (h2 refl)
@@ -33,4 +34,4 @@ pub key-own : (es : List Event) (s : Keys) → key-events (own keys-list es) s �
 unfolding key-events
 key-own es s =
     own-law key-events key-event (λ s. refl) (λ e es s. refl) keys-list
-    (λ e s h. key-idle e s (not-read keys-list e 1 h refl) (not-read keys-list e 2 h refl) (not-read keys-list e 11 h refl)) es s
+    (λ e s h. key-idle e s (not-read keys-list e key-kind h refl) (not-read keys-list e modifiers-kind h refl) (not-read keys-list e focus-kind h refl)) es s

@@ -9,6 +9,7 @@ use lib.Ieee.Bits.{is-true}
 use lib.ListN.{getD, set, length, length-append, replicate, getD-replicate, List·getD-append}
 use lib.Seq.{getD-set-same, getD-set-other, getD-at, ext-getD}
 use borrow.Author.Tests.{eqb-true, eqb-false, ne-eqb, ltb-true, ltb-false, lt-ltb}
+use Rattle.data.specs.Limits.{key-count}
 use Rattle.feed.specs.Encode.{fields-ok}
 use Rattle.feed.specs.Split.{pieces, pieces-from}
 use Rattle.model.specs.Types.{Modifiers, Event, Key, ModifiersChanged, PointerMoved, MouseMoved, Button, PointerGone, Zoom, Rotate, Touch, MouseWheel, WindowFocused, Other}
@@ -27,29 +28,29 @@ pub alike : {f g : ℕ → Bool} {p q : ℕ → ℕ} (m : Modifiers) (b : Bool) 
 alike m b h k = ap₂ (λ (f : ℕ → Bool) (p : ℕ → ℕ). record { keys-down = f; modifiers = m; presses = p; feed-empty = b }) (fun-ext h) (fun-ext k)
 
 -- one press more
-counted : (ps : List ℕ) (k n : ℕ) → k < 145 → k < length ps → n ≡ getD ps k 0 + 1 → (j : ℕ) → presses-of (set ps k n) j ≡ count-press k (presses-of ps) j
+counted : (ps : List ℕ) (k n : ℕ) → k < key-count → k < length ps → n ≡ getD ps k 0 + 1 → (j : ℕ) → presses-of (set ps k n) j ≡ count-press k (presses-of ps) j
 unfolding count-press
 counted ps k n small here e j = go (eqb j k) refl
   where
     go : (b : Bool) → eqb j k ≡ b → presses-of (set ps k n) j ≡ cond b 1 0 + presses-of ps j
     go true t =
         let q : j ≡ k = eqb-true _ _ t in
-        rw (q, lt-ltb k 145 small, getD-set-same ps k n 0 here, e) (omega arith)
+        rw (q, lt-ltb k key-count small, getD-set-same ps k n 0 here, e) (omega arith)
     go false t = rw (getD-set-other ps k j n 0 (eqb-false _ _ t)) (omega arith)
 
-module _ (ps : List ℕ) (k : Keys) (down : Set256) (place : ℕ) (pressed : Bool) (small : place < 145)
+module _ (ps : List ℕ) (k : Keys) (down : Set256) (place : ℕ) (pressed : Bool) (small : place < key-count)
     (same : (j : ℕ) → has down j ≡ with-member place pressed (k .down) j) where
   abbrev new : Keys
   new = record { down = down; modifiers = k .modifiers; «feed_empty» = k .«feed_empty» }
 
   members : (j : ℕ) → down-of down j ≡ set-key place pressed (down-of (k .down)) j
   unfolding with-member set-key
-  members j = rw (same j, lt-ltb place 256 (omega arith)) (go (eqb j place) refl (ltb j 145) refl)
+  members j = rw (same j, lt-ltb place 256 (omega arith)) (go (eqb j place) refl (ltb j key-count) refl)
     where
-      go : (b : Bool) → eqb j place ≡ b → (c : Bool) → ltb j 145 ≡ c → cond c (cond b pressed (has (k .down) j)) false ≡ cond b pressed (cond c (has (k .down) j) false)
+      go : (b : Bool) → eqb j place ≡ b → (c : Bool) → ltb j key-count ≡ c → cond c (cond b pressed (has (k .down) j)) false ≡ cond b pressed (cond c (has (k .down) j) false)
       go true t c u =
           let q : j ≡ place = eqb-true _ _ t in
-          rw (sym u, q, lt-ltb place 145 small)
+          rw (sym u, q, lt-ltb place key-count small)
       go false t c u = refl
 
   pub released : pressed ≡ false → keys ps new ≡ key-event (Key place pressed) (keys ps k)
@@ -60,11 +61,11 @@ module _ (ps : List ℕ) (k : Keys) (down : Set256) (place : ℕ) (pressed : Boo
       keys (set ps place (one-more (getD ps place 0))) new ≡ key-event (Key place pressed) (keys ps k)
   unfolding key-event one-more
   is-pressed here room e =
-      let more : one-more (getD ps place 0) ≡ getD ps place 0 + 1 = rw (lt-ltb (getD ps place 0) 255 (rw (lt-ltb place 145 small) at room)) in
+      let more : one-more (getD ps place 0) ≡ getD ps place 0 + 1 = rw (lt-ltb (getD ps place 0) 255 (rw (lt-ltb place key-count small) at room)) in
       rw e (alike (k .modifiers) (k .«feed_empty») (rw e at members) (counted ps place (one-more (getD ps place 0)) small here more))
 
 none-down : (down : Set256) → ((j : ℕ) → has down j ≡ false) → (j : ℕ) → down-of down j ≡ false
-none-down down h j = rw (h j) (go (ltb j 145))
+none-down down h j = rw (h j) (go (ltb j key-count))
   where
     go : (b : Bool) → cond b false false ≡ false
     go true = refl
@@ -82,11 +83,11 @@ unfolding fresh no-keys no-presses
 fresh-is ps down m zeros h none = rw none (alike no-modifiers true (none-down down h) zeros)
 
 -- ---- a pass
-pub cleared : (j : ℕ) → presses-of (replicate 145 0) j ≡ 0
-cleared j = go (ltb j 145) refl
+pub cleared : (j : ℕ) → presses-of (replicate key-count 0) j ≡ 0
+cleared j = go (ltb j key-count) refl
   where
-    go : (b : Bool) → ltb j 145 ≡ b → _≡_ {A = ℕ} (cond b (getD (replicate 145 0) j 0) 0) 0
-    go true t = getD-replicate {A = ℕ} 145 j 0 0 (ltb-true _ _ t)
+    go : (b : Bool) → ltb j key-count ≡ b → _≡_ {A = ℕ} (cond b (getD (replicate key-count 0) j 0) 0) 0
+    go true t = getD-replicate {A = ℕ} key-count j 0 0 (ltb-true _ _ t)
     go false t = refl
 
 pub no-more : (n : ℕ) → n ≡ 0 → n ≤ 0
@@ -98,9 +99,9 @@ empty-shaped [] = refl
 empty-shaped (w ∷ ws) = ne-eqb (suc (length ws)) 0 (λ (q : suc (length ws) ≡ 0). omega arith)
 
 -- a key that a feed's event has is one of egui's
-pub named-below : (place : ℕ) (pressed : Bool) → T (fields-ok (Key place pressed)) → place < 145
+pub named-below : (place : ℕ) (pressed : Bool) → T (fields-ok (Key place pressed)) → place < key-count
 unfolding fields-ok
-named-below place pressed f = ltb-true place 145 (is-true (ltb place 145) f)
+named-below place pressed f = ltb-true place key-count (is-true (ltb place key-count) f)
 
 -- ---- the places of the presses
 numbers-length : (f : ℕ → ℕ) (n : ℕ) → length (numbers-of f n) ≡ n
@@ -121,13 +122,13 @@ number-at f (suc n) j h = go (ltb j n) refl (λ l. number-at f n j l)
         let e : j ≡ n = omega (arith, ltb-false j n t) in
         rw e (getD-at (numbers-of f n) (f n) [] 0 n (numbers-length f n))
 
--- 145 places that hold the presses of each key
-pub all-numbers : (ps : List ℕ) (f : ℕ → ℕ) → length ps ≡ 145 → ((j : ℕ) → presses-of ps j ≡ f j) → ps ≡ numbers-of f 145
+-- places that hold the presses of each key
+pub all-numbers : (ps : List ℕ) (f : ℕ → ℕ) → length ps ≡ key-count → ((j : ℕ) → presses-of ps j ≡ f j) → ps ≡ numbers-of f key-count
 all-numbers ps f long same =
-    ext-getD 0 ps (numbers-of f 145) (long ∙ sym (numbers-length f 145))
+    ext-getD 0 ps (numbers-of f key-count) (long ∙ sym (numbers-length f key-count))
     (λ j h.
-    let small : j < 145 = omega arith in
-    rw (lt-ltb j 145 small) at (same j) ∙ sym (number-at f 145 j small))
+    let small : j < key-count = omega arith in
+    rw (lt-ltb j key-count small) at (same j) ∙ sym (number-at f key-count j small))
 
 -- before the first event
 pub start : (ws ps qs : List ℕ) (k : Keys) → ((j : ℕ) → presses-of qs j ≡ 0) →

@@ -1,6 +1,9 @@
 // The keys that are down, the modifiers, and the presses of the pass. The caller lends a place for each key's presses.
 use crate::bits::Set256;
 use data::event::Event;
+use data::kinds::FOCUS_KIND;
+use data::kinds::KEY_KIND;
+use data::kinds::MODIFIERS_KIND;
 use data::limits::KEY_COUNT;
 use data::modifiers::Modifiers;
 use event_loop::KEYS;
@@ -22,6 +25,9 @@ ghost use Rattle.event_loop.specs.Lists.{listed-events, keys-list};
 ghost use Rattle.key_state.specs.View.{presses-of, one-more, keys, Room, Stepped, Passed};
 ghost use Rattle.key_state.specs.declared.keys.Keys.{Keys};
 
+// A place for each key's presses.
+pub const PRESSES: usize = KEY_COUNT as usize;
+
 pub struct Keys {
     pub down: Set256,
     pub modifiers: Modifiers,
@@ -42,7 +48,7 @@ pub fn fresh() -> Keys
     }
 }
 
-// One press more. A byte is enough: a pass has at most 64 events.
+// One press more. A byte is enough: a pass has at most `MAX_EVENTS` events.
 fn count_press(presses: &mut [u8], place: usize)
     requires { ⌜ place < length (now presses) ⌝ }
     ensures { λ _. ⌜ now (presses .exit) ≡ set (now (presses .entry)) place (one-more (getD (now (presses .entry)) place 0)) ⌝ }
@@ -56,7 +62,7 @@ fn count_press(presses: &mut [u8], place: usize)
 }
 
 // A key that egui names: one that a feed's event has.
-fn key(k: Keys, presses: &mut [u8; 145], place: u32, pressed: bool) -> Keys
+fn key(k: Keys, presses: &mut [u8; PRESSES], place: u32, pressed: bool) -> Keys
     requires { ⌜ place < key-count ⌝ }
     requires { ⌜ Room (now presses) ⌝ }
     ensures { λ r. ⌜ Stepped (Key place pressed) (now (presses .entry)) k (now (presses .exit)) r ⌝ }
@@ -86,27 +92,27 @@ fn focus(k: Keys, focused: bool) -> Keys
     }
 }
 
-// Kinds 1, 2 and 11 are read, and each goes straight to its step.
-fn key_at(k: Keys, presses: &mut [u8; 145], feed: &[u32], at: usize) -> Keys
+// Keys, modifiers and the focus are read, and each goes straight to its step.
+fn key_at(k: Keys, presses: &mut [u8; PRESSES], feed: &[u32], at: usize) -> Keys
     requires { ⌜ Room (now presses) ⌝ }
     ensures { λ r. ⌜ Stepped (shaped-at (now (feed .entry)) at) (now (presses .entry)) k (now (presses .exit)) r ⌝ }
 {
     let kind = kind_at(feed, at);
-    if kind == 1 {
+    if kind == KEY_KIND {
         let e = event_readers::readers::key_at(feed, at);
         let Event::Key(place, pressed) = e else {
             return k;
         };
         return key(k, presses, place, pressed);
     }
-    if kind == 2 {
+    if kind == MODIFIERS_KIND {
         let e = modifiers_at(feed, at);
         let Event::ModifiersChanged(modifiers) = e else {
             return k;
         };
         return Keys { modifiers, ..k };
     }
-    if kind == 11 {
+    if kind == FOCUS_KIND {
         let e = focus_at(feed, at);
         let Event::WindowFocused(focused) = e else {
             return k;
@@ -119,7 +125,7 @@ fn key_at(k: Keys, presses: &mut [u8; 145], feed: &[u32], at: usize) -> Keys
 // The keys' part of a pass, of the first `count` events in their list, which has no more than a pass may have.
 pub fn keys_pass(
     k: Keys,
-    presses: &mut [u8; 145],
+    presses: &mut [u8; PRESSES],
     feed: &[u32],
     lists: &[u16; LISTED],
     count: u8,
@@ -129,7 +135,7 @@ pub fn keys_pass(
         (now (feed .entry)) (listed-events (now (feed .entry)) (now (lists .entry)) keys-list count)
         (now (presses .entry)) k (now (presses .exit)) r ⌝ }
 {
-    *presses = [0; 145];
+    *presses = [0; PRESSES];
     let mut s = k;
     s.feed_empty = feed.len() == 0;
     let mut i: u8 = 0;
@@ -141,7 +147,7 @@ pub fn keys_pass(
     s
 }
 
-// Is it down? No number over 144 is.
+// Is it down? No number from `KEY_COUNT` on is.
 pub fn key_down(k: Keys, key: u32) -> bool
     ensures { λ r. ⌜ ((presses : List ℕ) → r ≡ keys presses k .keys-down key) ⌝ }
 {
@@ -153,7 +159,7 @@ pub fn key_down(k: Keys, key: u32) -> bool
 }
 
 // How often it was pressed in the pass.
-pub fn num_presses(presses: &[u8; 145], key: u32) -> u8
+pub fn num_presses(presses: &[u8; PRESSES], key: u32) -> u8
     ensures { λ r. ⌜ ((k : Keys) → r ≡ keys (now (presses .entry)) k .presses key) ⌝ }
 {
     if key < KEY_COUNT {
@@ -162,7 +168,7 @@ pub fn num_presses(presses: &[u8; 145], key: u32) -> u8
     0
 }
 
-pub fn key_pressed(presses: &[u8; 145], key: u32) -> bool
+pub fn key_pressed(presses: &[u8; PRESSES], key: u32) -> bool
     ensures { λ r. ⌜ ((k : Keys) → r ≡ ltb 0 (keys (now (presses .entry)) k .presses key)) ⌝ }
 {
     let n = num_presses(presses, key);

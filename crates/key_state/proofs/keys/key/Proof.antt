@@ -2,6 +2,7 @@
 use mathlib.Core.Path.{_≡_, refl}
 use lib.ListN.{length, length-set}
 use native.Mathlib.Omega.{arith}
+use Rattle.data.specs.Limits.{key-count}
 use Rattle.key_state.proofs.Steps.{is-pressed, released}
 use borrow.Author.Needs.{needs}
 use Rattle.key_state.proofs.keys.key.Statement.{statement}
@@ -16,7 +17,7 @@ count-press-requires c κs = search needs
 returns : tie.Need-returns
 returns c =
     let a = c .before .before .before .before .before .before .args in
-    let long : length (a .presses .now) ≡ 145 = search needs in
+    let long : length (a .presses .now) ≡ key-count = search needs in
     let counted = c .before .count-press .ensures in
     record {
       result =

@@ -1,4 +1,5 @@
 -- `keys::key_at` meets its contract. Assumes nothing.
+use Rattle.data.specs.Kinds.{key-kind, modifiers-kind, focus-kind}
 use Rattle.model.specs.Pass.{key-event}
 use Rattle.key_state.proofs.Idle.{key-idle}
 use Rattle.event_loop.proofs.OfKind.{not-of-kind, is-other, fields}
@@ -85,9 +86,9 @@ returns-7 c =
     let k = c .before .before .before .kind-at .ensures in
     let idle =
     key-idle _ _
-    (not-of-kind _ _ 1 (λ e. c .before .before .if1 .left (k ∙ e)) (λ e. omega arith))
-    (not-of-kind _ _ 2 (λ e. c .before .if2 .left (k ∙ e)) (λ e. omega arith))
-    (not-of-kind _ _ 11 (λ e. c .if3 .left (k ∙ e)) (λ e. omega arith)) in
+    (not-of-kind _ _ key-kind (λ e. c .before .before .if1 .left (k ∙ e)) (λ e. omega arith))
+    (not-of-kind _ _ modifiers-kind (λ e. c .before .if2 .left (k ∙ e)) (λ e. omega arith))
+    (not-of-kind _ _ focus-kind (λ e. c .if3 .left (k ∙ e)) (λ e. omega arith)) in
     record { result = sym idle; places = refl }
 
 pub key-at-spec : {M : Type 1} → statement M

@@ -4,6 +4,7 @@ use mathlib.Core.Path.{_≡_, refl, sym, ap, _∙_}
 use native.Mathlib.Omega.{arith}
 use borrow.Author.Needs.{needs}
 use lib.ListN.{length, replicate, length-replicate}
+use Rattle.data.specs.Limits.{key-count}
 use Rattle.model.specs.Pass.{is-empty, key-events}
 use Rattle.model.specs.Pass as Shown
 use Rattle.event_loop.specs.Shaped.{shaped-events}
@@ -59,11 +60,11 @@ returns c =
     let l = c .before in
     let a = l .before .before .before .args in
     let e : l .loop .i ≡ a .count = omega arith in
-    let begins = start (a .feed .now) (a .presses .now) (replicate 145 0) (a .k) cleared in
+    let begins = start (a .feed .now) (a .presses .now) (replicate key-count 0) (a .k) cleared in
     let es = listed-events (a .feed .now) (a .lists .now) keys-list (a .count) in
     let is : keys (l .loop .presses) (l .loop .s) ≡ key-events es (begun (is-empty (shaped-events (a .feed .now))) (keys (a .presses .now) (a .k))) =
     rw e at (l .loop .inv .2) ∙ rw begins in
-    let long : length (l .loop .presses) ≡ 145 = l .loop .inv .3 ∙ length-replicate {A = ℕ} 145 0 in
+    let long : length (l .loop .presses) ≡ key-count = l .loop .inv .3 ∙ length-replicate {A = ℕ} key-count 0 in
     record { result = is; presses-after = all-numbers (l .loop .presses) _ long (λ j. ap (λ (k : Shown.Keys). k .presses j) is) }
 
 pub keys-pass-spec : {M : Type 1} → statement M
