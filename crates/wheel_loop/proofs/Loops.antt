@@ -2,6 +2,7 @@
 use mathlib.Core.Path.{_≡_, refl}
 use mathlib.Core.List.{List}
 use lib.Ieee.{Float}
+use Rattle.data.specs.Kinds.{wheel-kind}
 use Rattle.data.specs.Numbers.{kind-number}
 use Rattle.model.specs.Types.{Rect, InputOptions, WheelState}
 use Rattle.model.specs.Types.{Event, Key, ModifiersChanged, PointerMoved, MouseMoved, Button, PointerGone, Zoom, Rotate, Touch, MouseWheel, WindowFocused, Other}
@@ -11,9 +12,9 @@ use Rattle.event_loop.specs.Loop.{Loop}
 use Rattle.event_loop.proofs.Loops.{loop, own-law}
 use Rattle.event_loop.proofs.OfKind.{not-read}
 
--- ---- the wheel: kind 10
+-- ---- the wheel
 module _ (r : Rect) (o : InputOptions) (time : Float) where
-  pub wheel-idle : (e : Event) (s : WheelState) → (kind-number e ≡ 10 → ⊥) → wheel-event r o time e s ≡ s
+  pub wheel-idle : (e : Event) (s : WheelState) → (kind-number e ≡ wheel-kind → ⊥) → wheel-event r o time e s ≡ s
   unfolding wheel-event
   wheel-idle (Key k b) s h10 = refl
   wheel-idle (ModifiersChanged m) s h10 = refl
@@ -34,7 +35,7 @@ module _ (r : Rect) (o : InputOptions) (time : Float) where
 
   pub wheel-own : (es : List Event) (s : WheelState) → wheel-events r o time (own wheel-list es) s ≡ wheel-events r o time es s
   unfolding wheel-events
-  wheel-own es s = own-law (wheel-events r o time) (wheel-event r o time) (λ s. refl) (λ e es s. refl) wheel-list (λ e s h. wheel-idle e s (not-read wheel-list e 10 h refl)) es s
+  wheel-own es s = own-law (wheel-events r o time) (wheel-event r o time) (λ s. refl) (λ e es s. refl) wheel-list (λ e s h. wheel-idle e s (not-read wheel-list e wheel-kind h refl)) es s
 
 -- ---- its part of a pass, of its own events alone
 pub wheel-pass-own : (r : Rect) (o : InputOptions) (time factor : Float) (es : List Event) (w : WheelState) → wheel-pass r o time factor (own wheel-list es) w ≡ wheel-pass r o time factor es w

@@ -1,5 +1,6 @@
 // The wheel's part of a pass: its loop along the feed.
 use data::event::Event;
+use data::kinds::WHEEL_KIND;
 use data::mouse_wheel::WheelState;
 use data::options::InputOptions;
 use emath::rect::Rect;
@@ -12,7 +13,7 @@ ghost use Rattle.model.specs.Wheel.{wheel-event, wheel-events, wheel-pass};
 ghost use Rattle.event_loop.specs.Shaped.{shaped-at};
 ghost use Rattle.event_loop.specs.Lists.{listed-events, wheel-list};
 
-// Kind 10 is read, and the wheel is lent for its step.
+// Wheel events are read, and the wheel is lent for its step.
 fn wheel_at(
     w: WheelState,
     viewport_rect: Rect,
@@ -23,7 +24,7 @@ fn wheel_at(
 ) -> WheelState
     ensures { λ r. ⌜ r ≡ wheel-event «viewport_rect» options time (shaped-at (now (feed .entry)) at) w ⌝ }
 {
-    if kind_at(feed, at) == 10 {
+    if kind_at(feed, at) == WHEEL_KIND {
         let e = event_readers::readers::wheel_at(feed, at);
         let Event::MouseWheel(unit, delta, phase, source, modifiers) = e else {
             return w;

@@ -2,6 +2,7 @@
 use mathlib.Core.Path.{sym, _∙_}
 use native.Mathlib.Omega.{arith}
 use borrow.Author.Needs.{needs}
+use Rattle.data.specs.Kinds.{wheel-kind}
 use Rattle.model.specs.Wheel.{wheel-event}
 use Rattle.event_loop.proofs.OfKind.{not-of-kind, is-other}
 use Rattle.wheel_loop.proofs.Loops.{wheel-idle}
@@ -33,7 +34,7 @@ returns-2 c =
     rw (← e .before .before .wheel-at .ensures, e .e .given .1) (c .stepped .ensures)
 
 returns-3 : tie.Need-returns-3
-returns-3 c = sym (wheel-idle _ _ _ _ _ (not-of-kind _ _ 10 (λ e. c .if1 .left (c .before .kind-at .ensures ∙ e)) (λ e. omega arith)))
+returns-3 c = sym (wheel-idle _ _ _ _ _ (not-of-kind _ _ wheel-kind (λ e. c .if1 .left (c .before .kind-at .ensures ∙ e)) (λ e. omega arith)))
 
 pub wheel-at-spec : {M : Type 1} → statement M
 wheel-at-spec =
