@@ -16,7 +16,7 @@ use Rattle.pointer_state.specs.declared.press.Press.{Press}
 abbrev pub press : List ℕ → List Float → Press → Pointer.Press
 press codes positions s = record { held = held codes positions (s .held); past = past (s .past) }
 
--- the pass's events end at 64
+-- the pass's events end at `max-events`
 abbrev pub capped : Pointer.Press → Pointer.Press
 capped s =
     record {
@@ -37,9 +37,9 @@ added s t = drop (length (s .held .pointer-events)) (t .held .pointer-events)
 -- An event's effect, for every state.
 pub record Stepped (o : InputOptions) (time : Float) (e : Event) (codes : List ℕ) (positions : List Float) (s : Press)
     (codes' : List ℕ) (positions' : List Float) (r : Press) : Type 0 where
-  -- the model's, whose list of pointer events ends at 64
+  -- the model's, whose list of pointer events ends at `max-events`
   pub result : press codes' positions' r ≡ capped (press-event o time e (press codes positions s))
-  -- where the list has room, as in a pass of at most 64 events, the model's
+  -- where the list has room, as in a pass of at most `max-events` events, the model's
   pub room : length (events codes positions (s .held .«event_count»)) < max-events → press codes' positions' r ≡ press-event o time e (press codes positions s)
   -- the numbers of the event that is added stand after those of the list; every other place keeps its contents
   pub codes-after : codes'

@@ -1,5 +1,5 @@
 // What an event does to the presses and clicks, and to the pass's pointer events.
-// These end at 64: a 65th is left out, and the rest goes on.
+// These end at `MAX_EVENTS`: one more is left out, and the rest goes on.
 use data::modifiers::Modifiers;
 use data::options::InputOptions;
 use data::pointer::ButtonsDown;

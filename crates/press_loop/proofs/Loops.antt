@@ -8,6 +8,7 @@ use native.Mathlib.Omega.{arith}
 use lib.ListN.{length, take, drop, length-append}
 use lib.Seq.{drop-length, drop-append-seam, sets}
 use lib.Ieee.{Float}
+use Rattle.data.specs.Kinds.{moved-kind, button-kind}
 use Rattle.data.specs.Limits.{max-events}
 use Rattle.data.specs.Numbers.{kind-number}
 use Rattle.model.specs.Types.{InputOptions, PointerEvent}
@@ -37,7 +38,7 @@ appended xs ys g =
 
 -- ---- presses: kinds 3 and 5
 module _ (o : InputOptions) (time : Float) where
-  press-idle : (e : Event) (s : Press) → (kind-number e ≡ 3 → ⊥) → (kind-number e ≡ 5 → ⊥) → press-event o time e s ≡ s
+  press-idle : (e : Event) (s : Press) → (kind-number e ≡ moved-kind → ⊥) → (kind-number e ≡ button-kind → ⊥) → press-event o time e s ≡ s
   unfolding press-event
   press-idle (Key k b) s h3 h5 = refl
   press-idle (ModifiersChanged m) s h3 h5 = refl
@@ -53,7 +54,7 @@ module _ (o : InputOptions) (time : Float) where
   press-idle Other s h3 h5 = refl
 
   -- and its arrays
-  pub press-stays : (e : Event) (cs : List ℕ) (ps : List Float) (s : PressHeld) → (kind-number e ≡ 3 → ⊥) → (kind-number e ≡ 5 → ⊥) → Stepped o time e cs ps s cs ps s
+  pub press-stays : (e : Event) (cs : List ℕ) (ps : List Float) (s : PressHeld) → (kind-number e ≡ moved-kind → ⊥) → (kind-number e ≡ button-kind → ⊥) → Stepped o time e cs ps s cs ps s
   unfolding codes-of positions-of
   press-stays e cs ps s h3 h5 =
       let q = press-idle e (press cs ps s) h3 h5 in
@@ -69,7 +70,7 @@ module _ (o : InputOptions) (time : Float) where
   unfolding press-events
   press-own es s =
       own-law (press-events o time) (press-event o time) (λ s. refl) (λ e es s. refl) pointer-list
-      (λ e s h. press-idle e s (not-read pointer-list e 3 h refl) (not-read pointer-list e 5 h refl)) es s
+      (λ e s h. press-idle e s (not-read pointer-list e moved-kind h refl) (not-read pointer-list e button-kind h refl)) es s
 
   -- an event adds one pointer event or none
   grows : (e : Event) (s : Press) → Grown (s .held .pointer-events) (press-event o time e s .held .pointer-events)

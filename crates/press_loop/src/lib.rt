@@ -1,5 +1,7 @@
 // Buttons, presses and clicks of a pass's events: their loop along the feed.
 use data::event::Event;
+use data::kinds::BUTTON_KIND;
+use data::kinds::MOVED_KIND;
 use data::options::InputOptions;
 use event_loop::LISTED;
 use event_loop::POINTER;
@@ -20,7 +22,7 @@ ghost use Rattle.event_loop.specs.Lists.{listed-events, pointer-list};
 ghost use Rattle.pointer_state.specs.View.{Stepped};
 ghost use Rattle.press_loop.specs.Passed.{PressPassed};
 
-// Of the pointer's kinds, 3 and 5 are read, and each goes straight to its step.
+// Of the pointer's kinds moves and buttons are read, and each goes straight to its step.
 fn press_at(
     s: Press,
     codes: &mut [u32; CODES],
@@ -35,14 +37,14 @@ fn press_at(
         (now (codes .entry)) (now (positions .entry)) s (now (codes .exit)) (now (positions .exit)) r ⌝ }
 {
     let kind = kind_at(feed, at);
-    if kind == 3 {
+    if kind == MOVED_KIND {
         let e = moved_at(feed, at);
         let Event::PointerMoved(pos) = e else {
             return s;
         };
         return moved(s, codes, positions, options, pos);
     }
-    if kind == 5 {
+    if kind == BUTTON_KIND {
         let e = button_at(feed, at);
         let Event::PointerButton(pos, button, is_pressed, modifiers) = e else {
             return s;

@@ -2,6 +2,7 @@
 use mathlib.Core.Path.{sym, _∙_}
 use native.Mathlib.Omega.{arith}
 use borrow.Author.Needs.{needs}
+use Rattle.data.specs.Kinds.{moved-kind, button-kind}
 use Rattle.model.specs.Types.{Other}
 use Rattle.event_loop.proofs.OfKind.{not-of-kind, is-other}
 use Rattle.press_loop.proofs.Loops.{press-stays}
@@ -53,8 +54,8 @@ returns-5 : tie.Need-returns-5
 returns-5 c =
     let k = c .before .before .kind-at .ensures in
     press-stays _ _ _ _ _ _
-    (not-of-kind _ _ 3 (λ e. c .before .if1 .left (k ∙ e)) (λ e. omega arith))
-    (not-of-kind _ _ 5 (λ e. c .if2 .left (k ∙ e)) (λ e. omega arith))
+    (not-of-kind _ _ moved-kind (λ e. c .before .if1 .left (k ∙ e)) (λ e. omega arith))
+    (not-of-kind _ _ button-kind (λ e. c .if2 .left (k ∙ e)) (λ e. omega arith))
 
 pub press-at-spec : {M : Type 1} → statement M
 press-at-spec =
