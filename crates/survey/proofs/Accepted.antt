@@ -1,4 +1,4 @@
--- A feed that the survey does not refuse: at most 64 events, and each is what its shape says. Assumes nothing.
+-- A feed that the survey does not refuse: at most `max-events` events, and each is what its shape says. Assumes nothing.
 use mathlib.Core.Path.{_≡_, refl, sym, ap, _∙_}
 use mathlib.Core.Bool.{Bool, true, false, cond}
 use mathlib.Core.List.{List, [], _∷_, map}

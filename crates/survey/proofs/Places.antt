@@ -9,6 +9,7 @@ use lib.Dec.{eqb, ltb}
 use lib.ListN.{getD, set, length, drop, replicate, length-set, getD-replicate, List·getD-eq-default}
 use lib.Seq.{getD-set-same, getD-set-other, drop-cons}
 use borrow.Author.Tests.{eqb-true, eqb-false, ltb-true, ltb-false}
+use Rattle.data.specs.Kinds.{touch-kind}
 use Rattle.data.specs.Limits.{max-events, event-ok}
 use Rattle.data.specs.Numbers.{kind-number}
 use Rattle.feed.specs.declared.found.MaybeEvent.{MaybeEvent}
@@ -60,7 +61,7 @@ found-event malformed n next e h = no (cc)
 found-event outside-domain n next e h = no (cc)
 
 -- ---- events that are no touch events
-pub not-crowded : (e : Event) (vs : List TouchState) → (kind-number e ≡ 9 → ⊥) → crowded e vs ≡ false
+pub not-crowded : (e : Event) (vs : List TouchState) → (kind-number e ≡ touch-kind → ⊥) → crowded e vs ≡ false
 unfolding crowded
 not-crowded (Key k b) vs h = refl
 not-crowded (ModifiersChanged m) vs h = refl
@@ -75,7 +76,7 @@ not-crowded (MouseWheel u v ph s m) vs h = refl
 not-crowded (WindowFocused b) vs h = refl
 not-crowded Other vs h = refl
 
-pub fits-idle : (e : Event) (vs : List TouchState) → (kind-number e ≡ 9 → ⊥) → fits-event e vs ≡ vs
+pub fits-idle : (e : Event) (vs : List TouchState) → (kind-number e ≡ touch-kind → ⊥) → fits-event e vs ≡ vs
 unfolding fits-event
 fits-idle (Key k b) vs h = refl
 fits-idle (ModifiersChanged m) vs h = refl
@@ -180,7 +181,7 @@ reads-first ws ps =
 
 -- one event more
 module _ (ws : List ℕ) (at next : ℕ) (e : Event) (here : at < length ws) (found : event-at ws at ≡ found.Event e next)
-    (left n : ℕ) (ps counts : List ℕ) (long : length ps ≡ 384) (r : Reads ws (suc left) n at ps counts) where
+    (left n : ℕ) (ps counts : List ℕ) (long : length ps ≡ list-count * max-events) (r : Reads ws (suc left) n at ps counts) where
   abbrev list : ℕ
   list = list-of (kind (getD ws at 0))
 
@@ -271,7 +272,7 @@ module _ (ws : List ℕ) (at next : ℕ) (e : Event) (here : at < length ws) (fo
           (λ us. after-event us ∙ rw (shaped-is ws at next e here found)) vs
           ∙ sym (rw (appended touch-list same) (crowd-last ws (listed ps touch-list (getD counts touch-list 0)) at (fits-survey left (items-after ws next)) vs))
       go false t =
-          let no-touch : kind-number e ≡ 9 → ⊥ = λ (q : kind-number e ≡ 9). eqb-false list touch-list t (ap list-of (sym (kind-is ws at next e here found) ∙ q)) in
+          let no-touch : kind-number e ≡ touch-kind → ⊥ = λ (q : kind-number e ≡ touch-kind). eqb-false list touch-list t (ap list-of (sym (kind-is ws at next e here found) ∙ q)) in
           let other : touch-list ≡ list → ⊥ = λ (q : touch-list ≡ list). eqb-false list touch-list t (sym q) in
           rw (other-count touch-list other, same-listed touch-list other)
           (crowd-same ws (listed ps touch-list (getD counts touch-list 0)) _ _ (λ us. after-event us ∙ rw (not-crowded e us no-touch, fits-idle e us no-touch)) vs)
@@ -331,8 +332,8 @@ unfolding first-refusal fits-survey
 none-is ws left at h us = (rw (items-none ws at h), rw (items-none ws at h))
 
 -- ---- the touch events
-pub no-event-9 : (ws : List ℕ) (at : ℕ) → (kind (getD ws at 0) ≡ 9 → ⊥) → kind-number (shaped-at ws at) ≡ 9 → ⊥
-no-event-9 ws at h = not-of-kind ws at 9 h (λ k. omega arith)
+pub no-event-9 : (ws : List ℕ) (at : ℕ) → (kind (getD ws at 0) ≡ touch-kind → ⊥) → kind-number (shaped-at ws at) ≡ touch-kind → ⊥
+no-event-9 ws at h = not-of-kind ws at touch-kind h (λ k. omega arith)
 
 pub fits-loop : Loop fits-events fits-event
 unfolding fits-events
@@ -340,7 +341,7 @@ fits-loop = loop fits-events fits-event (λ s. refl) (λ e es s. refl)
 
 fits-own : (es : List Event) (vs : List TouchState) → fits-events (own touch-list es) vs ≡ fits-events es vs
 unfolding fits-events
-fits-own es vs = own-law fits-events fits-event (λ s. refl) (λ e es s. refl) touch-list (λ e s h. fits-idle e s (not-read touch-list e 9 h refl)) es vs
+fits-own es vs = own-law fits-events fits-event (λ s. refl) (λ e es s. refl) touch-list (λ e s h. fits-idle e s (not-read touch-list e touch-kind h refl)) es vs
 
 -- with i of the n touch events done
 abbrev pub Holds : List ℕ → List ℕ → ℕ → Option PassRefusal → ℕ → List TouchState → List TouchState → Type 0

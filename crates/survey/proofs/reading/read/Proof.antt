@@ -1,10 +1,12 @@
 -- `reading::read` meets its contract. Assumes nothing.
-use Prim.Native.Nat.{suc, _+_, _-_, _≤_}
+use Prim.Native.Nat.{suc, _+_, _-_, _*_, _≤_}
 use mathlib.Core.Path.{_≡_, refl, sym, _∙_}
 use native.Mathlib.Omega.{arith}
 use borrow.Author.Needs.{needs}
 use mathlib.Core.List.{[]}
 use lib.ListN.{getD, length}
+use Rattle.event_loop.specs.Lists.{list-count}
+use Rattle.data.specs.Limits.{max-events}
 use Rattle.feed.specs.Split.{kind}
 use Rattle.event_loop.proofs.OfKind.{list-small}
 use Rattle.feed.proofs.Steps.{steps}
@@ -15,7 +17,7 @@ use Rattle.survey.proofs.reading.read.Statement.{statement}
 use Rattle.survey.proofs.reading.read.Tie as tie
 
 abbrev Inv-loop : tie.InvT-loop
-Inv-loop feed lists₀ counts₀ n₀ at₀ lists counts n at = (n ≤ 64) × Reads feed (64 - n) n at lists counts
+Inv-loop feed lists₀ counts₀ n₀ at₀ lists counts n at = (n ≤ max-events) × Reads feed (max-events - n) n at lists counts
 
 abbrev μ-loop : tie.MeasureT-loop
 μ-loop feed lists₀ counts₀ n₀ at₀ lists counts n at = length feed - at
@@ -29,7 +31,7 @@ returns c =
     let l = c .before .before in
     let ws = l .before .before .args .feed .now in
     let here = c .before .loop-test .taken in
-    let z : 64 - l .loop .n ≡ 0 = omega arith in
+    let z : max-events - l .loop .n ≡ 0 = omega arith in
     read-done ws 0 (l .loop .n) (l .loop .at) _ _ _ (rw z at (l .loop .inv .1)) (λ us. over-is ws (l .loop .at) here us .0) (over-is ws (l .loop .at) here [] .1) (λ h. none-some (sym h))
 
 verdict-at-requires : tie.Need-verdict-at-requires Inv-loop μ-loop
@@ -56,8 +58,8 @@ put-requires c κs =
     let l = o .before in
     let ws = l .before .before .args .feed .now in
     let t = good-at ws (l .loop .at) _ _ (sym (m .before .before .before .verdict-at .ensures) ∙ m .before .v .given .1) in
-    let z : 64 - l .loop .n ≡ suc (64 - (l .loop .n + 1)) = omega arith in
-    let long : length (l .loop .lists) ≡ 384 = search needs in
+    let z : max-events - l .loop .n ≡ suc (max-events - (l .loop .n + 1)) = omega arith in
+    let long : length (l .loop .lists) ≡ list-count * max-events = search needs in
     rw (t .list-is) (fits ws (l .loop .at) _ _ (o .loop-test .taken) (t .found) _ _ _ _ long (rw z at (l .loop .inv .1)))
 
 add-counts : tie.Need-add-counts Inv-loop μ-loop
@@ -100,8 +102,8 @@ loop-again c =
     let l = o .before in
     let ws = l .before .before .args .feed .now in
     let t = good-at ws (l .loop .at) _ _ (sym (m .before .before .before .verdict-at .ensures) ∙ m .before .v .given .1) in
-    let z : 64 - l .loop .n ≡ suc (64 - (l .loop .n + 1)) = omega arith in
-    let long : length (l .loop .lists) ≡ 384 = search needs in
+    let z : max-events - l .loop .n ≡ suc (max-events - (l .loop .n + 1)) = omega arith in
+    let long : length (l .loop .lists) ≡ list-count * max-events = search needs in
     (omega arith, rw (c .put .ensures, t .list-is) (reads-more ws (l .loop .at) _ _ (o .loop-test .taken) (t .found) _ _ _ _ long (rw z at (l .loop .inv .1))))
 
 enum-told : tie.Need-enum-told Inv-loop μ-loop
@@ -114,8 +116,8 @@ returns-2 c =
     let l = o .before in
     let ws = l .before .before .args .feed .now in
     let found = malformed-at ws (l .loop .at) (sym (c .before .before .verdict-at .ensures) ∙ c .enum-told .given .1) in
-    let z : 64 - l .loop .n ≡ suc (64 - (l .loop .n + 1)) = omega arith in
-    let is = malformed-is ws (l .loop .at) (o .loop-test .taken) (64 - (l .loop .n + 1)) found in
+    let z : max-events - l .loop .n ≡ suc (max-events - (l .loop .n + 1)) = omega arith in
+    let is = malformed-is ws (l .loop .at) (o .loop-test .taken) (max-events - (l .loop .n + 1)) found in
     read-done ws _ (l .loop .n) (l .loop .at) _ _ _ (rw z at (l .loop .inv .1)) (λ us. is us .0) (is [] .1) (λ h. none-some (sym h))
 
 enum-told-2 : tie.Need-enum-told-2 Inv-loop μ-loop
@@ -128,8 +130,8 @@ returns-3 c =
     let l = o .before in
     let ws = l .before .before .args .feed .now in
     let found = outside-at ws (l .loop .at) (sym (c .before .before .verdict-at .ensures) ∙ c .enum-told2 .given .1) in
-    let z : 64 - l .loop .n ≡ suc (64 - (l .loop .n + 1)) = omega arith in
-    let is = outside-is ws (l .loop .at) (o .loop-test .taken) (64 - (l .loop .n + 1)) found in
+    let z : max-events - l .loop .n ≡ suc (max-events - (l .loop .n + 1)) = omega arith in
+    let is = outside-is ws (l .loop .at) (o .loop-test .taken) (max-events - (l .loop .n + 1)) found in
     read-done ws _ (l .loop .n) (l .loop .at) _ _ _ (rw z at (l .loop .inv .1)) (λ us. is us .0) (is [] .1) (λ h. none-some (sym h))
 
 returns-4 : tie.Need-returns-4 Inv-loop μ-loop
