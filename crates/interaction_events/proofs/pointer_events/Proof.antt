@@ -4,6 +4,7 @@ use mathlib.Core.Path.{_≡_, refl, sym, _∙_}
 use mathlib.Core.List.{List}
 use native.Mathlib.Omega.{arith}
 use lib.Ieee.{Float}
+use Rattle.data.specs.Limits.{max-events}
 use Rattle.model.specs.Interact.{InteractInput, pointer-event, pointer-events}
 use Rattle.pointer_events.specs.Events.{event-of, entry-at, events-from, events}
 use Rattle.interaction_events.specs.View.{going-of, Looks}
@@ -15,7 +16,7 @@ use Rattle.pointer_events.proofs.counted.Reads as counted-reads
 use Rattle.interaction_events.proofs.pointer_event.Reads as pointer-event-reads
 
 abbrev Inv-loop : tie.InvT-loop
-Inv-loop codes count dragging click drag set words numbers n h₀ i₀ h i = (i ≤ n) × (n ≤ 64) × ((ps : List Float) (x : InteractInput) → Looks x set words numbers click drag → pointer-events x dragging (events-from codes ps i (n - i)) (going-of h) ≡ pointer-events x dragging (events codes ps count) (going-of h₀))
+Inv-loop codes count dragging click drag set words numbers n h₀ i₀ h i = (i ≤ n) × (n ≤ max-events) × ((ps : List Float) (x : InteractInput) → Looks x set words numbers click drag → pointer-events x dragging (events-from codes ps i (n - i)) (going-of h) ≡ pointer-events x dragging (events codes ps count) (going-of h₀))
 
 abbrev μ-loop : tie.MeasureT-loop
 μ-loop codes count dragging click drag set words numbers n h₀ i₀ h i = n - i
@@ -25,7 +26,7 @@ counted-requires c κs = search needs
 
 loop-holds : tie.Need-loop-holds Inv-loop μ-loop
 unfolding events
-loop-holds c = (omega arith, omega (arith, c .counted .ensures), λ ps x l. let z : c .counted .result - 0 ≡ min (c .before .args .count) 64 = omega (arith, c .counted .ensures) in rw z)
+loop-holds c = (omega arith, omega (arith, c .counted .ensures), λ ps x l. let z : c .counted .result - 0 ≡ min (c .before .args .count) max-events = omega (arith, c .counted .ensures) in rw z)
 
 mul-pointer-event : tie.Need-mul-pointer-event Inv-loop μ-loop
 mul-pointer-event c = search needs
