@@ -1,15 +1,19 @@
 // Records of more than one part.
+use crate::request::WIDGET_WORDS;
 use crate::words::Answer;
 use crate::words::id;
 use crate::words::rect;
 use crate::words::word;
 use data::bits::bit_number;
+use data::limits::MAX_WIDGETS;
 use data::widget::WidgetRect;
 
-// 17 words for each widget, by its slot in the set: what the slices lent for the insertions hold.
-pub type Lent = [u32; 17408];
+// `WIDGET_WORDS` words for each widget, by its slot in the set: what the slices lent for the insertions hold.
+pub const LENT: usize = WIDGET_WORDS * MAX_WIDGETS;
 
-// The 17 words of a widget.
+pub type Lent = [u32; LENT];
+
+// The `WIDGET_WORDS` words of a widget.
 pub fn widget(a: &mut Answer, n: usize, w: WidgetRect) -> usize {
     let layer = w.layer_id;
     let r = w.rect;

@@ -12,7 +12,7 @@ ghost use Rattle.trace_words.specs.Words.{Written};
 
 pub const ROOM: usize = 65536;
 
-pub type Answer = [u32; 65536];
+pub type Answer = [u32; ROOM];
 
 pub fn word(a: &mut Answer, n: usize, w: u32) -> usize
     ensures { λ r. ⌜ Written n w (now (a .entry)) r (now (a .exit)) ⌝ }

@@ -23,27 +23,33 @@ pub const BUCKETS: u64 = 2048;
 pub const SPAN: u32 = 2048;
 
 // In `words`: ids, then parent ids, then layer ids.
-pub const PARENTS: usize = 1024;
+pub const PARENTS: usize = MAX_WIDGETS;
 
-pub const LAYER_IDS: usize = 2048;
+pub const LAYER_IDS: usize = PARENTS + MAX_WIDGETS;
 
-pub type Words = [u64; 2080];
+pub const WORDS: usize = LAYER_IDS + MAX_LAYERS;
+
+pub type Words = [u64; WORDS];
 
 // In `numbers`: heads of buckets, then a link, a place and traits for each slot, then layer orders and counts.
-pub const LINKS: usize = 2048;
+pub const LINKS: usize = BUCKETS as usize;
 
-pub const PLACES: usize = 3072;
+pub const PLACES: usize = LINKS + MAX_WIDGETS;
 
-pub const TRAITS: usize = 4096;
+pub const TRAITS: usize = PLACES + MAX_WIDGETS;
 
-pub const ORDERS: usize = 5120;
+pub const ORDERS: usize = TRAITS + MAX_WIDGETS;
 
-pub const COUNTS: usize = 5152;
+pub const COUNTS: usize = ORDERS + MAX_LAYERS;
 
-pub type Numbers = [u32; 5184];
+pub const NUMBERS: usize = COUNTS + MAX_LAYERS;
+
+pub type Numbers = [u32; NUMBERS];
 
 // In `edges`: 8 for each slot.
-pub type Edges = [f32; 8192];
+pub const EDGES: usize = 8 * MAX_WIDGETS;
+
+pub type Edges = [f32; EDGES];
 
 pub fn wide(x: u32) -> usize
     ensures { λ r. ⌜ r ≡ x ⌝ }
