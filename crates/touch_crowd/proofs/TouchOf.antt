@@ -4,6 +4,7 @@ use mathlib.Core.List.{List}
 use Prim.Native.Nat.{ℕ}
 use native.Mathlib.Omega.{arith}
 use lib.ListN.{length}
+use Rattle.data.specs.Kinds.{touch-kind}
 use Rattle.data.specs.Numbers.{kind-number}
 use Rattle.model.specs.Types.{Event, Key, ModifiersChanged, PointerMoved, MouseMoved, Button, PointerGone, Zoom, Rotate, Touch, MouseWheel, WindowFocused, Other}
 use Rattle.model.specs.Touch.{TouchState, no-place, find-device}
@@ -37,7 +38,7 @@ touch-is (MouseWheel u v ph s m) t h = no (cc)
 touch-is (WindowFocused b) t h = no (cc)
 touch-is Other t h = no (cc)
 
-pub no-touch-of : (e : Event) → (kind-number e ≡ 9 → ⊥) → touch-of e ≡ no-touch
+pub no-touch-of : (e : Event) → (kind-number e ≡ touch-kind → ⊥) → touch-of e ≡ no-touch
 unfolding touch-of
 no-touch-of (Key k b) h = refl
 no-touch-of (ModifiersChanged m) h = refl
@@ -52,7 +53,7 @@ no-touch-of (MouseWheel u v ph s m) h = refl
 no-touch-of (WindowFocused b) h = refl
 no-touch-of Other h = refl
 
-pub not-9 : (e : Event) → touch-of e ≡ no-touch → kind-number e ≡ 9 → ⊥
+pub not-9 : (e : Event) → touch-of e ≡ no-touch → kind-number e ≡ touch-kind → ⊥
 unfolding touch-of
 not-9 (Key k b) h q = absurd (omega arith)
 not-9 (ModifiersChanged m) h q = absurd (omega arith)

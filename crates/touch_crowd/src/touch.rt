@@ -1,5 +1,6 @@
 // The touch event at a place of the feed, by its parts.
 use data::event::Event;
+use data::kinds::TOUCH_KIND;
 use data::touch::ActiveTouch;
 use data::touch::TouchPhase;
 use event_loop::kind_at;
@@ -20,11 +21,11 @@ pub enum MaybeTouchEvent {
     Some(TouchEvent),
 }
 
-// Kind 9 is read.
+// Touch events are read.
 pub fn touch_event_at(feed: &[u32], at: usize) -> MaybeTouchEvent
     ensures { λ r. ⌜ r ≡ touch-of (shaped-at (now (feed .entry)) at) ⌝ }
 {
-    if kind_at(feed, at) == 9 {
+    if kind_at(feed, at) == TOUCH_KIND {
         let e = touch_at(feed, at);
         let Event::Touch(device_id, id, phase, pos, force) = e else {
             return MaybeTouchEvent::None;

@@ -9,6 +9,7 @@ use lib.Dec.{eqb}
 use lib.ListN.{length, getD, set, take, drop}
 use lib.Seq.{append-snoc, take-suc-set, take-set-lt, drop-set-lt}
 use lib.Ieee.{Float}
+use Rattle.data.specs.Kinds.{touch-kind}
 use Rattle.data.specs.Numbers.{kind-number}
 use Rattle.model.specs.Types.{MaybePos2, Event, Key, ModifiersChanged, PointerMoved, MouseMoved, Button, PointerGone, Zoom, Rotate, Touch, MouseWheel, WindowFocused, Other}
 use Rattle.model.specs.Touch.{TouchState, adds-or-removes, added-or-removed-touches, end-device, end-touches}
@@ -45,7 +46,7 @@ module _ (d : ℕ) where
   adds-first (WindowFocused b) es = refl
   adds-first Other es = refl
 
-  pub adds-idle : (e : Event) → (kind-number e ≡ 9 → ⊥) → added-or-removed-touches d (e ∷ []) ≡ false
+  pub adds-idle : (e : Event) → (kind-number e ≡ touch-kind → ⊥) → added-or-removed-touches d (e ∷ []) ≡ false
   unfolding added-or-removed-touches
   adds-idle (Key k b) h = refl
   adds-idle (ModifiersChanged m) h = refl
@@ -66,7 +67,7 @@ module _ (d : ℕ) where
 
   pub adds-own : (es : List Event) → added-or-removed-touches d (own touch-list es) ≡ added-or-removed-touches d es
   unfolding added-or-removed-touches
-  adds-own es = own-any-law (added-or-removed-touches d) refl adds-first touch-list (λ e h. adds-idle e (not-read touch-list e 9 h refl)) es
+  adds-own es = own-any-law (added-or-removed-touches d) refl adds-first touch-list (λ e h. adds-idle e (not-read touch-list e touch-kind h refl)) es
 
 -- ---- the end of a pass, a turn at a time: those that are done, and the rest
 module _ (time : Float) (p : MaybePos2) (es : List Event) where

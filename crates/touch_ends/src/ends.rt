@@ -1,4 +1,6 @@
 // The devices at the end of a pass: their gestures go on, start or end.
+use data::kinds::KIND_UNIT;
+use data::kinds::TOUCH_KIND;
 use emath::pos2::MaybePos2;
 use event_loop::LISTED;
 use event_loop::TOUCHES;
@@ -11,6 +13,7 @@ use touch_state::devices::Devices;
 ghost use mathlib.Core.Path.{_≡_};
 ghost use mathlib.Core.List.{[], _∷_, map};
 ghost use lib.ListN.{getD};
+ghost use Rattle.data.specs.Kinds.{touch-kind};
 ghost use Rattle.feed.specs.Split.{kind};
 ghost use Rattle.model.specs.Touch.{added-or-removed-touches, end-touches};
 ghost use Rattle.touch_state.specs.View.{view};
@@ -19,12 +22,12 @@ ghost use Rattle.event_loop.specs.Lists.{listed-events, touch-list};
 
 // Of a touch event only the first three words are read: its phase and its device.
 fn touch_adds_at(device_id: u64, feed: &[u32], at: usize) -> bool
-    ensures { λ r. ⌜ (kind (getD (now (feed .entry)) at 0) ≡ 9 → r ≡ added-or-removed-touches «device_id» (shaped-at (now (feed .entry)) at ∷ [])) ⌝ }
+    ensures { λ r. ⌜ (kind (getD (now (feed .entry)) at 0) ≡ touch-kind → r ≡ added-or-removed-touches «device_id» (shaped-at (now (feed .entry)) at ∷ [])) ⌝ }
 {
     if at >= feed.len() {
         return false;
     }
-    let low = feed[at] % 0x1000_0000;
+    let low = feed[at] % KIND_UNIT;
     let n = 6 + (feed[at] / 4 % 2) as usize;
     if feed.len() - at <= n {
         return false;
@@ -40,7 +43,7 @@ fn touch_adds_at(device_id: u64, feed: &[u32], at: usize) -> bool
 fn adds_at(device_id: u64, feed: &[u32], at: usize) -> bool
     ensures { λ r. ⌜ r ≡ added-or-removed-touches «device_id» (shaped-at (now (feed .entry)) at ∷ []) ⌝ }
 {
-    if kind_at(feed, at) == 9 {
+    if kind_at(feed, at) == TOUCH_KIND {
         return touch_adds_at(device_id, feed, at);
     }
     false

@@ -1,6 +1,7 @@
 -- `ends::touch_adds_at` meets its contract. Assumes nothing.
 use native.Mathlib.Omega.{arith}
 use borrow.Author.Tests.{le-ltb, lt-ltb}
+use Rattle.data.specs.Kinds.{touch-kind}
 use Rattle.model.specs.Touch.{added-or-removed-touches}
 use Rattle.feed.specs.Shape.{shape-by-kind, touch-shape, clean}
 use Rattle.feed.proofs.Words.{word-after}
@@ -41,13 +42,13 @@ returns-2 : tie.Need-returns-2
 unfolding added-or-removed-touches
 returns-2 c is =
     let a = c .before .before .before .before .before .args in
-    rw (short-as (a .feed .now) (a .at) 9 is (c .before .before .before .if1 .left) (omega arith))
+    rw (short-as (a .feed .now) (a .at) touch-kind is (c .before .before .before .if1 .left) (omega arith))
 
 returns-3 : tie.Need-returns-3
 unfolding added-or-removed-touches shape-by-kind touch-shape clean event-or-other
 returns-3 c is =
     let a = c .before .before .before .before .before .before .args in
-    rw (whole-as (a .feed .now) (a .at) 9 is (c .before .before .before .before .if1 .left) (omega arith), le-ltb _ _ (c .if3 .taken))
+    rw (whole-as (a .feed .now) (a .at) touch-kind is (c .before .before .before .before .if1 .left) (omega arith), le-ltb _ _ (c .if3 .taken))
 
 add-id-of : tie.Need-add-id-of
 add-id-of c = search needs
@@ -81,7 +82,7 @@ unfolding added-or-removed-touches shape-by-kind touch-shape clean event-or-othe
 returns-4 c is =
     let o = c .before .before .before .before .before in
     let a = o .before .before .before .before .before .before .args in
-    rw (c .adds-or-removes .ensures, c .before .phase-of .ensures, c .before .before .id-of .ensures, whole-as (a .feed .now) (a .at) 9 is (o .before .before .before .before .if1 .left) (omega arith), lt-ltb _ _ (o .if3 .left), word-after _ _ 0, word-after _ _ 1) (or-none _)
+    rw (c .adds-or-removes .ensures, c .before .phase-of .ensures, c .before .before .id-of .ensures, whole-as (a .feed .now) (a .at) touch-kind is (o .before .before .before .before .if1 .left) (omega arith), lt-ltb _ _ (o .if3 .left), word-after _ _ 0, word-after _ _ 1) (or-none _)
 
 pub touch-adds-at-spec : {M : Type 1} → statement M
 touch-adds-at-spec =
