@@ -2,6 +2,7 @@
 use crate::lent::gathered;
 use crate::lent::given;
 use crate::lent::scatter;
+use data::limits::MAX_WIDGETS;
 use data::widget::WidgetRect;
 use trace_words::records;
 use trace_words::records::Lent;
@@ -55,8 +56,8 @@ fn slice(
     lent: &Lent,
     w: &[u32],
     new: WidgetRect,
-) -> [WidgetRect; 1024] {
-    let blank = [new; 1024];
+) -> [WidgetRect; MAX_WIDGETS] {
+    let blank = [new; MAX_WIDGETS];
     let layer = new.layer_id;
     let e = find_layer(words, numbers, layer, layers_of(h));
     if e == 0 {
@@ -70,14 +71,20 @@ fn slice(
 }
 
 // The slice after a taken insertion goes back to where it is kept.
-fn follow(words: &Words, numbers: &Numbers, lent: &mut Lent, a: [WidgetRect; 1024], d: Decision) {
+fn follow(
+    words: &Words,
+    numbers: &Numbers,
+    lent: &mut Lent,
+    a: [WidgetRect; MAX_WIDGETS],
+    d: Decision,
+) {
     let set = d.set;
     let w = d.widget;
     let e = find(set, words, numbers, w.id);
     if e == 0 {
         return;
     }
-    if d.to > 1024 {
+    if d.to > MAX_WIDGETS {
         return;
     }
     let b = settled(a, d.from, d.to, w);

@@ -1,6 +1,7 @@
-// What the slices lent for the insertions hold: 17 words for each widget that is known, by its slot in the set. A record that moves in
+// What the slices lent for the insertions hold: `WIDGET_WORDS` words for each widget that is known, by its slot in the set. A record that moves in
 // its layer stays with its slot.
 use data::bits::bit_number;
+use data::limits::MAX_WIDGETS;
 use data::widget::WidgetRect;
 use emath::rect::Rect;
 use trace_words::records::Lent;
@@ -16,7 +17,7 @@ ghost use Prim.Native.Nat.{_≤_};
 
 // The record of a slot.
 fn record(lent: &[u32], slot: usize) -> WidgetRect {
-    let from = slot % 1024 * WIDGET_WORDS;
+    let from = slot % MAX_WIDGETS * WIDGET_WORDS;
     if from < lent.len() {
         return widget(&lent[from..]);
     }
@@ -42,7 +43,7 @@ fn put_rect(lent: &mut Lent, at: usize, r: Rect)
 }
 
 fn put_record(lent: &mut Lent, slot: usize, w: WidgetRect) {
-    let at = slot % 1024 * WIDGET_WORDS;
+    let at = slot % MAX_WIDGETS * WIDGET_WORDS;
     let layer = w.layer_id;
     let rect = w.rect;
     let interact_rect = w.interact_rect;
@@ -58,20 +59,20 @@ fn put_record(lent: &mut Lent, slot: usize, w: WidgetRect) {
 
 // The layer's records by position, in the first places of `a`.
 pub fn gathered(
-    a: [WidgetRect; 1024],
+    a: [WidgetRect; MAX_WIDGETS],
     h: WidgetRects,
     numbers: &Numbers,
     lent: &Lent,
     l: usize,
-) -> [WidgetRect; 1024] {
+) -> [WidgetRect; MAX_WIDGETS] {
     let n = widgets_of(h);
     let mut b = a;
     let mut s: usize = 0;
     while s < n {
         let place = numbers[PLACES + s];
         let position = position_of(place);
-        if (layer_of(place) == l) & (position < 1024) {
-            b[position % 1024] = record(lent, s);
+        if (layer_of(place) == l) & (position < MAX_WIDGETS) {
+            b[position % MAX_WIDGETS] = record(lent, s);
         }
         s += 1;
     }
@@ -79,10 +80,10 @@ pub fn gathered(
 }
 
 // The first `k` places hold the records given, 17 words each.
-pub fn given(a: [WidgetRect; 1024], k: usize, w: &[u32]) -> [WidgetRect; 1024] {
+pub fn given(a: [WidgetRect; MAX_WIDGETS], k: usize, w: &[u32]) -> [WidgetRect; MAX_WIDGETS] {
     let mut b = a;
     let mut i: usize = 0;
-    while i < 1024 {
+    while i < MAX_WIDGETS {
         if k <= i {
             return b;
         }
@@ -101,7 +102,7 @@ pub fn scatter(
     lent: &mut Lent,
     h: WidgetRects,
     numbers: &Numbers,
-    a: [WidgetRect; 1024],
+    a: [WidgetRect; MAX_WIDGETS],
     l: usize,
 ) {
     let n = widgets_of(h);
@@ -109,8 +110,8 @@ pub fn scatter(
     while s < n {
         let place = numbers[PLACES + s];
         let position = position_of(place);
-        if (layer_of(place) == l) & (position < 1024) {
-            let w = a[position % 1024];
+        if (layer_of(place) == l) & (position < MAX_WIDGETS) {
+            let w = a[position % MAX_WIDGETS];
             put_record(lent, s, w);
         }
         s += 1;

@@ -1,7 +1,9 @@
 // The widgets of DUMP: by layer what the caller lent, then the set's own records by id.
 use data::layers::LayerId;
+use data::limits::MAX_WIDGETS;
 use trace_words::records::Lent;
 use trace_words::records::widget;
+use trace_words::request::WIDGET_WORDS;
 use trace_words::words::Answer;
 use trace_words::words::count;
 use trace_words::words::id;
@@ -9,6 +11,7 @@ use trace_words::words::word;
 use widget_index::table::Edges;
 use widget_index::table::Numbers;
 use widget_index::table::PLACES;
+use widget_index::table::SPAN;
 use widget_index::table::WidgetRects;
 use widget_index::table::Words;
 use widget_index::table::count_at;
@@ -52,10 +55,15 @@ fn next_layer(h: WidgetRects, words: &Words, numbers: &Numbers, last: LayerId, a
     best
 }
 
+const WIDGETS: u32 = MAX_WIDGETS as u32;
+
+// The positions of a layer.
+const SLOTS: usize = SPAN as usize;
+
 // The slot of each position of a layer.
-fn slots_of(h: WidgetRects, numbers: &Numbers, l: usize) -> [u32; 2048] {
+fn slots_of(h: WidgetRects, numbers: &Numbers, l: usize) -> [u32; SLOTS] {
     let n = widgets_of(h);
-    let mut slots = [0u32; 2048];
+    let mut slots = [0u32; SLOTS];
     let mut s: usize = 0;
     while s < n {
         let place = numbers[PLACES + s];
@@ -67,12 +75,12 @@ fn slots_of(h: WidgetRects, numbers: &Numbers, l: usize) -> [u32; 2048] {
     slots
 }
 
-// The 17 words of a slot.
+// The `WIDGET_WORDS` words of a slot.
 fn lent_record(a: &mut Answer, n: usize, lent: &Lent, slot: u32) -> usize {
-    let from = (slot % 1024) as usize * 17;
+    let from = (slot % WIDGETS) as usize * WIDGET_WORDS;
     let mut m = n;
     let mut i: usize = 0;
-    while i < 17 {
+    while i < WIDGET_WORDS {
         m = word(a, m, lent[from + i]);
         i += 1;
     }
@@ -129,15 +137,15 @@ fn layers(
 
 // ---- the set's records
 
-// The slot with the least id above `last`, or 1024. No id is 0.
+// The slot with the least id above `last`, or `MAX_WIDGETS`. No id is 0.
 fn next_slot(h: WidgetRects, words: &Words, last: u64) -> usize {
     let n = widgets_of(h);
-    let mut best: usize = 1024;
+    let mut best: usize = MAX_WIDGETS;
     let mut least: u64 = 0;
     let mut s: usize = 0;
     while s < n {
         let x = words[s];
-        if (last < x) & ((best == 1024) | (x < least)) {
+        if (last < x) & ((best == MAX_WIDGETS) | (x < least)) {
             best = s;
             least = x;
         }
@@ -160,7 +168,7 @@ fn known(
     let mut i: usize = 0;
     while i < len {
         let s = next_slot(h, words, last);
-        if s < 1024 {
+        if s < MAX_WIDGETS {
             m = count(a, m, position_of(numbers[PLACES + s]));
             m = widget(a, m, widget_at(words, numbers, edges, s));
             last = words[s];
