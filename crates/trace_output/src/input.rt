@@ -4,7 +4,7 @@ ghost use Prim.Native.Nat.{_≤_};
 // A record has fewer than 1 MiB.
 pub const WORDS: usize = 262144;
 
-pub type Record = [u32; 262144];
+pub type Record = [u32; WORDS];
 
 const CHUNK: usize = 4096;
 

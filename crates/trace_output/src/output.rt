@@ -3,7 +3,7 @@ use libc::STDOUT_FILENO;
 
 pub const SIZE: usize = 65536;
 
-pub type Buffer = [u8; 65536];
+pub type Buffer = [u8; SIZE];
 
 pub fn flush(out: &[u8], n: usize) {
     if n <= out.len() {
