@@ -1,14 +1,15 @@
 -- Safe, and it ends: the measure is what is left. Assumes nothing.
 use Prim.Native.Nat.{_≤_, _-_}
 use borrow.Author.Needs.{needs}
+use Rattle.data.specs.Limits.{max-touches}
 use Rattle.trace_state.proofs.devices.all_touches.Statement.{statement}
 use Rattle.trace_state.proofs.devices.all_touches.Tie as tie
 
 abbrev Inv-loop : tie.InvT-loop
-Inv-loop a₀ n len places m₀ i₀ a m i = i ≤ 10
+Inv-loop a₀ n len places m₀ i₀ a m i = i ≤ max-touches
 
 abbrev μ-loop : tie.MeasureT-loop
-μ-loop a₀ n len places m₀ i₀ a m i = 10 - i
+μ-loop a₀ n len places m₀ i₀ a m i = max-touches - i
 
 len-requires : tie.Need-len-requires Inv-loop μ-loop
 len-requires c κs = search needs
