@@ -9,6 +9,7 @@ use input_state::input::own_refusal;
 use input_state::input::time_of;
 use input_state::state::InputState;
 use input_state::state::act;
+use key_state::keys::PRESSES;
 use pointer_events::CODES;
 use pointer_events::PLACES;
 use survey::reading::MaybePassRefusal;
@@ -49,7 +50,7 @@ pub fn begin_pass(
     positions: &mut [f32; PARTS],
     codes: &mut [u32; CODES],
     places: &mut [f32; PLACES],
-    presses: &mut [u8; 145],
+    presses: &mut [u8; PRESSES],
     i: PassInput,
     feed: &[u32],
 ) -> Begun

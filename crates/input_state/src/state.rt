@@ -23,6 +23,7 @@ use event_loop::POINTER;
 use event_loop::SUMS;
 use event_loop::WHEEL;
 use key_state::keys::Keys;
+use key_state::keys::PRESSES;
 use key_state::keys::keys_pass;
 use pointer_events::CODES;
 use pointer_events::PLACES;
@@ -73,7 +74,7 @@ pub fn act(
     positions: &mut [f32; PARTS],
     codes: &mut [u32; CODES],
     places: &mut [f32; PLACES],
-    presses: &mut [u8; 145],
+    presses: &mut [u8; PRESSES],
     i: PassInput,
     feed: &[u32],
     lists: &[u16; LISTED],
