@@ -7,6 +7,7 @@ use input_state::screen::Screen;
 use interaction_state::state::Interacted;
 use interaction_state::state::Interaction;
 use interaction_state::state::Seen;
+use key_state::keys::PRESSES;
 use pointer_clicks::any_down;
 use pointer_clicks::could_any_button_be_click;
 use pointer_clicks::is_decidedly_dragging;
@@ -28,7 +29,7 @@ fn seen(
     pointer: Pointer,
     devices: Devices,
     codes: &[u32; CODES],
-    presses: &[u8; 145],
+    presses: &[u8; PRESSES],
 ) -> Seen
     ensures { λ r. ⌜ Sees clock screen pointer devices (now (codes .entry)) (now (presses .entry)) r ⌝ }
 {
@@ -62,7 +63,7 @@ pub fn interact(
     pointer: Pointer,
     devices: Devices,
     codes: &[u32; CODES],
-    presses: &[u8; 145],
+    presses: &[u8; PRESSES],
     interaction: Interaction,
     tally: u32,
     set: WidgetRects,

@@ -5,6 +5,7 @@ use input_pass::begin::Begun;
 use input_pass::begin::begin_pass;
 use input_state::input::PassInput;
 use input_state::state::InputState;
+use key_state::keys::PRESSES;
 use pointer_events::CODES;
 use pointer_events::PLACES;
 use touch_state::devices::Devices;
@@ -19,7 +20,7 @@ pub fn pass(
     positions: &mut [f32; PARTS],
     codes: &mut [u32; CODES],
     places: &mut [f32; PLACES],
-    presses: &mut [u8; 145],
+    presses: &mut [u8; PRESSES],
     given: PassInput,
     feed: &[u32],
 ) -> Begun

@@ -4,6 +4,7 @@ use input_pass::begin::Begun;
 use input_state::state::InputState;
 use interaction_state::state::Interacted;
 use interaction_state::state::Interaction;
+use key_state::keys::PRESSES;
 use touch_state::devices::Devices;
 ghost use mathlib.Core.Path.{_≡_};
 ghost use Rattle.panel.specs.View.{Fresh, after-pass, after-interact};
@@ -17,10 +18,10 @@ pub struct Panel {
 }
 
 // egui's initial state, no drag, tally 0. The lent presses are cleared; the other lent arrays may hold anything.
-pub fn fresh(presses: &mut [u8; 145]) -> Panel
+pub fn fresh(presses: &mut [u8; PRESSES]) -> Panel
     ensures { λ r. ⌜ Fresh (now (presses .exit)) r ⌝ }
 {
-    *presses = [0; 145];
+    *presses = [0; PRESSES];
     let input = input_state::state::fresh();
     let devices = touch_state::devices::none();
     let interaction = Interaction {
