@@ -8,14 +8,18 @@ use data::pointer::PointerButton;
 use data::touch::MaybeMultiTouchInfo;
 use emath::pos2::MaybePos2;
 use emath::vec2::MaybeVec2;
+use emath_history::history::MAX_LEN;
+use emath_history::history::PARTS;
 use input_pass::begin::begin_pass;
 use input_questions::keys::key_down;
 use input_questions::keys::key_pressed;
 use input_state::state::InputState;
 use input_state::state::fresh;
+use key_state::keys::PRESSES;
 use pointer_clicks::could_any_button_be_click;
 use pointer_clicks::is_decidedly_dragging;
 use pointer_events::CODES;
+use pointer_events::PLACES;
 use pointer_questions::buttons::any_click;
 use pointer_questions::buttons::any_down;
 use pointer_questions::buttons::any_pressed;
@@ -137,7 +141,7 @@ fn of_moves(n: u64, s: InputState) -> u64 {
 }
 
 // key_down, key_pressed, is_scrolling, time_since_last_scroll, any_touches, multi_touch: 6
-fn of_rest(n: u64, s: InputState, ds: Devices, presses: &[u8; 145]) -> u64 {
+fn of_rest(n: u64, s: InputState, ds: Devices, presses: &[u8; PRESSES]) -> u64 {
     let clock = s.clock;
     let keys = s.keys;
     let wheel = s.wheel;
@@ -149,7 +153,7 @@ fn of_rest(n: u64, s: InputState, ds: Devices, presses: &[u8; 145]) -> u64 {
     one_if(one_if(j, any_touches(ds)), is_info(multi_touch(ds)))
 }
 
-fn asked(n: u64, s: InputState, ds: Devices, codes: &[u32; CODES], presses: &[u8; 145]) -> u64 {
+fn asked(n: u64, s: InputState, ds: Devices, codes: &[u32; CODES], presses: &[u8; PRESSES]) -> u64 {
     let i = of_buttons(n, s, codes);
     let j = of_presses(i, s, codes);
     let k = of_moves(j, s);
@@ -157,11 +161,11 @@ fn asked(n: u64, s: InputState, ds: Devices, codes: &[u32; CODES], presses: &[u8
 }
 
 pub fn run(times: u32, feed: &[u32]) -> u64 {
-    let mut stamps = [0.0f64; 1000];
-    let mut positions = [0.0f32; 2000];
-    let mut codes = [0u32; 256];
-    let mut places = [0.0f32; 128];
-    let mut presses = [0u8; 145];
+    let mut stamps = [0.0f64; MAX_LEN];
+    let mut positions = [0.0f32; PARTS];
+    let mut codes = [0u32; CODES];
+    let mut places = [0.0f32; PLACES];
+    let mut presses = [0u8; PRESSES];
     let mut s = fresh();
     let mut ds = none();
     let i = input();

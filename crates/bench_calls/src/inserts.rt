@@ -1,11 +1,15 @@
 // Insertions of the same widgets, round by round, each round in the same order; they stand in turn in each of some layers.
 use crate::sums::mix;
 use data::layers::LayerId;
+use data::limits::MAX_WIDGETS;
 use data::widget::WidgetRect;
 use emath::pos2::Pos2;
 use emath::rect::Rect;
+use widget_index::table::EDGES;
 use widget_index::table::Edges;
+use widget_index::table::NUMBERS;
 use widget_index::table::Numbers;
+use widget_index::table::WORDS;
 use widget_index::table::WidgetRects;
 use widget_index::table::Words;
 use widget_index::table::wide;
@@ -15,6 +19,9 @@ use widget_rect::questions::empty;
 use widget_rect::questions::order;
 use widget_slices::settled;
 ghost use Prim.Native.Nat.{_≤_};
+ghost use Rattle.data.specs.Limits.{max-widgets};
+
+const WIDGETS: u32 = MAX_WIDGETS as u32;
 
 pub struct Step {
     pub set: WidgetRects,
@@ -36,12 +43,12 @@ fn layer_of(i: u32, layers: u32) -> u32 {
 }
 
 fn place(n: usize) -> usize
-    ensures { λ r. ⌜ r ≤ 1024 ⌝ }
+    ensures { λ r. ⌜ r ≤ max-widgets ⌝ }
 {
-    if n < 1024 {
+    if n < MAX_WIDGETS {
         return n;
     }
-    1024
+    MAX_WIDGETS
 }
 
 // The places of a layer.
@@ -49,17 +56,17 @@ fn span(layers: u32) -> usize {
     if layers == 0 {
         return 0;
     }
-    wide(1024 / layers)
+    wide(WIDGETS / layers)
 }
 
 // Where the slots of a widget's layer start: one array holds those of all layers.
 fn base(i: u32, layers: u32) -> usize
-    ensures { λ r. ⌜ r ≤ 1024 ⌝ }
+    ensures { λ r. ⌜ r ≤ max-widgets ⌝ }
 {
     if layers == 0 {
         return 0;
     }
-    place(wide(i % layers % 1024 * 1024 / layers))
+    place(wide(i % layers % WIDGETS * WIDGETS / layers))
 }
 
 fn widget(i: u32, layers: u32) -> WidgetRect {
@@ -151,7 +158,7 @@ fn digest(
     words: &Words,
     numbers: &Numbers,
     edges: &Edges,
-    slots: [WidgetRect; 1024],
+    slots: [WidgetRect; MAX_WIDGETS],
     widgets: u32,
     layers: u32,
 ) -> u64 {
@@ -159,7 +166,7 @@ fn digest(
     let mut i: u32 = 0;
     while i < widgets {
         let p = position(order(h, words, numbers, edges, id_of(i)));
-        let at = (base(i, layers) + place(p)) % 1024;
+        let at = (base(i, layers) + place(p)) % MAX_WIDGETS;
         let w = slots[at];
         sum = mix(mix(sum, p as u64), w.id);
         i += 1;
@@ -169,11 +176,11 @@ fn digest(
 
 // `times` insertions after a round of new ones. One before that: see interacts.
 pub fn run(times: u32, widgets: u32, layers: u32, mode: u32) -> u64 {
-    let mut words = [77u64; 2080];
-    let mut numbers = [77u32; 5184];
-    let mut edges = [77.0f32; 8192];
+    let mut words = [77u64; WORDS];
+    let mut numbers = [77u32; NUMBERS];
+    let mut edges = [77.0f32; EDGES];
     let first = widget(0, 1);
-    let mut slots = [first; 1024];
+    let mut slots = [first; MAX_WIDGETS];
     let one = next_step(empty(), &mut words, &mut numbers, &mut edges, 0, layers, 0);
     let mut h = one.set;
     let mut i: u32 = 0;

@@ -1,6 +1,8 @@
 // Interacts while the pointer hovers, each from the state that the last one left. An entry's id and sense are two words.
 use crate::sums::long;
 use crate::sums::mix;
+use data::limits::ID_PLACES;
+use data::limits::MAX_HITS;
 use hit_lists::Hit;
 use hit_lists::MaybeHit;
 use id_set::MaybeId;
@@ -10,11 +12,17 @@ use interaction_state::state::Interacted;
 use interaction_state::state::Interaction;
 use interaction_state::state::Seen;
 use pointer_events::CODES;
+use widget_index::table::NUMBERS;
 use widget_index::table::Numbers;
+use widget_index::table::WORDS;
 use widget_index::table::WidgetRects;
 use widget_index::table::Words;
 use widget_index::table::wide;
 ghost use Prim.Native.Nat.{_≤_};
+ghost use Rattle.data.specs.Limits.{max-hits};
+
+// The words of a list of hits: two for each.
+const HITS: usize = 2 * MAX_HITS;
 
 pub struct Going {
     pub interaction: Interaction,
@@ -42,8 +50,8 @@ fn hit(words: &[u32], n: u32) -> MaybeHit {
     MaybeHit::None
 }
 
-fn fill(list: &mut [u64; 128], words: &[u32], n: usize)
-    requires { ⌜ n ≤ 64 ⌝ }
+fn fill(list: &mut [u64; HITS], words: &[u32], n: usize)
+    requires { ⌜ n ≤ max-hits ⌝ }
 {
     let mut i: usize = 0;
     while i < n {
@@ -120,21 +128,21 @@ fn start() -> Going {
     }
 }
 
-fn set_sense(list: &mut [u64; 128], left: u32) {
+fn set_sense(list: &mut [u64; HITS], left: u32) {
     list[1] = (left % 2) as u64;
 }
 
-fn ends(g: Going, top: &[u64; 66], all: &[u64; 66]) -> u64 {
+fn ends(g: Going, top: &[u64; ID_PLACES], all: &[u64; ID_PLACES]) -> u64 {
     mix(mix(g.sum, top[1]), all[2])
 }
 
 fn at_most(n: usize) -> usize
-    ensures { λ r. ⌜ r ≤ 64 ⌝ }
+    ensures { λ r. ⌜ r ≤ max-hits ⌝ }
 {
-    if n < 64 {
+    if n < MAX_HITS {
         return n;
     }
-    64
+    MAX_HITS
 }
 
 fn shorter(n: usize, limit: usize) -> usize
@@ -189,13 +197,13 @@ fn call(
     codes: &[u32; CODES],
     words: &Words,
     numbers: &Numbers,
-    close: &[u64; 128],
-    within: &[u64; 128],
+    close: &[u64; HITS],
+    within: &[u64; HITS],
     n: usize,
     c: MaybeHit,
     d: MaybeHit,
-    top: &mut [u64; 66],
-    all: &mut [u64; 66],
+    top: &mut [u64; ID_PLACES],
+    all: &mut [u64; ID_PLACES],
 ) -> Going {
     call_on(
         g,
@@ -216,13 +224,13 @@ fn call(
 // The first entry's sense changes from call to call, so that no call is the same as the last. One call before the others: what is called at two places
 // stays a function of its own, whose stack can be read off.
 pub fn run(times: u32, given: &[u32], click: u32, drag: u32, told: u32) -> u64 {
-    let mut close = [0u64; 128];
-    let mut within = [0u64; 128];
-    let mut top = [0u64; 66];
-    let mut all = [0u64; 66];
-    let codes = [0u32; 256];
-    let words = [0u64; 2080];
-    let numbers = [0u32; 5184];
+    let mut close = [0u64; HITS];
+    let mut within = [0u64; HITS];
+    let mut top = [0u64; ID_PLACES];
+    let mut all = [0u64; ID_PLACES];
+    let codes = [0u32; CODES];
+    let words = [0u64; WORDS];
+    let numbers = [0u32; NUMBERS];
     let n = at_most(given.len() / 2);
     let m = n * 2;
     fill(&mut close, given, n);

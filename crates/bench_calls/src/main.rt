@@ -6,10 +6,13 @@ mod interacts;
 mod passes;
 mod sums;
 
+use data::limits::MAX_EVENTS;
 use libc::STDOUT_FILENO;
-ghost use Prim.Native.Nat.{_≤_, _<_};
+ghost use Prim.Native.Nat.{_*_, _≤_, _<_};
+ghost use Rattle.data.specs.Limits.{max-events};
 
-const WORDS: usize = 512;
+// The longest feed: an event has at most 8 words.
+const WORDS: usize = 8 * MAX_EVENTS;
 
 pub struct Request {
     pub kind: u32,
@@ -40,7 +43,7 @@ fn next() -> u32 {
 }
 
 fn read(words: &mut [u32; WORDS], count: usize)
-    requires { ⌜ count ≤ 512 ⌝ }
+    requires { ⌜ count ≤ 8 * max-events ⌝ }
 {
     let mut i: usize = 0;
     while i < count {
@@ -50,12 +53,13 @@ fn read(words: &mut [u32; WORDS], count: usize)
 }
 
 fn at_most(n: u32) -> usize
-    ensures { λ r. ⌜ r ≤ 512 ⌝ }
+    ensures { λ r. ⌜ r ≤ 8 * max-events ⌝ }
 {
-    if n < 512 {
-        return n as usize;
+    let m = n as usize;
+    if m < WORDS {
+        return m;
     }
-    512
+    WORDS
 }
 
 fn run(q: Request, words: &[u32]) -> u64 {

@@ -7,13 +7,18 @@ use crate::sums::single;
 use crate::sums::vec2;
 use data::pointer::MaybeF64;
 use emath::pos2::MaybePos2;
+use emath_history::history::MAX_LEN;
+use emath_history::history::PARTS;
 use input_pass::begin::begin_pass;
 use input_state::input::MaybeRect;
 use input_state::input::PassInput;
 use input_state::screen::default_options;
 use input_state::state::InputState;
 use input_state::state::fresh;
+use key_state::keys::PRESSES;
 use key_state::keys::num_presses;
+use pointer_events::CODES;
+use pointer_events::PLACES;
 use pointer_questions::buttons::any_down;
 use touch_questions::any_touches;
 use touch_state::devices::Devices;
@@ -41,7 +46,7 @@ fn of_place(h: u64, p: MaybePos2) -> u64 {
 }
 
 // Of all that a pass leaves.
-pub fn of_state(s: InputState, ds: Devices, presses: &[u8; 145]) -> u64 {
+pub fn of_state(s: InputState, ds: Devices, presses: &[u8; PRESSES]) -> u64 {
     let clock = s.clock;
     let pointer = s.pointer;
     let place = pointer.place;
@@ -75,11 +80,11 @@ pub fn of_state(s: InputState, ds: Devices, presses: &[u8; 145]) -> u64 {
 }
 
 pub fn run(times: u32, feed: &[u32]) -> u64 {
-    let mut stamps = [0.0f64; 1000];
-    let mut positions = [0.0f32; 2000];
-    let mut codes = [0u32; 256];
-    let mut places = [0.0f32; 128];
-    let mut presses = [0u8; 145];
+    let mut stamps = [0.0f64; MAX_LEN];
+    let mut positions = [0.0f32; PARTS];
+    let mut codes = [0u32; CODES];
+    let mut places = [0.0f32; PLACES];
+    let mut presses = [0u8; PRESSES];
     let mut s = fresh();
     let mut ds = none();
     let i = input();
