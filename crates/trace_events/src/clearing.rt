@@ -1,6 +1,13 @@
 // Whether a feed is that of a clearing pass: "End for each touch held ..; release of buttons 0 to 4 at one position; one relative motion; wheel End;
 // focus lost; pointer gone". Which touches are held is not looked at.
 use crate::events::next_place;
+use data::kinds::BUTTON_KIND;
+use data::kinds::FOCUS_KIND;
+use data::kinds::GONE_KIND;
+use data::kinds::KIND_UNIT;
+use data::kinds::MOTION_KIND;
+use data::kinds::TOUCH_KIND;
+use data::kinds::WHEEL_KIND;
 use trace_words::request::at;
 
 // The parts in their order: Ends, the five releases, motion, wheel End, focus lost, pointer gone.
@@ -47,13 +54,13 @@ fn release_of(head: u32) -> u32 {
 
 // The part that an event is, by its first word.
 fn part_of(head: u32) -> u32 {
-    match head / 0x1000_0000 {
-        4 => MOTION,
-        5 => release_of(head),
-        6 => POINTER_GONE,
-        9 => part_if(head % 4 == 2, ENDS),
-        10 => part_if(head / 128 % 4 == 2, WHEEL_END),
-        11 => part_if(head % 2 == 0, FOCUS_LOST),
+    match head / KIND_UNIT {
+        MOTION_KIND => MOTION,
+        BUTTON_KIND => release_of(head),
+        GONE_KIND => POINTER_GONE,
+        TOUCH_KIND => part_if(head % 4 == 2, ENDS),
+        WHEEL_KIND => part_if(head / 128 % 4 == 2, WHEEL_END),
+        FOCUS_KIND => part_if(head % 2 == 0, FOCUS_LOST),
         _ => OTHER,
     }
 }

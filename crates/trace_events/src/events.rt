@@ -8,6 +8,18 @@ use crate::fields::pressed;
 use crate::fields::source;
 use crate::fields::two_floats;
 use crate::fields::unit;
+use data::kinds::BUTTON_KIND;
+use data::kinds::FOCUS_KIND;
+use data::kinds::GONE_KIND;
+use data::kinds::KEY_KIND;
+use data::kinds::KIND_UNIT;
+use data::kinds::MODIFIERS_KIND;
+use data::kinds::MOTION_KIND;
+use data::kinds::MOVED_KIND;
+use data::kinds::ROTATE_KIND;
+use data::kinds::TOUCH_KIND;
+use data::kinds::WHEEL_KIND;
+use data::kinds::ZOOM_KIND;
 use feed::split::following;
 use trace_output::output::Buffer;
 use trace_output::output::bytes;
@@ -88,11 +100,11 @@ fn number(out: &mut Buffer, n: usize, what: &[u8], e: &[u32]) -> usize {
 // Kinds 7 and up.
 fn from_zoom(out: &mut Buffer, n: usize, kind: u32, low: u32, e: &[u32]) -> usize {
     match kind {
-        7 => number(out, n, b"zoom by ", e),
-        8 => number(out, n, b"rotate by ", e),
-        9 => touch(out, n, low, e),
-        10 => wheel(out, n, low, e),
-        11 => focus(out, n, low),
+        ZOOM_KIND => number(out, n, b"zoom by ", e),
+        ROTATE_KIND => number(out, n, b"rotate by ", e),
+        TOUCH_KIND => touch(out, n, low, e),
+        WHEEL_KIND => wheel(out, n, low, e),
+        FOCUS_KIND => focus(out, n, low),
         _ => bytes(out, n, b"another event"),
     }
 }
@@ -100,15 +112,15 @@ fn from_zoom(out: &mut Buffer, n: usize, kind: u32, low: u32, e: &[u32]) -> usiz
 // The event whose words `e` starts with.
 fn event(out: &mut Buffer, n: usize, e: &[u32]) -> usize {
     let head = at(e, 0);
-    let low = head % 0x1000_0000;
-    let kind = head / 0x1000_0000;
+    let low = head % KIND_UNIT;
+    let kind = head / KIND_UNIT;
     match kind {
-        1 => key(out, n, low),
-        2 => modifiers(out, n, low),
-        3 => floats(out, n, b"pointer moved to ", e),
-        4 => floats(out, n, b"motion by ", e),
-        5 => button(out, n, low, e),
-        6 => bytes(out, n, b"pointer gone"),
+        KEY_KIND => key(out, n, low),
+        MODIFIERS_KIND => modifiers(out, n, low),
+        MOVED_KIND => floats(out, n, b"pointer moved to ", e),
+        MOTION_KIND => floats(out, n, b"motion by ", e),
+        BUTTON_KIND => button(out, n, low, e),
+        GONE_KIND => bytes(out, n, b"pointer gone"),
         _ => from_zoom(out, n, kind, low, e),
     }
 }
