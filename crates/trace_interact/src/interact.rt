@@ -3,6 +3,7 @@ use hit_lists::Hit;
 use hit_lists::MaybeHit;
 use interaction_state::state::Interacted;
 use interaction_state::state::InteractionSnapshot;
+use key_state::keys::PRESSES;
 use panel::state::Panel;
 use panel::state::after_interact;
 use pointer_events::CODES;
@@ -144,7 +145,7 @@ fn interact_with(
     p: Panel,
     set: WidgetRects,
     codes: &[u32; CODES],
-    presses: &[u8; 145],
+    presses: &[u8; PRESSES],
     words: &Words,
     numbers: &Numbers,
     w: &[u32],
@@ -193,7 +194,7 @@ fn interact_in(
     p: Panel,
     set: WidgetRects,
     codes: &[u32; CODES],
-    presses: &[u8; 145],
+    presses: &[u8; PRESSES],
     words: &Words,
     numbers: &Numbers,
     w: &[u32],
@@ -227,7 +228,7 @@ pub fn interact(
     p: Panel,
     set: WidgetRects,
     codes: &[u32; CODES],
-    presses: &[u8; 145],
+    presses: &[u8; PRESSES],
     words: &Words,
     numbers: &Numbers,
     w: &[u32],

@@ -1,5 +1,6 @@
 // The panel and the widget set between two calls; the lent arrays stand beside them.
 use input_pass::begin::Begun;
+use key_state::keys::PRESSES;
 use panel::state::Panel;
 use panel::state::after_pass;
 use panel::widgets::empty;
@@ -27,7 +28,7 @@ pub struct Step {
 }
 
 // A fresh panel and an empty set. The lent presses are cleared.
-pub fn fresh(presses: &mut [u8; 145]) -> Machine
+pub fn fresh(presses: &mut [u8; PRESSES]) -> Machine
     ensures { λ r. ⌜ Starts (now (presses .exit)) r ⌝ }
 {
     let panel = panel::state::fresh(presses);
@@ -66,7 +67,7 @@ fn reset_reply(words: usize) -> Reply
 }
 
 // RESET: a fresh machine. Refused, the presses are as before.
-pub fn reset(m: Machine, presses: &mut [u8; 145], w: &[u32]) -> Step
+pub fn reset(m: Machine, presses: &mut [u8; PRESSES], w: &[u32]) -> Step
     ensures { λ r. ⌜ Resets m (now (w .entry)) (now (presses .entry)) (now (presses .exit)) r ⌝ }
 {
     let reply = reset_reply(w.len());

@@ -6,6 +6,7 @@ use crate::machine::passed;
 use crate::machine::refused;
 use emath_history::history::MAX_LEN;
 use emath_history::history::PARTS;
+use key_state::keys::PRESSES;
 use pointer_events::CODES;
 use pointer_events::PLACES;
 use trace_words::request::PASS_WORDS;
@@ -19,7 +20,7 @@ pub fn pass(
     positions: &mut [f32; PARTS],
     codes: &mut [u32; CODES],
     places: &mut [f32; PLACES],
-    presses: &mut [u8; 145],
+    presses: &mut [u8; PRESSES],
     a: &mut Answer,
     w: &[u32],
 ) -> Step
