@@ -8,6 +8,7 @@ use pointer_events::PLACES;
 use trace_answers::ask::ask;
 use trace_answers::dump::dump;
 use trace_interact::interact::interact;
+use trace_kernel::kernel::kernel;
 use trace_machine::machine::Machine;
 use trace_machine::machine::Step;
 use trace_machine::machine::kept;
@@ -21,6 +22,7 @@ use trace_text::calls::CLEAR_WIDGETS;
 use trace_text::calls::DUMP;
 use trace_text::calls::INSERT;
 use trace_text::calls::INTERACT;
+use trace_text::calls::KERNEL;
 use trace_text::calls::PASS;
 use trace_text::calls::RESET;
 use trace_text::calls::SET_TALLY;
@@ -149,7 +151,7 @@ fn dumped(
     taken(widgets(a, n, set, words, numbers, edges, lent))
 }
 
-// The calls that change no input.
+// The calls that change no input. A new one is an arm here.
 fn change(
     m: Machine,
     times: &[f64; MAX_LEN],
@@ -192,6 +194,7 @@ fn change(
             ),
         ),
         SET_TALLY => set_tally(m, w),
+        KERNEL => kernel(m, a, w),
         _ => kept(m, malformed()),
     }
 }

@@ -10,6 +10,7 @@ use Rattle.input_state.specs.View.{Lent}
 use Rattle.input_pass.specs.declared.begin.Begun.{Begun}
 use Rattle.input_pass.specs.Begun as Contract
 use Rattle.widget_index.specs.declared.table.WidgetRects.{WidgetRects}
+use Rattle.kernel_touch.specs.declared.slots.KernelTouches.{KernelTouches}
 use Rattle.panel.specs.declared.state.Panel.{Panel}
 use Rattle.trace_words.specs.declared.reply.Reply.{Reply}
 use Rattle.trace_machine.specs.declared.machine.Machine.{Machine}
@@ -35,5 +36,5 @@ pub carried : {i j : PassInput} {f g : List ℕ} {l l' : Lent} {s : InputState} 
 carried p q h = rw (← p, ← q) h
 
 -- machines with equal panels
-pub same-panel : {p q : Panel} {s : WidgetRects} → p ≡ q → machine p s ≡ machine q s
+pub same-panel : {p q : Panel} {s : WidgetRects} {k : KernelTouches} → p ≡ q → machine p s k ≡ machine q s k
 same-panel e = rw e

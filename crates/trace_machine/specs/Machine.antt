@@ -7,6 +7,8 @@ use mathlib.Core.Option.{none}
 use lib.Dec.{eqb}
 use lib.ListN.{length, drop}
 use Rattle.survey.specs.Survey.{option}
+use Rattle.kernel_touch.specs.declared.slots.KernelTouches.{KernelTouches}
+use Rattle.kernel_touch.specs.Slots as Slots
 use Rattle.widget_index.specs.declared.table.WidgetRects.{WidgetRects}
 use Rattle.widget_rect.specs.Questions.{Empty}
 use Rattle.input_state.specs.View.{Lent}
@@ -19,8 +21,18 @@ use Rattle.trace_machine.specs.declared.machine.Machine.{Machine}
 use Rattle.trace_machine.specs.declared.machine.Step.{Step}
 use Rattle.trace_machine.specs.Given.{pass-words, pass-input}
 
-abbrev pub machine : Panel → WidgetRects → Machine
-machine p s = record { panel = p; «set» = s }
+abbrev pub machine : Panel → WidgetRects → KernelTouches → Machine
+machine p s k = record { panel = p; «set» = s; kernel = k }
+
+-- another panel, set or slots
+abbrev pub with-panel : Machine → Panel → Machine
+with-panel m p = machine p (m .«set») (m .kernel)
+
+abbrev pub with-set : Machine → WidgetRects → Machine
+with-set m s = machine (m .panel) s (m .kernel)
+
+abbrev pub with-kernel : Machine → KernelTouches → Machine
+with-kernel m k = machine (m .panel) (m .«set») k
 
 abbrev pub step : Machine → Reply → Step
 step m reply = record { machine = m; reply = reply }
@@ -31,10 +43,11 @@ stepped m after reply = step (cond (eqb (reply .code) 0) after m) reply
 
 -- ---- RESET
 
--- a fresh panel over these presses, and an empty set
+-- a fresh panel over these presses, an empty set and empty slots
 pub record Starts (presses : List ℕ) (m : Machine) : Type 0 where
   pub fresh-panel : Fresh presses (m .panel)
   pub empty-set : Empty (m .«set»)
+  pub empty-slots : m .kernel ≡ Slots.fresh
 
 pub record Resets (m : Machine) (w presses presses' : List ℕ) (r : Step) : Type 0 where
   -- with any word it is refused: the machine and every place of the presses are as before
@@ -48,14 +61,14 @@ pub record Resets (m : Machine) (w presses presses' : List ℕ) (r : Step) : Typ
 pub record AfterPass (m : Machine) (b : Begun) (r : Step) : Type 0 where
   -- the call is refused only where the pass is
   pub refused : (r .reply .code ≡ 0 → ⊥) → (option (b .refusal) ≡ none → ⊥) × (r .machine ≡ m)
-  pub taken : r .reply .code ≡ 0 → r .machine ≡ machine (after-pass (m .panel) b) (m .«set»)
+  pub taken : r .reply .code ≡ 0 → r .machine ≡ with-panel m (after-pass (m .panel) b)
 
 -- a pass of what the words say, over the lent arrays l, which are l' after it: the machine then is `after`
 pub record TakesPass (m : Machine) (w : List ℕ) (l l' : Lent) (after : Machine) : Type 0 where
   -- what panel's `pass` returned, by its contract
   pub begun : Begun
   pub is-begun : Contract.Begun (pass-input w) (drop pass-words w) l (m .panel .input) (m .panel .devices) l' begun
-  pub machine-is : after ≡ machine (after-pass (m .panel) begun) (m .«set»)
+  pub machine-is : after ≡ with-panel m (after-pass (m .panel) begun)
 
 pub record Passes (m : Machine) (w : List ℕ) (l l' : Lent) (r : Step) : Type 0 where
   -- refused, by its format or by the pass: the machine and every place of the lent arrays are as before

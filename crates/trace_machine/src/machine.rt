@@ -1,5 +1,6 @@
-// The panel and the widget set between two calls; the lent arrays stand beside them.
+// The panel, the widget set and the kernel's slots between two calls; the lent arrays stand beside them.
 use input_pass::begin::Begun;
+use kernel_touch::slots::KernelTouches;
 use key_state::keys::PRESSES;
 use panel::state::Panel;
 use panel::state::after_pass;
@@ -14,11 +15,12 @@ use widget_index::table::WidgetRects;
 ghost use mathlib.Core.Option.{none};
 ghost use mathlib.Core.Path.{_≡_};
 ghost use Rattle.survey.specs.Survey.{option};
-ghost use Rattle.trace_machine.specs.Machine.{machine, step, stepped, Starts, Resets, AfterPass};
+ghost use Rattle.trace_machine.specs.Machine.{with-panel, with-set, with-kernel, step, stepped, Starts, Resets, AfterPass};
 
 pub struct Machine {
     pub panel: Panel,
     pub set: WidgetRects,
+    pub kernel: KernelTouches,
 }
 
 // What a call makes of the machine, and its answer.
@@ -27,13 +29,14 @@ pub struct Step {
     pub reply: Reply,
 }
 
-// A fresh panel and an empty set. The lent presses are cleared.
+// A fresh panel, an empty set and empty slots. The lent presses are cleared.
 pub fn fresh(presses: &mut [u8; PRESSES]) -> Machine
     ensures { λ r. ⌜ Starts (now (presses .exit)) r ⌝ }
 {
     let panel = panel::state::fresh(presses);
     let set = empty();
-    Machine { panel, set }
+    let kernel = kernel_touch::slots::fresh();
+    Machine { panel, set, kernel }
 }
 
 // A call that is refused leaves the machine `m` as it was.
@@ -92,10 +95,9 @@ pub fn passed(m: Machine, a: &mut Answer, begun: Begun) -> Step
     ensures { λ r. ⌜ AfterPass m begun r ⌝ }
 {
     let p = m.panel;
-    let set = m.set;
     let refusal = begun.refusal;
     let panel = after_pass(p, begun);
-    stepped(m, Machine { panel, set }, pass_answer(a, refusal))
+    stepped(m, Machine { panel, ..m }, pass_answer(a, refusal))
 }
 
 // The answer alone.
@@ -107,21 +109,26 @@ pub fn kept(m: Machine, reply: Reply) -> Step
 }
 
 pub fn with_set(m: Machine, set: WidgetRects, reply: Reply) -> Step
-    ensures { λ r. ⌜ r ≡ step (machine (m .panel) «set») reply ⌝ }
+    ensures { λ r. ⌜ r ≡ step (with-set m «set») reply ⌝ }
 {
-    let panel = m.panel;
     Step {
-        machine: Machine { panel, set },
+        machine: Machine { set, ..m },
         reply,
     }
 }
 
 pub fn with_panel(m: Machine, panel: Panel, reply: Reply) -> Step
-    ensures { λ r. ⌜ r ≡ step (machine panel (m .«set»)) reply ⌝ }
+    ensures { λ r. ⌜ r ≡ step (with-panel m panel) reply ⌝ }
 {
-    let set = m.set;
     Step {
-        machine: Machine { panel, set },
+        machine: Machine { panel, ..m },
         reply,
     }
+}
+
+// Refused, the machine before.
+pub fn with_kernel(m: Machine, kernel: KernelTouches, reply: Reply) -> Step
+    ensures { λ r. ⌜ r ≡ stepped m (with-kernel m kernel) reply ⌝ }
+{
+    stepped(m, Machine { kernel, ..m }, reply)
 }

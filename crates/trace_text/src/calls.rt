@@ -15,3 +15,5 @@ pub const ASK: u32 = 5;
 pub const DUMP: u32 = 6;
 
 pub const SET_TALLY: u32 = 8;
+
+pub const KERNEL: u32 = 9;

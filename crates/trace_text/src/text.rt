@@ -4,10 +4,13 @@ use crate::calls::CLEAR_WIDGETS;
 use crate::calls::DUMP;
 use crate::calls::INSERT;
 use crate::calls::INTERACT;
+use crate::calls::KERNEL;
 use crate::calls::PASS;
 use crate::calls::RESET;
+use crate::calls::SET_TALLY;
 use trace_events::clearing::is_clearing;
 use trace_events::events::event_count;
+use trace_events::events::events;
 use trace_output::output::Buffer;
 use trace_output::output::aligned;
 use trace_output::output::byte;
@@ -17,7 +20,6 @@ use trace_words::reply::Reply;
 use trace_words::request::PASS_WORDS;
 use trace_words::request::at;
 use trace_words::request::id;
-ghost use Prim.Native.Nat.{_≤_};
 
 // Calls so far; drags started and stopped since the panel was fresh, and how many go on, 0 or 1.
 pub struct Tally {
@@ -70,36 +72,23 @@ fn time(out: &mut Buffer, n: usize, t: f64) -> usize {
     bytes(out, m, b"  ")
 }
 
-// A call's number, or 9 for one that is unknown.
-fn known(kind: u32) -> usize
-    ensures { λ r. ⌜ r ≤ 9 ⌝ }
-{
-    if kind < 9 {
-        return kind as usize;
-    }
-    9
-}
-
-// The k-th of names that take ten bytes each.
-fn name_of(out: &mut Buffer, n: usize, names: &[u8], k: usize) -> usize
-    requires { ⌜ k ≤ 9 ⌝ }
-{
-    let from = k * 10;
-    let to = from + 10;
-    if names.len() < to {
-        return n;
-    }
-    bytes(out, n, &names[from..to])
-}
-
 // The call, wide enough for what follows it.
 fn name(out: &mut Buffer, n: usize, kind: u32) -> usize {
-    let names =
-        b"reset     pass      insert    clear     interact  ask       dump      ?         set tally ?         ";
-    name_of(out, n, names, known(kind))
+    match kind {
+        RESET => bytes(out, n, b"reset     "),
+        PASS => bytes(out, n, b"pass      "),
+        INSERT => bytes(out, n, b"insert    "),
+        CLEAR_WIDGETS => bytes(out, n, b"clear     "),
+        INTERACT => bytes(out, n, b"interact  "),
+        ASK => bytes(out, n, b"ask       "),
+        DUMP => bytes(out, n, b"dump      "),
+        SET_TALLY => bytes(out, n, b"set tally "),
+        KERNEL => bytes(out, n, b"kernel    "),
+        _ => bytes(out, n, b"?         "),
+    }
 }
 
-// What 01's table says of a refusal.
+// What 01's table, with 02's numbers, says of a refusal.
 fn meaning(out: &mut Buffer, n: usize, code: u32) -> usize {
     match code {
         1 => bytes(out, n, b"unknown kind, field or stray bit, or cut short"),
@@ -115,9 +104,15 @@ fn meaning_from_6(out: &mut Buffer, n: usize, code: u32) -> usize {
     match code {
         6 => bytes(out, n, b"no place for a widget or layer"),
         7 => bytes(out, n, b"the widget is known on another layer"),
-        8 => bytes(out, n, b"an id buffer or a lent slice is too short"),
+        8 => bytes(
+            out,
+            n,
+            b"an id buffer, a lent slice or a feed buffer is too short",
+        ),
         9 => bytes(out, n, b"an id of 0"),
         10 => bytes(out, n, b"the tally of drag starts is full"),
+        11 => bytes(out, n, b"the length is no multiple of 24 bytes"),
+        12 => bytes(out, n, b"a slot outside 0 to 9"),
         _ => bytes(out, n, b"no such call, or its words do not fit it; skipped"),
     }
 }
@@ -154,26 +149,62 @@ fn is_clearing_pass(w: &[u32], feed: &[u32]) -> bool {
     is_clearing(feed)
 }
 
-// How many events there are, and each of them below.
-fn counted_events(out: &mut Buffer, n: usize, w: &[u32], feed: &[u32]) -> usize {
-    let k = event_count(feed);
+// So many of what is named, in the plural unless it is one.
+fn several(out: &mut Buffer, n: usize, k: u64, name: &[u8]) -> usize {
     let mut m = decimal(out, n, k);
+    m = byte(out, m, b' ');
+    m = bytes(out, m, name);
     if k == 1 {
-        m = bytes(out, m, b" event");
-        return trace_events::events::events(out, m, feed);
+        return m;
     }
-    m = bytes(out, m, b" events");
+    byte(out, m, b's')
+}
+
+// How many events there are, and each of them below.
+fn passed(out: &mut Buffer, n: usize, w: &[u32], feed: &[u32]) -> usize {
+    let mut m = several(out, n, event_count(feed), b"event");
     if is_clearing_pass(w, feed) {
         m = bytes(out, m, b", a clearing pass");
     }
-    trace_events::events::events(out, m, feed)
+    events(out, m, feed)
 }
 
-fn events(out: &mut Buffer, n: usize, w: &[u32]) -> usize {
+fn pass(out: &mut Buffer, n: usize, w: &[u32]) -> usize {
     if w.len() < PASS_WORDS {
         return n;
     }
-    counted_events(out, n, w, &w[PASS_WORDS..])
+    passed(out, n, w, &w[PASS_WORDS..])
+}
+
+// Words of a KERNEL's answer before the feed's: whether a 'dropped' was among the records, and how many words were written.
+const ANSWER_HEAD: usize = 2;
+
+const RECORD_BYTES: u32 = 24;
+
+fn written(out: &mut Buffer, n: usize, dropped: u32, feed: &[u32]) -> usize {
+    let mut m = several(out, n, event_count(feed), b"event");
+    if dropped != 0 {
+        m = bytes(out, m, b", records were dropped");
+    }
+    events(out, m, feed)
+}
+
+fn wide(x: u32) -> usize {
+    x as usize
+}
+
+// How many records there were, how many events they gave, and each of these below.
+fn kernel(out: &mut Buffer, n: usize, a: &[u32], w: &[u32]) -> usize {
+    let mut m = several(out, n, (at(w, 3) / RECORD_BYTES) as u64, b"record");
+    m = bytes(out, m, b", ");
+    let words = wide(at(a, 1));
+    if a.len() < ANSWER_HEAD {
+        return m;
+    }
+    if a.len() - ANSWER_HEAD < words {
+        return m;
+    }
+    written(out, m, at(a, 0), &a[ANSWER_HEAD..words + ANSWER_HEAD])
 }
 
 // What was done to a widget, if to any.
@@ -241,7 +272,11 @@ fn taken(out: &mut Buffer, n: usize, a: &[u32], kind: u32, w: &[u32], t: Tally) 
     match kind {
         PASS => {
             let m = name(out, n, kind);
-            events(out, m, w)
+            pass(out, m, w)
+        }
+        KERNEL => {
+            let m = name(out, n, kind);
+            kernel(out, m, a, w)
         }
         INSERT => {
             let m = name(out, n, kind);

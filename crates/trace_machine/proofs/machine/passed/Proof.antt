@@ -19,7 +19,7 @@ returns c =
     let e = c .stepped .ensures in
     record {
       refused = λ is-not. (λ none. is-not (same-code _ _ _ _ e ∙ c .before .pass-answer .ensures none), when-refused _ _ _ _ e is-not);
-      taken = λ is. when-taken _ _ _ _ e is ∙ same-panel (c .before .before .before .after-pass .ensures);
+      taken = λ is. when-taken _ _ _ _ e is ∙ same-panel (c .before .before .before .before .before .after-pass .ensures);
     }
 
 pub passed-spec : {M : Type 1} → statement M
