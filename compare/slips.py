@@ -15,7 +15,7 @@ MOD, WHEEL = ('egui-src/src/input_state/%s.rs' % f for f in ('mod', 'wheel_state
 # the copy that is built: see build.sh
 TOUCH = 'egui-src/wrap/input_state/touch_state.rs'
 ACT, RECT = 'egui-src/src/interaction.rs', 'egui-src/src/widget_rect.rs'
-EMATH, DOMAIN, PANEL, WORDS = 'src/shim/emath_types.rs', 'src/domain.rs', 'src/panel.rs', 'src/words.rs'
+EMATH, DOMAIN, PANEL, WORDS, KERNEL = 'src/shim/emath_types.rs', 'src/domain.rs', 'src/panel.rs', 'src/words.rs', 'src/kernel.rs'
 
 # name, file, what stands there, what stands there after the slip
 SLIPS = [
@@ -118,6 +118,23 @@ SLIPS = [
     ('a refused start changes the potential ids', PANEL, '                    return refuse(10);', '                    self.interaction = interaction;\n                    return refuse(10);'),
     # 02
     ('a call that is not landed is answered', WORDS, '_ if !exists(call, level) => Err(MALFORMED),', '_ if !exists(call, LAST_LEVEL) => Err(MALFORMED),'),
+    # A.1
+    ('kernel: Start before End', KERNEL,
+     '    if before.id != -1 {\n        e.extend(touch(2, device, before.id, now));\n    }\n    if now.id != -1 {\n        e.extend(touch(0, device, now.id, now));\n    }',
+     '    if now.id != -1 {\n        e.extend(touch(0, device, now.id, now));\n    }\n    if before.id != -1 {\n        e.extend(touch(2, device, before.id, now));\n    }'),
+    ('kernel: End at the old position', KERNEL, 'touch(2, device, before.id, now)', 'touch(2, device, before.id, before)'),
+    ('kernel: y from x', KERNEL, '(at.x as f32, at.y as f32)', '(at.x as f32, at.x as f32)'),
+    ('kernel: a skipped slot is refused', KERNEL, '                k.skipping = !report_end;', '                if kind == 3 && code == 0x2F && value >= slots as i32 {\n                    return refuse(12);\n                }\n                k.skipping = !report_end;'),
+    ('kernel: a skipped slot is chosen', KERNEL, '                k.skipping = !report_end;', '                if kind == 3 && code == 0x2F && value >= 0 && value < slots as i32 {\n                    k.chosen = value as usize;\n                }\n                k.skipping = !report_end;'),
+    ('kernel: a skipped report end is acted on', KERNEL, '                k.skipping = !report_end;\n                continue;', '                k.skipping = !report_end;\n                if !report_end {\n                    continue;\n                }'),
+    ('kernel: dropped is forgotten at the end of a call', KERNEL, '        *self = k;', '        k.skipping = false;\n        *self = k;'),
+    ('kernel: a dropped in a skipped part is not answered', KERNEL, 'out.dropped |= dropped;', 'out.dropped |= dropped && !k.skipping;'),
+    ('kernel: a report end does not settle', KERNEL, '                k.acted = k.now;', ''),
+    ('kernel: 65,536 is refused', KERNEL, 'value <= 65_536;', 'value < 65_536;'),
+    ('kernel: slot 10 is taken', KERNEL, '0x2F if value < 0 || value >= slots as i32', '0x2F if value < 0 || value > slots as i32'),
+    ('kernel: a refused call keeps its slots', KERNEL, '=> return refuse(12),', '=> {\n                        *self = k;\n                        return refuse(12);\n                    }'),
+    ('kernel: a full buffer is refused', KERNEL, 'out.feed.len() + events.len() > places', '!events.is_empty() && out.feed.len() + events.len() >= places'),
+    ('kernel: a lifted finger loses its position', KERNEL, '0x39 => k.now[k.chosen].id = value,', '0x39 if value == -1 => k.now[k.chosen] = EMPTY,\n                    0x39 => k.now[k.chosen].id = value,'),
 ]
 # slips after which a clearing pass no longer makes two panels alike
 UNCLEARED = ['focus lost keeps the keys', 'focus lost keeps the modifiers', 'End keeps what is unprocessed', 'a press keeps "moved too much"', 'motion stays']

@@ -46,30 +46,86 @@ impl Maker {
         }
     }
 
+    /// A touch panel's records, call after call; what they give goes into passes now and then.
+    pub fn kernel(&mut self) {
+        self.fresh(12);
+        for _ in 0..self.rng().pick(&[2, 6, 20]) {
+            let w = self.kernel_words();
+            let at = self.record(KERNEL, &w);
+            let a = self.answers.get(at..).unwrap_or(&[]);
+            if a.len() > 3 && a[0] >> 24 == 0 && self.s.rng.once_in(8) {
+                let feed = a[3..].to_vec();
+                self.soon(&feed);
+            }
+        }
+    }
+
     /// Device, places, bytes; then records of 24 bytes, six words each: a time, type and code, the value.
     fn kernel_words(&mut self) -> Vec<u32> {
-        let mut w = vec![self.rng().pick(&[1, 7]), 0, self.rng().pick(&[0, 7, 13, 14, 448, 1000]), 0];
-        let records = self.rng().below(12) as u32;
+        let mut w = vec![self.rng().pick(&[1, 1, 7, u32::MAX]), self.rng().pick(&[0, 0, 0, 1]), 0, 0];
+        let records = self.rng().pick(&[0, 1, 2, 3, 5, 8, 13, 30]);
+        let damaged = self.rng().once_in(4);
         for _ in 0..records {
-            let (kind, code, value) = self.kernel_record();
+            let (kind, code, value) = if damaged { self.kernel_record() } else { self.finger_record() };
             w.extend([self.s.rng.word() as u32, 0, 5, 0, kind | code << 16, value as u32]);
         }
         w[3] = 24 * records;
-        // a length that is no multiple of 24
-        if self.rng().once_in(8) {
-            w[3] += 4;
-            w.push(0);
+        w[2] = self.kernel_places(&w);
+        if self.rng().once_in(12) {
+            self.damage_length(&mut w);
         }
         w
+    }
+
+    /// Places about those that the records take; or some number.
+    fn kernel_places(&mut self, w: &[u32]) -> u32 {
+        let (slots, mut k) = (self.s.stream.panel.limits().slots, self.s.stream.kernel.clone());
+        let bytes: Vec<u8> = w[4..].iter().flat_map(|x| x.to_le_bytes()).collect();
+        let n = k.convert(slots, 1, usize::MAX, &bytes).map_or(14, |c| c.feed.len() as u32);
+        self.rng().pick(&[n, n, n, n + 1, n.saturating_sub(1), n.saturating_sub(7), 448, 448, 1000, 0, 7, 13, 14, u32::MAX])
+    }
+
+    /// A length that is no multiple of 24, or words that are too many or too few.
+    fn damage_length(&mut self, w: &mut Vec<u32>) {
+        match self.rng().below(6) {
+            0 => {
+                w[3] += 4;
+                w.push(0);
+            }
+            1 => {
+                w[3] += 1;
+                w.push(0x7F);
+            }
+            2 if w[3] > 0 => w[3] -= 1,
+            3 => w[3] = self.rng().pick(&[4_294_967_295, 98_305, 24]),
+            4 => w.push(0),
+            _ => {
+                w.pop();
+            }
+        }
+    }
+
+    /// Fingers on a few slots; now and then a 'dropped' or a record that is skipped.
+    fn finger_record(&mut self) -> (u32, u32, i32) {
+        let rng = self.rng();
+        match rng.below(16) {
+            0..=2 => (3, 0x2F, rng.pick(&[0, 0, 1, 1, 2, 9])),
+            3..=5 => (3, 0x35, rng.pick(&[0, 1, 100, 640, -1, 65_536, -65_536])),
+            6 | 7 => (3, 0x36, rng.pick(&[0, 1, 100, 480, -1, 65_536, -65_536])),
+            8..=10 => (3, 0x39, rng.pick(&[0, 1, 2, 40, -1, -1, -1, i32::MAX])),
+            11 if rng.once_in(2) => (0, 3, 0),
+            12 => (rng.pick(&[0, 1, 2, 3, 3, 4, 0x103]), rng.pick(&[1, 2, 0x30, 0x37, 0x3A, 0x14A, 0x135]), 70_000),
+            _ => (0, 0, rng.pick(&[0, 0, 1, -1])),
+        }
     }
 
     fn kernel_record(&mut self) -> (u32, u32, i32) {
         let rng = self.rng();
         match rng.below(12) {
             0 | 1 => (3, 0x2F, rng.pick(&[0, 0, 1, 2, 9, 9, 10, 15, 16, -1])),
-            2 | 3 => (3, 0x35, rng.pick(&[0, 100, 640, -1, 65_536, -65_536, 65_537])),
-            4 | 5 => (3, 0x36, rng.pick(&[0, 100, 480, -1, 65_536, -65_536, -65_537])),
-            6 | 7 => (3, 0x39, rng.pick(&[0, 1, 2, 40, -1, -1, i32::MAX, -2])),
+            2 | 3 => (3, 0x35, rng.pick(&[0, 100, 640, -1, 65_536, -65_536, 65_537, i32::MIN])),
+            4 | 5 => (3, 0x36, rng.pick(&[0, 100, 480, -1, 65_536, -65_536, -65_537, i32::MAX])),
+            6 | 7 => (3, 0x39, rng.pick(&[0, 1, 2, 40, -1, -1, i32::MAX, -2, i32::MIN])),
             8 => (rng.pick(&[1, 3]), rng.pick(&[0x14A, 0x3A]), 1),
             9 if rng.once_in(3) => (0, 3, 0),
             _ => (0, 0, rng.pick(&[0, 0, 1])),

@@ -165,7 +165,7 @@ pub mod containers {
 }
 
 /// The requests of 02 that are landed: A.1 to A.LEVEL. Each landing raises it by one.
-pub const LEVEL: u32 = 0;
+pub const LEVEL: u32 = 1;
 
 // ---------------------------------------------------------------------------
 // The driver, with 02's requests, and the requests that are made:
@@ -180,6 +180,8 @@ pub mod edges;
 pub mod exponential;
 pub mod hands;
 pub mod kernel;
+pub mod kernel_edges;
+pub mod kernel_met;
 pub mod later;
 pub mod limits;
 pub mod lists;

@@ -3,7 +3,7 @@ use crate::aimed::{Aimed, DIRECTIONS, Rng, nudge, nudge32, put, some_options};
 use crate::lists::Twin;
 use crate::met::Met;
 use crate::panel::{Hits, Pass, Widget};
-use crate::words::{self, ASK, DUMP, INSERT, INTERACT, PASS, RESET, RESTORE, RESTORE_LAST, SET_TALLY};
+use crate::words::{self, ASK, DUMP, INSERT, INTERACT, KERNEL, PASS, RESET, RESTORE, RESTORE_LAST, SET_TALLY};
 use crate::{Pos2, domain};
 
 /// What one trace of `replay` may hold, in words.
@@ -65,7 +65,11 @@ impl Maker {
         }
         self.requests.push(call << 24 | w.len() as u32);
         self.requests.extend_from_slice(w);
+        let kernel = (call == KERNEL).then(|| self.s.stream.kernel.clone());
         words::answer(&mut self.s.stream, call, w, &mut self.answers);
+        if let Some(before) = kernel {
+            self.met.kernel(&before, &self.s.stream.panel, w, &self.answers[at..]);
+        }
         self.met.count(&self.s.stream.panel, call, w, &self.answers[at..]);
         self.s.time = self.s.stream.panel.input.time;
         at

@@ -1,5 +1,7 @@
 //! What a run has met: calls by kind and answer, events by their fields, and the aims of the issue.
 use crate::input_state::PointerEvent;
+use crate::kernel::Kernel;
+use crate::kernel_met;
 use crate::panel::Panel;
 use crate::words::CALLS;
 use crate::{LEVEL, domain, words};
@@ -16,6 +18,8 @@ pub const SOURCES: [&str; 4] = ["Unknown", "Wheel", "Trackpad", "Momentum"];
 const NOT_LANDED: &str = "a call that is not landed";
 /// The place of all calls that FORMAT.md doesn't have.
 const UNKNOWN: usize = CALLS.len();
+
+const KERNEL_ANSWERS: [usize; 6] = [0, 2, 8, 11, 12, 255];
 
 /// What a run of ten traces or more must meet.
 const AIMS: [&str; 36] = [
@@ -77,7 +81,7 @@ impl Default for Met {
             wheels: [0; 48],
             buttons: [0; 10],
             keys: [false; 145],
-            aims: AIMS.iter().map(|a| (*a, 0)).collect(),
+            aims: AIMS.iter().chain(&kernel_met::AIMS).map(|a| (*a, 0)).collect(),
         }
     }
 }
@@ -122,6 +126,13 @@ impl Met {
                 self.aim("interact before any pass", panel.input.pointer.x_view().time == f64::NEG_INFINITY);
             }
             _ => {}
+        }
+    }
+
+    /// A KERNEL: `before` is what went on from the call before.
+    pub fn kernel(&mut self, before: &Kernel, panel: &Panel, w: &[u32], answer: &[u32]) {
+        for name in kernel_met::shown(before, panel.limits().slots, w, answer[0] >> 24) {
+            self.aim(name, true);
         }
     }
 
@@ -217,10 +228,17 @@ impl Met {
         self.calls.iter().flatten().sum()
     }
 
+    /// What KERNEL should have met, and did not.
+    pub fn missing_kernel(&self) -> Vec<String> {
+        let mut v: Vec<String> = KERNEL_ANSWERS.iter().filter(|n| self.calls[words::KERNEL as usize][**n] == 0).map(|n| format!("KERNEL answered {n}")).collect();
+        v.extend(kernel_met::AIMS.iter().filter(|a| self.aimed(a) == 0).map(|a| a.to_string()));
+        v
+    }
+
     /// What should have been met, and was not.
     pub fn missing(&self) -> Vec<String> {
         let mut v = Vec::new();
-        let due: [(usize, &[usize]); 9] = [
+        let due: [(usize, &[usize]); 10] = [
             (0, &[0, 255]),
             (1, &[0, 1, 2, 3, 4, 5, 255]),
             (2, &[0, 1, 2, 6, 7, 8, 9, 255]),
@@ -229,6 +247,7 @@ impl Met {
             (5, &[0, 255]),
             (6, &[0, 255]),
             (8, &[0, 255]),
+            (words::KERNEL as usize, &KERNEL_ANSWERS),
             (UNKNOWN, &[255]),
         ];
         for (call, numbers) in due {

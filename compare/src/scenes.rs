@@ -6,7 +6,7 @@ use crate::words::{ASK, DUMP};
 
 pub type Scene = fn(&mut Maker);
 /// The scenes, and how often each comes. The long ones (a full history, a full widget set) are rarer.
-const SCENES: [(u32, Scene); 23] = [
+const SCENES: [(u32, Scene); 24] = [
     (30, Maker::plain),
     (12, Maker::clicks),
     (6, Maker::moves),
@@ -21,6 +21,7 @@ const SCENES: [(u32, Scene); 23] = [
     (4, Maker::own_numbers),
     (3, Maker::malformed),
     (3, Maker::later_calls),
+    (4, Maker::kernel),
     (3, Maker::keys),
     (4, Maker::hit_lists),
     (3, Maker::tally),
@@ -31,6 +32,15 @@ const SCENES: [(u32, Scene); 23] = [
     (1, Maker::full_history),
     (1, Maker::full_widgets),
 ];
+
+/// A trace of just under 1 MiB from this seed, of one scene over and over.
+pub fn trace_of(scene: Scene, seed: u64) -> Maker {
+    let mut m = Maker::new(seed, LIMIT, 5, 12);
+    while !m.full {
+        scene(&mut m);
+    }
+    m
+}
 
 /// A trace of just under 1 MiB from this seed.
 pub fn trace(seed: u64) -> Maker {

@@ -5,7 +5,8 @@
 use fivvarul_compare::maker::{LIMIT, Maker};
 use fivvarul_compare::met::Met;
 use fivvarul_compare::scenes::Scene;
-use fivvarul_compare::{edges, words};
+use fivvarul_compare::script::Script;
+use fivvarul_compare::{edges, kernel_edges, words};
 use std::fmt::Write;
 
 /// What the test program reads and must write, as far as it is made.
@@ -124,12 +125,21 @@ fn main() {
     interacts(&mut all);
     let s = edges::script();
     all.add("edges", &s.requests, &s.answers, "the lines below, each from a fresh panel");
+    let k = kernel_edges::script();
+    all.add("kernel", &k.requests, &k.answers, "KERNEL (A.1): the lines below, each from a fresh panel");
     if let Some(program) = std::env::args().nth(2) {
         put(&program, "stdin", &all.stdin);
         put(&program, "stdout", all.stdout.as_bytes());
     }
-    println!("\nWhat egui's answer is in each line is asserted where the trace is made (compare/src/edges.rs, surprises.rs).\n\n| calls of edges | shown |\n|---|---|");
-    for (name, from, to) in &s.shown {
-        println!("| {from}–{to} | {name} |");
+    println!("\nWhat the answer is in each line is asserted where the trace is made (compare/src/edges.rs, surprises.rs, kernel_edges.rs).");
+    table("edges", &s);
+    table("kernel", &k);
+}
+
+/// The calls that show each line.
+fn table(name: &str, s: &Script) {
+    println!("\n| calls of {name} | shown |\n|---|---|");
+    for (line, from, to) in &s.shown {
+        println!("| {from}–{to} | {line} |");
     }
 }
