@@ -40,6 +40,10 @@ same "$work/stdin" "$here/../crates/trace_corpora/stdin"
 same "$work/stdout" "$here/../crates/trace_corpora/stdout"
 "$bin/sample" > "$work/sample"
 same "$work/sample" "$here/../samples/lost-release.trace"
+if command -v python3 > /dev/null; then
+    "$here/../samples/kernel-trace" "$here/../samples/two-fingers.evdev" > "$work/kernel"
+    cmp -s "$work/kernel" "$here/../samples/two-fingers.trace" || { echo "compare: samples/two-fingers.trace is not what kernel-trace writes"; exit 1; }
+fi
 # A new first seed each day, so that the gate does not always run the same traces.
 seed=${SEED:-$(date +%Y%m%d)0000}
 echo "compare: first seed $seed"
@@ -49,5 +53,12 @@ if [ ! -x "$replay" ]; then
     "$bin/clearing" lists=1000 seed="$seed"
     exit 0
 fi
+# The samples, which are compared as they are; then the traces made here, and some of KERNEL alone.
+for trace in lost-release two-fingers; do
+    "$bin/oracle" < "$here/../samples/$trace.trace" > "$work/want"
+    "$replay" whole < "$here/../samples/$trace.trace" > "$work/got"
+    cmp -s "$work/want" "$work/got" || { echo "compare: samples/$trace.trace is not answered as egui's files and 02 have it"; exit 1; }
+done
 "$bin/run" "$calls" seed="$seed" keep="$here/differs.trace" "$replay" whole
+"$bin/run" calls=200000 seed="$seed" keep="$here/differs.trace" scene=kernel "$replay" whole
 "$bin/clearing" "$lists" seed="$seed" "$replay" whole
