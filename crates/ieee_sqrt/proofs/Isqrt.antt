@@ -57,8 +57,8 @@ turn-zero r m v = omega arith
 pub turn-one : (r m v : ℕ) → r * 4 + 1 ≤ m * 4 + v → (2 * r + 1) * (2 * r + 1) + (m * 4 + v - (r * 4 + 1)) ≡ (r * r + m) * 4 + v
 turn-one r m v h = omega arith
 
--- what is left of d when its two leading digits of 64 are taken
-pub next-digits : (s d u : ℕ) → s * 2 ^ 64 + d ≡ u → (s * 4 + d / 2 ^ 62) * 2 ^ 64 + d % 2 ^ 62 * 4 ≡ u * 4
+-- what is left of d when its two leading digits of 62 are taken
+pub next-digits : (s d u : ℕ) → s * 2 ^ 62 + d ≡ u → (s * 4 + d / 2 ^ 60) * 2 ^ 62 + d % 2 ^ 60 * 4 ≡ u * 4
 next-digits s d u e = omega arith
 
 -- the remainder is what makes the root's square the number

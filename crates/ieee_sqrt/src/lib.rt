@@ -1,7 +1,7 @@
 // Square roots, correctly rounded. One code serves both formats: p is how many digits the format
 // keeps, and 2^-low is its least value.
 ghost use mathlib.Core.Path.{_≡_};
-ghost use Prim.Native.Nat.{_≤_};
+ghost use Prim.Native.Nat.{_≤_, _<_, _^_};
 ghost use mathlib.Core.Bool.{cond};
 ghost use lib.Dec.{leb};
 ghost use lib.Ieee.{binary32, binary64};
@@ -20,10 +20,12 @@ fn digit(rem: u64, t: u64) -> u64
     1
 }
 
-// The whole root of the leading 2n digits of d, digit by digit: each turn takes the next two digits
-// of d into `rem`, and root * root + rem stays the part of d taken in (specs/Recurrence.antt).
+// The whole root of the leading 2n of d's 62 digits, digit by digit: each turn takes the next two
+// digits of d into `rem`, and after it root * root + rem is the part of d taken in: `Recurrence` of
+// specs/Recurrence.antt, the loop's invariant. (62 and not 64: at the top of the word the compiler
+// makes a shift of two words of the product and the digits, which costs a quarter of the time.)
 fn root_digits(d: u64, n: u64) -> u64
-    requires { ⌜ n ≤ 54 ⌝ }
+    requires { ⌜ (d < 2 ^ 62) × (n ≤ 54) ⌝ }
     ensures { λ r. ⌜ r ≡ isqrt (taken d n) ⌝ }
 {
     let mut left = d;
@@ -31,8 +33,8 @@ fn root_digits(d: u64, n: u64) -> u64
     let mut root: u64 = 0;
     let mut i: u64 = 0;
     while i < n {
-        rem = rem * 4 + (left >> 62);
-        left = left % 0x4000_0000_0000_0000 * 4;
+        rem = rem * 4 + (left >> 60);
+        left = left % 0x1000_0000_0000_0000 * 4;
         let t = root * 4 + 1;
         let one = digit(rem, t);
         rem = rem - t * one;
@@ -49,7 +51,7 @@ fn root_pattern(q: u64, j: u64, p: u64) -> u64
     ensures { λ r. ⌜ Rooted p q j r ⌝ }
 {
     let odd = (j + p + 1) % 2;
-    let r = root_digits(q << (63 - p + odd), p + 1);
+    let r = root_digits(q << (61 - p + odd), p + 1);
     let k = (j - p + 1 - odd) / 2;
     (k << (p - 1)) + (r + 1) / 2
 }

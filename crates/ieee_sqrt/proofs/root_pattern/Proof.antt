@@ -5,7 +5,7 @@ use native.Mathlib.Nat.{lt-of-lt-of-le, mul-assoc, mul-div-cancel, pow-suc, pow-
 use native.Mathlib.Omega.{arith}
 use borrow.Author.Needs.{needs}
 use lib.Dec.{lit≤}
-use lib.Pow.{pow-add, pow-pos, shl-exact}
+use lib.Pow.{pow-add, pow-mono, pow-pos, shl-exact, shl-lt}
 use lib.Ieee.{Format, binary32, binary64, prec, emax, low, hid, ones, ofBits}
 use Rattle.ieee_sqrt.specs.Sqrt.{isqrt, rooted}
 use Rattle.ieee_sqrt.specs.Patterns.{Radicand, Rooted}
@@ -41,18 +41,24 @@ four-pow (suc n) =
     squares : (x : ℕ) → x * x * 4 ≡ 2 * x * (2 * x)
     squares x = omega arith
 
-radicand : (p q o : ℕ) → q < 2 ^ p → p ≤ 53 → o ≤ 1 → q * 2 ^ (63 - p + o) % 2 ^ 64 * 4 ^ (p + 1) / 2 ^ 64 ≡ q * 2 ^ suc (p + o)
+radicand : (p q o : ℕ) → q < 2 ^ p → p ≤ 53 → o ≤ 1 → q * 2 ^ (61 - p + o) % 2 ^ 64 * 4 ^ (p + 1) / 2 ^ 62 ≡ q * 2 ^ suc (p + o)
 radicand p q o Q P O =
-    ap (λ (x : ℕ). x * 4 ^ (p + 1) / 2 ^ 64) (shl-exact p (63 - p + o) 64 Q (omega arith))
-    ∙ ap (λ (x : ℕ). x / 2 ^ 64)
-    (ap (λ (x : ℕ). q * 2 ^ (63 - p + o) * x) (four-pow (p + 1))
-    ∙ mul-assoc q (2 ^ (63 - p + o)) (2 ^ (p + 1 + (p + 1)))
-    ∙ ap (λ (x : ℕ). q * x) (sym (pow-add 2 (63 - p + o) (p + 1 + (p + 1))) ∙ ap (λ (x : ℕ). 2 ^ x) (sum p o P) ∙ pow-add 2 (suc (p + o)) 64)
-    ∙ sym (mul-assoc q (2 ^ suc (p + o)) (2 ^ 64)))
-    ∙ mul-div-cancel (q * 2 ^ suc (p + o)) (pow-pos 64)
+    ap (λ (x : ℕ). x * 4 ^ (p + 1) / 2 ^ 62) (shl-exact p (61 - p + o) 64 Q (omega arith))
+    ∙ ap (λ (x : ℕ). x / 2 ^ 62)
+    (ap (λ (x : ℕ). q * 2 ^ (61 - p + o) * x) (four-pow (p + 1))
+    ∙ mul-assoc q (2 ^ (61 - p + o)) (2 ^ (p + 1 + (p + 1)))
+    ∙ ap (λ (x : ℕ). q * x) (sym (pow-add 2 (61 - p + o) (p + 1 + (p + 1))) ∙ ap (λ (x : ℕ). 2 ^ x) (sum p o P) ∙ pow-add 2 (suc (p + o)) 62)
+    ∙ sym (mul-assoc q (2 ^ suc (p + o)) (2 ^ 62)))
+    ∙ mul-div-cancel (q * 2 ^ suc (p + o)) (pow-pos 62)
   where
-    sum : (p o : ℕ) → p ≤ 53 → 63 - p + o + (p + 1 + (p + 1)) ≡ suc (p + o) + 64
+    sum : (p o : ℕ) → p ≤ 53 → 61 - p + o + (p + 1 + (p + 1)) ≡ suc (p + o) + 62
     sum p o P = omega arith
+
+-- it has 62 digits
+in-range : (p q o : ℕ) → q < 2 ^ p → p ≤ 53 → o ≤ 1 → q * 2 ^ (61 - p + o) % 2 ^ 64 < 2 ^ 62
+in-range p q o Q P O =
+    subst (λ (x : ℕ). x < 2 ^ 62) (sym (shl-exact p (61 - p + o) 64 Q (omega arith)))
+    (lt-of-lt-of-le (shl-lt p (61 - p + o) Q) (pow-mono {i = p + (61 - p + o)} {j = 62} (omega arith)))
 
 -- ---- the pattern
 abbrev At : Format → ℕ → ℕ → ℕ → ℕ → Type 0
@@ -114,7 +120,9 @@ add-root-2 : tie.Need-add-root-digits-2
 add-root-2 c = search needs
 
 root-digits-requires : tie.Need-root-digits-requires
-root-digits-requires c κs = omega (arith, ranges (c .pre))
+root-digits-requires c κs =
+    let a = c .args in
+    (in-range (a .p) (a .q) (odd (a .p) (a .j)) (c .pre .within) (ranges (c .pre) .1) (omega arith), omega (arith, ranges (c .pre)))
 
 sub-k : tie.Need-sub-k
 sub-k c = search needs
