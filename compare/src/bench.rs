@@ -37,6 +37,8 @@ pub fn run(words: &[u32], checked: bool) -> u64 {
         0 => passes(n, given, checked, false),
         1 => inserts(n, a, b, c),
         2 => interacts(n, given, a, b, checked),
+        4 => roots32(n),
+        5 => roots64(n),
         _ => passes(n, given, checked, true),
     }
 }
@@ -132,6 +134,26 @@ fn passes(n: u32, feed: &[u32], checked: bool, ask: bool) -> u64 {
     }
     let sum = of_state(&panel.input);
     if ask { mix(sum, answers) } else { sum }
+}
+
+// ---------------------------------------------------------------- roots: the machine's own
+
+fn roots32(n: u32) -> u64 {
+    let (mut sum, mut w) = (0, 0u32);
+    for _ in 0..n {
+        w = w.wrapping_add(0x9e37_79b1);
+        sum = single(sum, f32::from_bits(w % 0x7f80_0000).sqrt());
+    }
+    sum
+}
+
+fn roots64(n: u32) -> u64 {
+    let (mut sum, mut w) = (0, 0u64);
+    for _ in 0..n {
+        w = w.wrapping_add(0x9e37_79b9_7f4a_7c15);
+        sum = double(sum, f64::from_bits(w % 0x7ff0_0000_0000_0000).sqrt());
+    }
+    sum
 }
 
 // ---------------------------------------------------------------- insertions

@@ -4,6 +4,7 @@ mod asks;
 mod inserts;
 mod interacts;
 mod passes;
+mod roots;
 mod sums;
 
 use data::limits::MAX_EVENTS;
@@ -68,6 +69,8 @@ fn run(q: Request, words: &[u32]) -> u64 {
         0 => passes::run(q.times, words),
         1 => inserts::run(q.times, q.a, q.b, q.c),
         2 => interacts::run(q.times, words, q.a, q.b, q.c),
+        4 => roots::run32(q.times),
+        5 => roots::run64(q.times),
         _ => asks::run(q.times, words),
     }
 }
