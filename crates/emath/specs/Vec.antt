@@ -1,7 +1,8 @@
--- Positions, vectors and rectangles of f32 parts, after 01 item 1: each step is rounded to an f32.
+-- Positions, vectors and rectangles of f32 parts, after 01 item 1: each step is rounded to an f32, but for those of a length (A.3).
 use mathlib.Core.Bool.{Bool, _||_, cond, false}
 use lib.IntN.{pos}
-use lib.Ieee.{Float, nan, inf, fin, binary32, add, sub, mul, div, lt, ne}
+use lib.Ieee.{Float, nan, inf, fin, binary32, binary64, add, sub, mul, div, lt, ne}
+use Rattle.ieee_narrow.specs.Narrow.{narrow}
 use Rattle.ieee_sqrt.specs.Sqrt.{sqrt}
 use Rattle.emath.specs.Types.{Pos2, Vec2, Rect}
 
@@ -40,9 +41,13 @@ vec-ne v w = ne (v .x) (w .x) || ne (v .y) (w .y)
 unfoldable pub length-sq : Vec2 → Float
 length-sq v = add binary32 (mul binary32 (v .x) (v .x)) (mul binary32 (v .y) (v .y))
 
--- "Length is the rounded root of x·x + y·y, each step in f32": the one definition that every distance goes through
+-- x·x + y·y in f64, where both squares are exact. A value widened is the same value.
+unfoldable pub length-sq64 : Vec2 → Float
+length-sq64 v = add binary64 (mul binary64 (v .x) (v .x)) (mul binary64 (v .y) (v .y))
+
+-- A.3: "Length shall widen both parts to f64, square and add there, take the f64 root and narrow once". The one definition that every distance goes through
 unfoldable pub length : Vec2 → Float
-length v = sqrt binary32 (length-sq v)
+length v = narrow binary32 (sqrt binary64 (length-sq64 v))
 
 -- "distance is the length of the difference"
 unfoldable pub distance : Pos2 → Pos2 → Float

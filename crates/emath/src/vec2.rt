@@ -1,5 +1,5 @@
 ghost use mathlib.Core.Path.{_≡_};
-ghost use Rattle.emath.specs.Vec.{vec-zero, vec-add, vec-scale, vec-div, vec-ne, length-sq, length, normalized, abs, vec-abs, larger, max-elem};
+ghost use Rattle.emath.specs.Vec.{vec-zero, vec-add, vec-scale, vec-div, vec-ne, length-sq, length-sq64, length, normalized, abs, vec-abs, larger, max-elem};
 
 // A difference of two positions.
 pub struct Vec2 {
@@ -90,10 +90,18 @@ impl Vec2 {
         self.x * self.x + self.y * self.y
     }
 
+    pub fn length_sq64(self) -> f64
+        ensures { λ r. ⌜ r ≡ length-sq64 self ⌝ }
+    {
+        let x = ieee::widen::widen(self.x);
+        let y = ieee::widen::widen(self.y);
+        x * x + y * y
+    }
+
     pub fn length(self) -> f32
         ensures { λ r. ⌜ r ≡ length self ⌝ }
     {
-        ieee_sqrt::sqrt32(self.length_sq())
+        ieee_narrow::narrow(ieee_sqrt::sqrt64(self.length_sq64()))
     }
 
     pub fn normalized(self) -> Vec2

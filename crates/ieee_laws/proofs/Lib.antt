@@ -1,4 +1,4 @@
--- Narrowing and the root give the nearest value of the format, and they, sums, products and differences keep the order. Other crates may cite those marked pub.
+-- Narrowing and the root give the nearest value of the format, and they, sums, products and differences keep the order. The root of an f32's square in f64 is the f32. Other crates may cite those marked pub.
 mod Units
 pub mod RoundOrder
 mod RootOrder
@@ -10,3 +10,4 @@ pub mod Order
 pub mod Exact
 pub mod Monotone
 pub mod Differences
+pub mod Squares

@@ -142,7 +142,7 @@ factor : (a b : ℕ) → 0 < b → a * b ≡ 0 → a ≡ 0
 factor zero b B e = refl
 factor (suc a) b B e = absurd (not-le-of-lt (mul-pos (zero-lt-suc a) B) (le-of-eq e))
 
-no-less : (m : ℕ) (e : ℤ) → T (le +0 (fin true (suc m) e)) → ⊥
+pub no-less : (m : ℕ) (e : ℤ) → T (le +0 (fin true (suc m) e)) → ⊥
 no-less m e h = not-le-of-lt (mul-pos (zero-lt-suc m) (up-pos e)) (le-of-eq (not-negative true (suc m) e h tt))
 
 -- ---- a sum with what is not below 0

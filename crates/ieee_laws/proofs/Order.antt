@@ -7,7 +7,7 @@ use native.Mathlib.Nat.{le-of-eq, le-of-lt, eq-or-lt-of-le, eq-zero-or-pos, mul-
 use native.Mathlib.Omega.{arith}
 use mathlib.Core.Bool.{Bool, true, false, not, _&&_, _||_, cond}
 use lib.Dec.{T, ltb, eqb, ltb→lt, lt→ltb, nltb→le, eqb→eq}
-use lib.Ieee.{Float, nan, inf, fin, up, down, neg, le, lt, isNan}
+use lib.Ieee.{Float, nan, inf, fin, up, down, neg, le, lt, eq, isNan}
 use lib.Ieee.Fits.{and-l, and-r, and-i, eq→eqb}
 use lib.Ieee.Positive.{den, den-pos}
 use lib.Ieee.Scale.{finite}
@@ -219,6 +219,43 @@ not-lt-le (fin false m e) (fin true n d) p q h = le-across (n * up d * down e) (
 not-lt-le (fin true m e) (fin false n d) p q h =
     let z : m * up e * down d + n * up d * down e ≤ 0 = nltb→le 0 (m * up e * down d + n * up d * down e) h in le-zeros (n * up d * down e) (m * up e * down d) (omega arith) (omega arith)
 not-lt-le (fin true m e) (fin true n d) p q h = le-minus (n * up d * down e) (m * up e * down d) (nltb→le (n * up d * down e) (m * up e * down d) h)
+
+-- the same, with the infinities
+not-less : (x y : Float) → T (not (isNan x)) → T (not (isNan y)) → T (not (lt x y)) → T (le y x)
+unfolding isNan lt
+not-less nan y p q h = absurd p
+not-less (inf true) nan p q h = absurd q
+not-less (inf true) (inf true) p q h = unfold le in tt
+not-less (inf true) (inf false) p q h = absurd h
+not-less (inf true) (fin t n d) p q h = absurd h
+not-less (inf false) y p q h = le-infinity y q
+not-less (fin s m e) nan p q h = absurd q
+not-less (fin s m e) (inf true) p q h = minus-infinity-le (fin s m e) p
+not-less (fin s m e) (inf false) p q h = absurd h
+not-less (fin s m e) (fin t n d) p q h = not-lt-le (fin s m e) (fin t n d) tt tt h
+
+pub lt-le : (x y : Float) → T (lt x y) → T (le x y)
+unfolding le
+lt-le x y h = or (lt x y) h
+  where
+    or : (a : Bool) → T a → T (a || eq x y)
+    or true t = tt
+    or false t = absurd t
+
+-- ---- a bound that is passed stays passed
+pub lt-le-trans : (x y z : Float) → T (lt x y) → T (le y z) → T (lt x z)
+lt-le-trans x y z h k = go (lt x z) (not-less x z (le-numbers x y (lt-le x y h) .0) (le-numbers y z k .1))
+  where
+    go : (b : Bool) → (T (not b) → T (le z x)) → T b
+    go true w = tt
+    go false w = absurd (le-not-lt y x (le-trans y z x k (w tt)) h)
+
+pub le-lt-trans : (x y z : Float) → T (le x y) → T (lt y z) → T (lt x z)
+le-lt-trans x y z h k = go (lt x z) (not-less x z (le-numbers x y h .0) (le-numbers y z (lt-le y z k) .1))
+  where
+    go : (b : Bool) → (T (not b) → T (le z x)) → T b
+    go true w = tt
+    go false w = absurd (le-not-lt z y (le-trans z x y (w tt) h) k)
 
 -- ---- negatives are in the other order
 pub neg-anti : (x y : Float) → T (le x y) → T (le (neg y) (neg x))

@@ -17,7 +17,7 @@ use Rattle.ieee_sqrt.proofs.Rooting.{rest, rest-is, twice-is, rooted-is}
 isqrt-mono : (a b : ℕ) → a ≤ b → isqrt a ≤ isqrt b
 isqrt-mono a b h = not-above (isqrt a) (isqrt b) b (le-trans (isqrt-is a .0) h) (isqrt-is b .1)
 
-rest-zero : (n : ℕ) → isqrt n * isqrt n ≡ n → rest n ≡ 0
+pub rest-zero : (n : ℕ) → isqrt n * isqrt n ≡ n → rest n ≡ 0
 unfolding rest
 rest-zero n e = go (eqb (isqrt n * isqrt n) n) (eq→eqb e)
   where

@@ -37,7 +37,7 @@ unfolding emath-History.max-age emath-History.drop-old emath-History.flush emath
 emath-history = Type 0
 
 unfoldable pub emath-vec : Type 1
-unfolding emath-Vec.vec-zero emath-Vec.pos-zero emath-Vec.vec-add emath-Vec.vec-scale emath-Vec.vec-div emath-Vec.pos-sub emath-Vec.vec-ne emath-Vec.length-sq emath-Vec.length emath-Vec.distance emath-Vec.distance-sq emath-Vec.normalized emath-Vec.height emath-Vec.abs emath-Vec.vec-abs emath-Vec.larger emath-Vec.max-elem
+unfolding emath-Vec.vec-zero emath-Vec.pos-zero emath-Vec.vec-add emath-Vec.vec-scale emath-Vec.vec-div emath-Vec.pos-sub emath-Vec.vec-ne emath-Vec.length-sq emath-Vec.length-sq64 emath-Vec.length emath-Vec.distance emath-Vec.distance-sq emath-Vec.normalized emath-Vec.height emath-Vec.abs emath-Vec.vec-abs emath-Vec.larger emath-Vec.max-elem
 emath-vec = Type 0
 
 unfoldable pub data-limits : Type 1

@@ -1,0 +1,1 @@
+// Theorems alone: what holds of lengths, so that their users open no definition.
