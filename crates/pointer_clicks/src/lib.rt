@@ -8,6 +8,7 @@ use data::pointer::MaybeF64;
 use data::pointer::PointerButton;
 use emath::pos2::MaybePos2;
 use emath::pos2::Pos2;
+use emath::vec2::Vec2;
 use pointer_events::CODES;
 use pointer_events::Sought;
 use pointer_events::any;
@@ -15,7 +16,8 @@ ghost use mathlib.Core.Path.{_≡_};
 ghost use mathlib.Core.Bool.{not, _||_, _&&_};
 ghost use mathlib.Core.List.{List};
 ghost use Prim.Native.Nat.{ℕ};
-ghost use lib.Ieee.{Float};
+ghost use lib.Ieee.{Float, lt};
+ghost use Rattle.emath.specs.Vec.{length};
 ghost use Rattle.model.specs.Pointer.{set-down, button-down, any-down, press-too-long, near, click-count, too-far, click-of, remember-click};
 ghost use Rattle.model.specs.Pointer.{could-any-button-be-click, is-decidedly-dragging, clear-events};
 ghost use Rattle.pointer_clicks.specs.View.{held, past};
@@ -168,13 +170,38 @@ fn click_count(p: ClickPast, options: InputOptions, time: f64, pos: Pos2) -> u32
     1
 }
 
+// A little more than 1: times a distance, it is past the rim of the circle.
+const PAST_THE_RIM: f32 = 1.0009765625;
+
+// Is v longer than that? But for a v close to the rim the squares tell, without a root. (A distance below 0 is in no pass, but
+// could be in a state.)
+fn is_longer(v: Vec2, dist: f32) -> bool
+    ensures { λ r. ⌜ r ≡ lt dist (length v) ⌝ }
+{
+    if 0.0 <= dist {
+        let square = v.length_sq64();
+        let d = ieee::widen::widen(dist);
+        if square <= d * d {
+            return false;
+        }
+        let past = dist * PAST_THE_RIM;
+        if dist < past {
+            let e = ieee::widen::widen(past);
+            if e * e <= square {
+                return true;
+            }
+        }
+    }
+    v.length() > dist
+}
+
 // A move that is too far from the press for a click.
 fn too_far(options: InputOptions, pos: Pos2, origin: MaybePos2) -> bool
     ensures { λ r. ⌜ r ≡ too-far options pos origin ⌝ }
 {
     match origin {
         MaybePos2::None => false,
-        MaybePos2::Some(p) => p.distance(pos) > options.max_click_dist,
+        MaybePos2::Some(p) => is_longer(p.sub(pos), options.max_click_dist),
     }
 }
 

@@ -81,12 +81,21 @@ fn axes(options: InputOptions, modifiers: Modifiers, delta: Vec2) -> Vec2
     swapped(is_horizontal, is_vertical, delta)
 }
 
-// Is it shorter than 8? With a square of 64 or more no root is taken: roots never fall.
+// What a square is of a delta that is 8 long, and of one that is surely shorter.
+const SQUARE_OF_8: f64 = 64.0;
+
+const SHORTER_SQUARE: f64 = 63.75;
+
+// Is it shorter than 8? But for a delta of nearly 8 the square tells, without a root: roots never fall.
 fn is_short(delta: Vec2) -> bool
     ensures { λ r. ⌜ r ≡ lt (length delta) eight ⌝ }
 {
-    if 64.0 <= delta.length_sq() {
+    let square = delta.length_sq64();
+    if SQUARE_OF_8 <= square {
         return false;
+    }
+    if square <= SHORTER_SQUARE {
+        return true;
     }
     delta.length() < 8.0
 }
