@@ -3,6 +3,7 @@ use Rattle.edges.specs.Cases as edges-Cases
 use Rattle.edges.specs.InteractEdges as edges-InteractEdges
 use Rattle.edges.specs.Needed as edges-Needed
 use Rattle.edges.specs.PassEdges as edges-PassEdges
+use Rattle.edges.specs.RimEdges as edges-RimEdges
 use Rattle.edges.specs.Steps as edges-Steps
 use Rattle.edges.specs.Words as edges-Words
 use Rattle.model.proofs.Opened as Model
@@ -23,6 +24,10 @@ unfoldable pub edges-passedges : Type 1
 unfolding edges-PassEdges.dec32 edges-PassEdges.past edges-PassEdges.past32 edges-PassEdges.on-x edges-PassEdges.down edges-PassEdges.alt-held edges-PassEdges.ctrl-held edges-PassEdges.shift-held edges-PassEdges.alt-shift-held edges-PassEdges.then edges-PassEdges.lasts edges-PassEdges.timeouts edges-PassEdges.rested edges-PassEdges.rests edges-PassEdges.scrolls edges-PassEdges.deltas edges-PassEdges.in-touch edges-PassEdges.start-keeps edges-PassEdges.stops edges-PassEdges.modifiers-let-go edges-PassEdges.smoothed-out edges-PassEdges.still-smoothing edges-PassEdges.of-the-wheel edges-PassEdges.two-fingers edges-PassEdges.started edges-PassEdges.has-started edges-PassEdges.start-position edges-PassEdges.no-start-position edges-PassEdges.pointer-just-gone edges-PassEdges.pointer-long-gone edges-PassEdges.fingers-by-id edges-PassEdges.from-there edges-PassEdges.pinches edges-PassEdges.pinch-types edges-PassEdges.three-fingers edges-PassEdges.finger-comes edges-PassEdges.finger-elsewhere edges-PassEdges.third-finger-goes edges-PassEdges.finger-goes edges-PassEdges.headings edges-PassEdges.forces edges-PassEdges.first-device edges-PassEdges.of-touches edges-PassEdges.moved-too-far edges-PassEdges.click-times edges-PassEdges.triple edges-PassEdges.not-triple edges-PassEdges.flags-of-release edges-PassEdges.pressed-until edges-PassEdges.presses edges-PassEdges.decided edges-PassEdges.long-touch edges-PassEdges.slow-repaint edges-PassEdges.no-repaint edges-PassEdges.drags-delta edges-PassEdges.three-samples edges-PassEdges.moving edges-PassEdges.velocities edges-PassEdges.gone-moving edges-PassEdges.pressed-moving edges-PassEdges.motions edges-PassEdges.of-the-pointer edges-PassEdges.keys edges-PassEdges.zooms-and-turns edges-PassEdges.zooms-by edges-PassEdges.axes edges-PassEdges.not-given edges-PassEdges.requested edges-PassEdges.repaint-requested edges-PassEdges.never-given edges-PassEdges.row edges-PassEdges.bare-row edges-PassEdges.words edges-PassEdges.refused edges-PassEdges.taken edges-PassEdges.malformed edges-PassEdges.limit-of edges-PassEdges.domain edges-PassEdges.touch edges-PassEdges.four-devices edges-PassEdges.fifth-device edges-PassEdges.fingers edges-PassEdges.eleventh-touch edges-PassEdges.crowds edges-PassEdges.pass-order edges-PassEdges.of-a-pass edges-PassEdges.pass-edges
 edges-passedges = Type 0
 
+unfoldable pub edges-rimedges : Type 1
+unfolding edges-RimEdges.spot edges-RimEdges.delta edges-RimEdges.moved-by edges-RimEdges.rim-kept edges-RimEdges.rim-kept-at-6 edges-RimEdges.rim-lost edges-RimEdges.axis-rim-kept edges-RimEdges.axis-rim-lost edges-RimEdges.wheel-rim edges-RimEdges.wheel-within edges-RimEdges.directed edges-RimEdges.tiny-direction edges-RimEdges.huge-direction edges-RimEdges.row-of edges-RimEdges.spread-of-ten edges-RimEdges.rim-edges
+edges-rimedges = Type 0
+
 unfoldable pub edges-steps : Type 1
 unfolding edges-Steps.with-panel edges-Steps.with-widgets edges-Steps.same-row edges-Steps.kept-if edges-Steps.if-taken edges-Steps.if-pass-refused edges-Steps.drags-as edges-Steps.if-drags edges-Steps.if-answered edges-Steps.if-interact-refused edges-Steps.if-inserted edges-Steps.if-insert-refused edges-Steps.is-at edges-Steps.is-record edges-Steps.is-reply edges-Steps.step edges-Steps.go-on edges-Steps.steps edges-Steps.check-all
 edges-steps = Type 0
@@ -32,5 +37,5 @@ unfolding edges-Words.same edges-Words.float-words edges-Words.present edges-Wor
 edges-words = Type 0
 
 unfoldable pub opened : Type 1
-unfolding edges-cases edges-interactedges edges-needed edges-passedges edges-steps edges-words Model.opened
+unfolding edges-cases edges-interactedges edges-needed edges-passedges edges-rimedges edges-steps edges-words Model.opened
 opened = Type 0
