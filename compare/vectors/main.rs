@@ -1,5 +1,5 @@
 //! Writes the cases that crates/emath_vectors replays: its stdin. They are made with the stand-ins for crate emath that
-//! egui is compared with, one file of Rust whose path is in EMATH_TYPES. From the root of the repository:
+//! egui is compared with, with the length of A.3; one file of Rust whose path is in EMATH_TYPES (compare/src/shim/emath_types.rs). From the root of the repository:
 //!
 //!     mkdir -p target/vectors && cp compare/vectors/main.rs target/vectors/ && cp "$EMATH_TYPES" target/vectors/emath_types.rs
 //!     rustc -O --edition 2021 -o target/vectors/vectors target/vectors/main.rs
@@ -175,6 +175,7 @@ fn histories(out: &mut Vec<u8>, r: &mut Random) {
 }
 
 fn main() {
+    emath_types::set_level(3);
     let mut out = Vec::new();
     let mut r = Random(0x9e37_79b9_7f4a_7c15);
     for (i, x) in NAMED.iter().enumerate() {
@@ -191,6 +192,16 @@ fn main() {
     }
     for _ in 0..1_000 {
         vector(&mut out, vec2(r.square_edge(), r.square_edge()), vec2(r.square_edge(), r.screen()));
+    }
+    // at the rims of 12.87, 6 and 8, where a length in f32 lies on the other side; and about rims of any size
+    for (x, y) in [(0x4137_b7a7, 0x40b9_d8c9), (0x3e04_0000, 0x40bf_f4a8), (0x3b00_0000, 0x40ff_ffff), (0x40d4_9d8a, 0x408e_95f3)] {
+        vector(&mut out, vec2(f32::from_bits(x), f32::from_bits(y)), Vec2::ZERO);
+    }
+    for _ in 0..500 {
+        let d = 0.25 * (1 + r.below(256)) as f64;
+        let x = (d * r.below(1 << 24) as f64 / f64::from(1 << 24)) as f32;
+        let y = (d * d - f64::from(x) * f64::from(x)).sqrt() as f32;
+        vector(&mut out, vec2(x, f32::from_bits(y.to_bits() + r.below(7) as u32 - 3)), Vec2::ZERO);
     }
     for i in 0..500 {
         let named = NAMED[i % NAMED.len()];
