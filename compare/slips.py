@@ -87,7 +87,9 @@ SLIPS = [
     ('a sample of the age itself goes', EMATH, '            && self.values[0].0 < now', '            && self.values[0].0 <= now'),
     ('999 samples', EMATH, 'while self.values.len() > self.max_len {', 'while self.values.len() >= self.max_len {'),
     ('the age is the f64 0.1', EMATH, 'now - f64::from(self.max_age)', 'now - 0.1'),
-    ('length rounded once', EMATH, '(xx + yy).sqrt()', '(f64::from(self.x).powi(2) + f64::from(self.y).powi(2)).sqrt() as f32'),
+    # from A.3 on: before, nothing goes by it
+    ('length in f32', EMATH, '(x * x + y * y).sqrt() as f32', 'self.length_in_f32()'),
+    ('length narrowed before the root', EMATH, '(x * x + y * y).sqrt() as f32', '((x * x + y * y) as f32).sqrt()'),
     ('normalized by the reciprocal', EMATH, '{ self / len }', '{ vec2(self.x * (1.0 / len), self.y * (1.0 / len)) }'),
     ('narrowing cuts off', EMATH, '(b.0 - a.0) as f32', '{ let (d, n) = (b.0 - a.0, (b.0 - a.0) as f32); if f64::from(n) > d { f32::from_bits(n.to_bits() - 1) } else { n } }'),
     ('difference of narrowed times', EMATH, '(b.0 - a.0) as f32', 'b.0 as f32 - a.0 as f32'),

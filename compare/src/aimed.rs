@@ -522,7 +522,7 @@ pub(crate) fn some_options(rng: &mut Rng) -> InputOptions {
     InputOptions {
         line_scroll_speed: rng.pick(&[40.0, 0.0, 8.0, 65_536.0]),
         scroll_zoom_speed: rng.pick(&[1.0 / 200.0, 0.0, 1.0]),
-        max_click_dist: rng.pick(&[6.0, 0.0, 1.0, 65_536.0]),
+        max_click_dist: rng.pick(&[6.0, 0.0, 1.0, 65_536.0, f32::from_bits(0x414d_e172)]),
         max_click_duration: rng.pick(&[0.8, 0.75, 0.0, 3600.0]),
         max_double_click_delay: rng.pick(&[0.3, 0.25, 0.0, 3600.0]),
         zoom_modifier: if rng.once_in(2) { Modifiers::COMMAND } else { m(rng) },

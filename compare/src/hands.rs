@@ -1,6 +1,7 @@
 //! Scenes of a hand: clicks, drags, fingers, wheel and keys, with times and places about the options' limits.
 use crate::aimed::{DEVICES, nudge, nudge32, put};
 use crate::maker::{Maker, any_float, inside, touch};
+use crate::met::{far_apart, short_apart};
 use crate::panel::{Hit, Hits, Widget};
 use crate::words::{self, CLEAR, DUMP, INSERT, PASS, RESET};
 use crate::{Pos2, Rect, domain};
@@ -48,7 +49,7 @@ impl Maker {
     fn end_click(&mut self, button: u32, at: Pos2, again: f64) -> Pos2 {
         let o = self.s.options;
         if self.rng().once_in(3) {
-            let p = self.around(at, o.max_click_dist);
+            let p = self.moved_to(at, o.max_click_dist);
             let mut feed = Vec::new();
             put(&mut feed, 3, 0, &[p.x, p.y]);
             self.soon(&feed);
@@ -71,6 +72,15 @@ impl Maker {
         at
     }
 
+    /// About the click distance from a press; from one at (0,0) now and then at the rim itself, where the difference is exact.
+    fn moved_to(&mut self, at: Pos2, d: f32) -> Pos2 {
+        if at == Pos2::ZERO && self.rng().once_in(2) {
+            let v = self.rim(d, far_apart);
+            return inside(Pos2::new(v.x, v.y));
+        }
+        self.around(at, d)
+    }
+
     /// A press and moves about the click distance; velocity over two, three and more samples about 0.01 s and 0.1 s.
     pub fn moves(&mut self) {
         self.new_options();
@@ -83,7 +93,7 @@ impl Maker {
         for _ in 0..2 + self.rng().below(8) {
             let mut feed = Vec::new();
             for _ in 0..self.rng().below(3) {
-                let p = if self.rng().once_in(2) { self.around(at, d) } else { self.place() };
+                let p = if self.rng().once_in(2) { self.moved_to(at, d) } else { self.place() };
                 put(&mut feed, 3, 0, &[p.x, p.y]);
             }
             if self.rng().once_in(6) {
@@ -485,6 +495,10 @@ impl Maker {
     }
 
     fn wheel_delta(&mut self) -> (f32, f32) {
+        if self.rng().once_in(8) {
+            let v = self.rim(8.0, short_apart);
+            return (v.x, v.y);
+        }
         let n = self.rng().pick(&[-1, 0, 1]);
         let rng = self.rng();
         match rng.below(7) {

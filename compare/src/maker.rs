@@ -4,7 +4,7 @@ use crate::lists::Twin;
 use crate::met::Met;
 use crate::panel::{Hits, Pass, Widget};
 use crate::words::{self, ASK, DUMP, INSERT, INTERACT, KERNEL, PASS, RESET, RESTORE, RESTORE_LAST, SET_TALLY};
-use crate::{Pos2, domain};
+use crate::{Pos2, Vec2, domain};
 
 /// What one trace of `replay` may hold, in words.
 pub const LIMIT: usize = (1 << 20) / 4 - 1;
@@ -156,6 +156,21 @@ impl Maker {
         let (x, y) = self.rng().pick(&DIRECTIONS);
         let n = self.rng().pick(&[-1, 0, 0, 1]);
         inside(Pos2::new(nudge32(o.x + d * x, n), o.y + d * y))
+    }
+
+    /// A vector at the rim of a circle: x drawn, y within three units in the last place; if one is found, one that the lengths
+    /// in f32 and in f64 put on different sides of the rim.
+    pub(crate) fn rim(&mut self, d: f32, apart: fn(Vec2, f32) -> bool) -> Vec2 {
+        let mut v = Vec2::new(d, 0.0);
+        for _ in 0..200 {
+            let x = d * self.rng().unit();
+            let y = (f64::from(d).powi(2) - f64::from(x).powi(2)).sqrt() as f32;
+            v = Vec2::new(x, nudge32(y, self.rng().below(7) as i32 - 3));
+            if apart(v, d) {
+                break;
+            }
+        }
+        v
     }
 
     pub(crate) fn place(&mut self) -> Pos2 {

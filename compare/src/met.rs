@@ -4,7 +4,7 @@ use crate::kernel::Kernel;
 use crate::kernel_met;
 use crate::panel::Panel;
 use crate::words::CALLS;
-use crate::{LEVEL, domain, words};
+use crate::{LEVEL, Pos2, Vec2, domain, words};
 use std::collections::BTreeMap;
 
 const KINDS: [&str; 16] = [
@@ -22,7 +22,7 @@ const UNKNOWN: usize = CALLS.len();
 const KERNEL_ANSWERS: [usize; 6] = [0, 2, 8, 11, 12, 255];
 
 /// What a run of ten traces or more must meet.
-const AIMS: [&str; 36] = [
+const AIMS: [&str; 38] = [
     NOT_LANDED,
     "10 touches on a device",
     "1,000 samples in the history",
@@ -31,6 +31,8 @@ const AIMS: [&str; 36] = [
     "4 devices",
     "64 entries in a hit list",
     "64 events in a pass",
+    "a move that lengths in f32 and f64 judge differently",
+    "a Point delta that lengths in f32 and f64 judge differently",
     "click count 1",
     "click count 2",
     "click count 3",
@@ -84,6 +86,15 @@ impl Default for Met {
             aims: AIMS.iter().chain(&kernel_met::AIMS).map(|a| (*a, 0)).collect(),
         }
     }
+}
+
+/// Whether a vector is longer than d by one of the lengths of 01 and A.3, and not by the other.
+pub(crate) fn far_apart(v: Vec2, d: f32) -> bool {
+    (v.length_in_f32() > d) != (v.length_in_f64() > d)
+}
+/// The same of shorter.
+pub(crate) fn short_apart(v: Vec2, d: f32) -> bool {
+    (v.length_in_f32() < d) != (v.length_in_f64() < d)
 }
 
 /// The place of a call in the table.
@@ -174,7 +185,27 @@ impl Met {
             "wheel sum not finite, or zoom product not finite",
             !(u.x.is_finite() && u.y.is_finite() && i.x_zoom_factor_delta().is_finite()),
         );
-        self.feed(&w[words::PASS_WORDS..]);
+        let feed = &w[words::PASS_WORDS..];
+        self.feed(feed);
+        self.rims(panel, f32::from_bits(w[12]), feed);
+    }
+
+    /// Moves from the press and Point deltas at the rim of their circles.
+    fn rims(&mut self, panel: &Panel, click_dist: f32, feed: &[u32]) {
+        let mut at = 0;
+        while at < feed.len() {
+            let (kind, low) = ((feed[at] >> 28) as usize, feed[at] & 0x0FFF_FFFF);
+            let place = |k: usize| f32::from_bits(feed[at + k]);
+            if let (3, Some(o)) = (kind, panel.input.pointer.press_origin()) {
+                let v = o - Pos2::new(place(1), place(2));
+                self.aim("a move that lengths in f32 and f64 judge differently", far_apart(v, click_dist));
+            }
+            if kind == 10 && low >> 5 & 15 == 4 {
+                let v = Vec2::new(place(1), place(2));
+                self.aim("a Point delta that lengths in f32 and f64 judge differently", short_apart(v, 8.0));
+            }
+            at += 1 + domain::LENGTHS[kind] + (kind == 9 && low & 4 != 0) as usize;
+        }
     }
 
     fn feed(&mut self, feed: &[u32]) {

@@ -2,10 +2,11 @@
 use crate::Vec2;
 use crate::maker;
 use crate::script::*;
-use crate::{Pos2, Rect};
+use crate::{LEVEL, Pos2, Rect};
 
 pub fn surprises(s: &mut Script) {
     clicks(s);
+    rims(s);
     places(s);
     directions(s);
     many_events(s);
@@ -34,6 +35,29 @@ fn clicks(s: &mut Script) {
     for (t, x, n) in [(1.0, 0.0, 1), (1.25, 100.0, 1), (1.5, 100.0, 3)] {
         s.taken(t, &click(x, 0.0));
         assert_eq!(s.clicks(), [n]);
+    }
+}
+
+/// Points at the rim of the circle, by distance and the bits of x and y: from A.3 on the first two are clicks, as they were not
+/// by a length in f32; the third, one unit in the last place further than the second, is none by either.
+fn rims(s: &mut Script) {
+    let after = LEVEL >= 3;
+    for (d, x, y, kept) in [
+        (f32::from_bits(0x414d_e172), 0x4137_b7a7, 0x40b9_d8c9, after),
+        (6.0, 0x3e04_0000, 0x40bf_f4a8, after),
+        (6.0, 0x3e04_0000, 0x40bf_f4a9, false),
+    ] {
+        s.show(&format!("Rim: click distance {d}, a move by {x:08x}, {y:08x}: {}", if kept { "still a click" } else { "no click" }));
+        s.p.options.max_click_dist = d;
+        s.taken(1.0, &press(0.0, 0.0));
+        s.taken(1.0625, &moved(f32::from_bits(x), f32::from_bits(y)));
+        s.taken(1.125, &release(0.0, 0.0));
+        assert_eq!(s.clicks(), [kept as u32]);
+    }
+    for (x, y, whole) in [(0x3b00_0000, 0x40ff_ffff, !after), (0x40d4_9d8a, 0x408e_95f3, after)] {
+        s.show(&format!("Rim: a Point delta of {x:08x}, {y:08x} is {}", if whole { "smooth by itself" } else { "smoothed" }));
+        s.taken(1.0, &wheel(0, 1, 1, 0, f32::from_bits(x), f32::from_bits(y)));
+        assert_eq!(s.stream.panel.input.x_wheel().unprocessed_wheel_delta == Vec2::ZERO, whole);
     }
 }
 
