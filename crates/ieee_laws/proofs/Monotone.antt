@@ -1,5 +1,5 @@
 -- Operations that keep the order: where the operands do not fall, neither does the rounded result. For every format. Assumes nothing.
--- Narrowing, the root, the sum and the product of sizes; and a sum with what is not below 0 is not below the other operand.
+-- Narrowing, the root, the sum and the product of sizes; a sum with what is not below 0 is not below the other operand; a difference from what is not above is not below 0.
 use mathlib.Core.Path.{_≡_, refl, sym, ap, _∙_, subst}
 use Prim.Native.Nat.{ℕ, zero, suc, _+_, _*_, _/_, _^_, _≤_, _<_}
 use native.Mathlib.Nat.{le-trans, le-of-eq, not-le-of-lt, zero-lt-suc, zero-mul, mul-zero, mul-one, add-mul, mul-comm, mul-pos, mul-le-mul, mul-le-mul-right, mul-right-comm, mul-mul-mul-comm}
@@ -8,7 +8,7 @@ use mathlib.Core.Bool.{Bool, true, false, not, cond}
 use lib.IntN.{ℤ, pos}
 use lib.Dec.{T, eqb}
 use lib.Pow.{pow-pos}
-use lib.Ieee.{Float, nan, inf, fin, Format, low, up, down, unlike, round, add, mul, le, fits, isNan}
+use lib.Ieee.{Float, nan, inf, fin, Format, low, up, down, unlike, round, neg, sum, add, sub, mul, le, fits, isNan}
 use lib.Ieee.Fits.{up-pos, down-pos, eq→eqb}
 use lib.Ieee.Nearest.{div-mono}
 use lib.Ieee.Scale.{finite}
@@ -16,7 +16,7 @@ use Rattle.ieee_narrow.specs.Narrow.{narrow}
 use Rattle.ieee_sqrt.specs.Sqrt.{twice, rooted, sqrt}
 use Rattle.ieee_laws.proofs.Order as order
 use Rattle.ieee_laws.proofs.Order.{plus-le, zeros-le, Below, le→below, below→le, le-numbers, le-infinity, minus-infinity-le}
-use Rattle.ieee_laws.proofs.RoundOrder.{Under, zero-le-round, round-order, round-number, sum-order, sum-exact}
+use Rattle.ieee_laws.proofs.RoundOrder.{Under, round-zero, zero-le-round, round-order, round-number, sum-order, sum-exact}
 use Rattle.ieee_laws.proofs.Exact.{narrow-exact}
 use Rattle.ieee_sqrt.proofs.Rooting.{rooted-is}
 use Rattle.ieee_laws.proofs.RootOrder.{rooted-mono}
@@ -171,6 +171,31 @@ add-up f (fin s m e) (fin t n d) h p k =
     (subst (λ (w : Float). T (le w (round f (z .sign) (z .w) c))) (narrow-exact f (fin s m e) h)
     (round-order f s (z .sign) (m * up e) (down e) (z .w) c (down-pos e) (mul-pos (down-pos e) (down-pos d))
     (raised (cond (z .sign) 0 (z .w)) (cond (z .sign) (z .w) 0) (cond s 0 (m * up e)) (cond s (m * up e) 0) (cond t 0 b) (down e) (down d) E)))
+
+-- ---- a difference from what is not above
+parted : (s t : Bool) (A B x y c : ℕ) → cond t 0 B * x + cond s A 0 * y ≤ cond s 0 A * y + cond t B 0 * x
+    → (0 + 0) * c + (cond s (A * y) 0 + cond (not t) (B * x) 0) * 1 ≤ (cond s 0 (A * y) + cond (not t) 0 (B * x)) * 1 + (0 + 0) * c
+parted true true A B x y c h = omega arith
+parted true false A B x y c h = omega arith
+parted false true A B x y c h = omega arith
+parted false false A B x y c h = omega arith
+
+zero-sum : (f : Format) → sum f false 0 false 0 1 ≡ +0
+unfolding sum
+zero-sum f = round-zero f false 1 (zero-lt-suc 0)
+
+pub sub-from-zero : (f : Format) (x y : Float) → T (finite x) → T (finite y) → T (le y x) → T (le +0 (sub f x y))
+unfolding sub add neg
+sub-from-zero f nan y p q h = absurd p
+sub-from-zero f (inf s) y p q h = absurd p
+sub-from-zero f (fin s m e) nan p q h = absurd q
+sub-from-zero f (fin s m e) (inf t) p q h = absurd q
+sub-from-zero f (fin s m e) (fin t n d) p q h =
+    let a = m * up e * down d in
+    let b = n * up d * down e in
+    let c = down e * down d in
+    subst (λ (z : Float). T (le z (sum f s a (not t) b c))) (zero-sum f)
+    (sum-order f false 0 false 0 1 s a (not t) b c (zero-lt-suc 0) (mul-pos (down-pos e) (down-pos d)) (parted s t (m * up e) (n * up d) (down e) (down d) c (le→below (fin t n d) (fin s m e) tt tt h)))
 
 -- ---- products of sizes
 sizes-in : (s t : Bool) (a b c d : ℕ) → (T s → a ≡ 0) → (T t → c ≡ 0) → a * d ≤ c * b → Under s a b t c d
