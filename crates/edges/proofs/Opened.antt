@@ -21,7 +21,7 @@ unfolding edges-Needed.at edges-Needed.ends edges-Needed.releases edges-Needed.r
 edges-needed = Type 0
 
 unfoldable pub edges-passedges : Type 1
-unfolding edges-PassEdges.dec32 edges-PassEdges.past edges-PassEdges.past32 edges-PassEdges.on-x edges-PassEdges.down edges-PassEdges.alt-held edges-PassEdges.ctrl-held edges-PassEdges.shift-held edges-PassEdges.alt-shift-held edges-PassEdges.then edges-PassEdges.lasts edges-PassEdges.timeouts edges-PassEdges.rested edges-PassEdges.rests edges-PassEdges.scrolls edges-PassEdges.deltas edges-PassEdges.in-touch edges-PassEdges.start-keeps edges-PassEdges.stops edges-PassEdges.modifiers-let-go edges-PassEdges.smoothed-out edges-PassEdges.still-smoothing edges-PassEdges.of-the-wheel edges-PassEdges.two-fingers edges-PassEdges.started edges-PassEdges.has-started edges-PassEdges.start-position edges-PassEdges.no-start-position edges-PassEdges.pointer-just-gone edges-PassEdges.pointer-long-gone edges-PassEdges.fingers-by-id edges-PassEdges.from-there edges-PassEdges.pinches edges-PassEdges.pinch-types edges-PassEdges.three-fingers edges-PassEdges.finger-comes edges-PassEdges.finger-elsewhere edges-PassEdges.third-finger-goes edges-PassEdges.finger-goes edges-PassEdges.headings edges-PassEdges.forces edges-PassEdges.first-device edges-PassEdges.of-touches edges-PassEdges.moved-too-far edges-PassEdges.click-times edges-PassEdges.triple edges-PassEdges.not-triple edges-PassEdges.flags-of-release edges-PassEdges.pressed-until edges-PassEdges.presses edges-PassEdges.decided edges-PassEdges.long-touch edges-PassEdges.slow-repaint edges-PassEdges.no-repaint edges-PassEdges.drags-delta edges-PassEdges.three-samples edges-PassEdges.moving edges-PassEdges.velocities edges-PassEdges.gone-moving edges-PassEdges.pressed-moving edges-PassEdges.motions edges-PassEdges.of-the-pointer edges-PassEdges.keys edges-PassEdges.zooms-and-turns edges-PassEdges.zooms-by edges-PassEdges.axes edges-PassEdges.not-given edges-PassEdges.requested edges-PassEdges.repaint-requested edges-PassEdges.never-given edges-PassEdges.row edges-PassEdges.bare-row edges-PassEdges.words edges-PassEdges.refused edges-PassEdges.taken edges-PassEdges.malformed edges-PassEdges.limit-of edges-PassEdges.domain edges-PassEdges.touch edges-PassEdges.four-devices edges-PassEdges.fifth-device edges-PassEdges.fingers edges-PassEdges.eleventh-touch edges-PassEdges.crowds edges-PassEdges.pass-order edges-PassEdges.of-a-pass edges-PassEdges.pass-edges
+unfolding edges-PassEdges.dec32 edges-PassEdges.past edges-PassEdges.past32 edges-PassEdges.on-x edges-PassEdges.down edges-PassEdges.alt-held edges-PassEdges.ctrl-held edges-PassEdges.shift-held edges-PassEdges.alt-shift-held edges-PassEdges.then edges-PassEdges.row edges-PassEdges.bare-row edges-PassEdges.lasts edges-PassEdges.timeouts edges-PassEdges.rested edges-PassEdges.rests edges-PassEdges.scrolls edges-PassEdges.deltas edges-PassEdges.in-touch edges-PassEdges.start-keeps edges-PassEdges.stops edges-PassEdges.modifiers-let-go edges-PassEdges.smoothed-out edges-PassEdges.still-smoothing edges-PassEdges.of-the-wheel edges-PassEdges.two-fingers edges-PassEdges.started edges-PassEdges.has-started edges-PassEdges.start-position edges-PassEdges.no-start-position edges-PassEdges.pointer-just-gone edges-PassEdges.pointer-long-gone edges-PassEdges.fingers-by-id edges-PassEdges.from-there edges-PassEdges.pinches edges-PassEdges.pinch-types edges-PassEdges.three-fingers edges-PassEdges.finger-comes edges-PassEdges.finger-elsewhere edges-PassEdges.third-finger-goes edges-PassEdges.finger-goes edges-PassEdges.headings edges-PassEdges.forces edges-PassEdges.first-device edges-PassEdges.of-touches edges-PassEdges.moved-too-far edges-PassEdges.click-times edges-PassEdges.triple edges-PassEdges.not-triple edges-PassEdges.flags-of-release edges-PassEdges.pressed-until edges-PassEdges.presses edges-PassEdges.decided edges-PassEdges.long-touch edges-PassEdges.slow-repaint edges-PassEdges.no-repaint edges-PassEdges.drags-delta edges-PassEdges.three-samples edges-PassEdges.moving edges-PassEdges.velocities edges-PassEdges.gone-moving edges-PassEdges.pressed-moving edges-PassEdges.motions edges-PassEdges.moved-ago edges-PassEdges.pointer-rests edges-PassEdges.pointer-rests-moving edges-PassEdges.of-the-pointer edges-PassEdges.keys edges-PassEdges.zooms-and-turns edges-PassEdges.zooms-by edges-PassEdges.axes edges-PassEdges.not-given edges-PassEdges.requested edges-PassEdges.repaint-requested edges-PassEdges.never-given edges-PassEdges.words edges-PassEdges.refused edges-PassEdges.taken edges-PassEdges.malformed edges-PassEdges.limit-of edges-PassEdges.domain edges-PassEdges.touch edges-PassEdges.four-devices edges-PassEdges.fifth-device edges-PassEdges.fingers edges-PassEdges.eleventh-touch edges-PassEdges.crowds edges-PassEdges.pass-order edges-PassEdges.of-a-pass edges-PassEdges.pass-edges
 edges-passedges = Type 0
 
 unfoldable pub edges-rimedges : Type 1
@@ -33,7 +33,7 @@ unfolding edges-Steps.with-panel edges-Steps.with-widgets edges-Steps.same-row e
 edges-steps = Type 0
 
 unfoldable pub edges-words : Type 1
-unfolding edges-Words.same edges-Words.float-words edges-Words.present edges-Words.absent edges-Words.maybe-pos-words edges-Words.maybe-vec-words edges-Words.maybe-time-words edges-Words.rect-words edges-Words.maybe-id-words edges-Words.source-word edges-Words.rotation-words edges-Words.info-words edges-Words.maybe-info-words edges-Words.pointer-event-words edges-Words.pointer-events-words edges-Words.reply-words edges-Words.ids-words edges-Words.snapshot-words edges-Words.widget-words edges-Words.widgets-words
+unfolding edges-Words.same edges-Words.float-words edges-Words.present edges-Words.absent edges-Words.maybe-pos-words edges-Words.maybe-vec-words edges-Words.maybe-time-words edges-Words.maybe-number-words edges-Words.rect-words edges-Words.maybe-id-words edges-Words.source-word edges-Words.rotation-words edges-Words.info-words edges-Words.maybe-info-words edges-Words.pointer-event-words edges-Words.pointer-events-words edges-Words.reply-words edges-Words.ids-words edges-Words.snapshot-words edges-Words.widget-words edges-Words.widgets-words
 edges-words = Type 0
 
 unfoldable pub opened : Type 1

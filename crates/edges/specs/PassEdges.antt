@@ -10,11 +10,11 @@ use Rattle.data.specs.Numbers.{Row}
 use Rattle.feed.specs.Encode.{encode-all}
 use Rattle.model.specs.Options.{default-options}
 use Rattle.model.specs.Types.{Pos2, Vec2, Rect, Modifiers, InputOptions, Primary, Secondary, Point, Line, Page, Unknown, Wheel, Trackpad, Momentum, Start, Move, End, Cancel}
-use Rattle.model.specs.Types.{TouchPhase, MouseWheelUnit, MouseWheelSource, no-force, some-force, no-pos, some-pos, no-vec, some-vec, no-time, some-time, no-source, some-source}
+use Rattle.model.specs.Types.{TouchPhase, MouseWheelUnit, MouseWheelSource, no-force, some-force, no-pos, some-pos, no-vec, some-vec, no-time, some-time, no-number, some-number, no-source, some-source}
 use Rattle.model.specs.Types.{MultiTouchInfo, no-info, some-info, Radians, Headings, no-click, some-click, Moved, Pressed, Released}
 use Rattle.model.specs.Types.{Event, Key, ModifiersChanged, PointerMoved, MouseMoved, Button, PointerGone, Zoom, Rotate, Touch, MouseWheel, WindowFocused, Other}
 use Rattle.model.specs.Pass.{PassInput}
-use Rattle.model.specs.Questions.{bool, count, number, vector, maybe-vector, maybe-position, maybe-seconds, rectangle, flags, source, zoom, zoom-2d, rotation, gesture, events, has-touch-screen}
+use Rattle.model.specs.Questions.{bool, count, number, vector, maybe-vector, maybe-position, maybe-seconds, maybe-number, rectangle, flags, source, zoom, zoom-2d, rotation, gesture, events, has-touch-screen}
 use Rattle.model.specs.Questions as Q
 use Rattle.edges.specs.Steps.{Step, passes, refuses-pass, answers, replies, unprocessed}
 use Rattle.edges.specs.Cases.{dec, pos, vec, given, pass-at, at, options, click-distance, click-duration, delay, press, release, clicks, click, point, finger-starts, finger-moves}
@@ -54,6 +54,13 @@ alt-shift-held = record { alt = true; ctrl = false; shift = true; «mac_cmd» = 
 -- a pass with the default options
 unfoldable pub then : Float → List Event → Step
 then t es = at t default-options es
+
+-- a row that returns an index, and one that doesn't
+unfoldable pub row : ℕ → ℕ → Row
+row n i = record { number = n; index = some i }
+
+unfoldable pub bare-row : ℕ → Row
+bare-row n = record { number = n; index = none }
 
 -- ---- the wheel
 
@@ -396,9 +403,25 @@ motions =
     ∷ then (dec 2 0) (MouseMoved (vec 1 1) ∷ MouseMoved (vec 2 3) ∷ []) ∷ answers Q.motion (maybe-vector (some-vec (vec 3 4)))
     ∷ then (dec 3 0) [] ∷ answers Q.motion (maybe-vector (some-vec (vec 0 0))) ∷ []
 
+-- 02 A.4: none before any movement; relative motion, a press and a gone pointer are none; a move to the same place is one; a refused pass leaves it
+unfoldable pub moved-ago : Float → Step
+moved-ago x = replies Q.time-since-last-movement (maybe-number (some-number x))
+
+unfoldable pub pointer-rests : List Step
+pointer-rests =
+    replies Q.time-since-last-movement (maybe-number no-number)
+    ∷ then (dec 0 5000) (MouseMoved (vec 1 1) ∷ press (pos 1 1) ∷ []) ∷ replies Q.time-since-last-movement (maybe-number no-number)
+    ∷ then (dec 1 0) (PointerMoved (pos 3 4) ∷ []) ∷ moved-ago (dec 0 0) ∷ then (dec 1 5000) [] ∷ moved-ago (dec 0 5000)
+    ∷ refuses-pass (pass-at (dec 1 0) default-options (PointerMoved (pos 5 5) ∷ [])) (bare-row 3) ∷ moved-ago (dec 0 5000)
+    ∷ then (dec 2 0) (PointerGone ∷ []) ∷ moved-ago (dec 1 0) ∷ then (dec 3 0) (PointerMoved (pos 3 4) ∷ []) ∷ moved-ago (dec 0 0) ∷ []
+
+-- as long as there is a velocity it is 0, also where the pointer is gone
+unfoldable pub pointer-rests-moving : List Step
+pointer-rests-moving = three-samples (dec 0 625) ++ (then (dec 0 825) (PointerGone ∷ []) ∷ moved-ago (dec 0 0) ∷ then (dec 1 825) [] ∷ moved-ago (dec 1 0) ∷ [])
+
 unfoldable pub of-the-pointer : List (List Step)
 of-the-pointer =
-    moved-too-far ∷ triple ∷ not-triple ∷ flags-of-release ∷ decided ∷ long-touch ∷ slow-repaint ∷ no-repaint ∷ drags-delta ∷ gone-moving ∷ pressed-moving ∷ motions
+    pointer-rests ∷ pointer-rests-moving ∷ moved-too-far ∷ triple ∷ not-triple ∷ flags-of-release ∷ decided ∷ long-touch ∷ slow-repaint ∷ no-repaint ∷ drags-delta ∷ gone-moving ∷ pressed-moving ∷ motions
     ∷ (presses ++ velocities)
 
 -- ---- keys, sums, the clock and the screen
@@ -465,13 +488,6 @@ never-given =
     ∷ answers Q.time (number (dec 0 625)) ∷ answers Q.smooth-scroll-delta (vector (vec 0 5000)) ∷ []
 
 -- ---- refusals of a pass
-
--- a row that returns an index, and one that doesn't
-unfoldable pub row : ℕ → ℕ → Row
-row n i = record { number = n; index = some i }
-
-unfoldable pub bare-row : ℕ → Row
-bare-row n = record { number = n; index = none }
 
 -- a feed as words, at 1.0
 unfoldable pub words : List ℕ → PassInput

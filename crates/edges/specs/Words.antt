@@ -10,11 +10,11 @@ use Rattle.data.specs.Bits.{bit-number}
 use Rattle.data.specs.Modifiers.{modifiers-number}
 use Rattle.data.specs.Numbers.{button-number, source-number}
 use Rattle.feed.specs.Encode.{id-words, pos-words, vec-words, float-word}
-use Rattle.model.specs.Types.{WidgetRect, Rect, MaybePos2, no-pos, some-pos, MaybeVec2, no-vec, some-vec, MaybeF64, no-time, some-time}
+use Rattle.model.specs.Types.{WidgetRect, Rect, MaybePos2, no-pos, some-pos, MaybeVec2, no-vec, some-vec, MaybeF64, no-time, some-time, MaybeF32, no-number, some-number}
 use Rattle.model.specs.Types.{no-click, some-click, PointerEvent, Moved, Pressed, Released, MaybeMouseWheelSource, no-source, some-source}
 use Rattle.model.specs.Types.{Rotation, Radians, Headings, MultiTouchInfo, MaybeMultiTouchInfo, no-info, some-info}
 use Rattle.model.specs.Interact.{InteractionSnapshot}
-use Rattle.model.specs.Questions.{Reply, bool, count, number, vector, maybe-vector, maybe-position, maybe-seconds, rectangle, flags, source, zoom, zoom-2d, rotation, gesture, events, widget}
+use Rattle.model.specs.Questions.{Reply, bool, count, number, vector, maybe-vector, maybe-position, maybe-seconds, maybe-number, rectangle, flags, source, zoom, zoom-2d, rotation, gesture, events, widget}
 
 unfoldable pub same : List ℕ → List ℕ → Bool
 same [] [] = true
@@ -45,6 +45,10 @@ maybe-vec-words (some-vec v) = present (vec-words v)
 unfoldable pub maybe-time-words : MaybeF64 → List ℕ
 maybe-time-words no-time = absent 2
 maybe-time-words (some-time t) = present (float-words binary64 t)
+
+unfoldable pub maybe-number-words : MaybeF32 → List ℕ
+maybe-number-words no-number = absent 1
+maybe-number-words (some-number x) = present (float-word x ∷ [])
 
 unfoldable pub rect-words : Rect → List ℕ
 rect-words r = pos-words (r .min) ++ pos-words (r .max)
@@ -96,6 +100,7 @@ reply-words f (vector v) = vec-words v
 reply-words f (maybe-vector v) = maybe-vec-words v
 reply-words f (maybe-position v) = maybe-pos-words v
 reply-words f (maybe-seconds t) = maybe-time-words t
+reply-words f (maybe-number x) = maybe-number-words x
 reply-words f (rectangle r) = rect-words r
 reply-words f (flags m) = modifiers-number m ∷ []
 reply-words f (source s) = source-word s ∷ []

@@ -1,6 +1,6 @@
 -- A running panel shows its own records, so what a question's function ensures of every panel that shows them holds of it. Assumes nothing.
 use Prim.Native.Nat.{ℕ, zero, suc}
-use mathlib.Core.Path.{_≡_, refl, sym, _∙_, ap}
+use mathlib.Core.Path.{_≡_, refl, sym, _∙_, ap, subst}
 use mathlib.Core.List.{List, [], _∷_}
 use Rattle.model.specs.Types.{PointerEvent}
 use Rattle.model.specs.Pass.{Panel, fresh}
@@ -8,10 +8,12 @@ use Rattle.model.specs.Calls.{run}
 use Rattle.model.specs.Questions as Q
 use Rattle.model.specs.Questions.{Question, settled, Reply, events, ask, reply, shown}
 use Rattle.pointer_events.specs.Events.{event-or-none}
+use Rattle.theorems.specs.Reach.{FromZero}
+use Rattle.theorems.proofs.Reach.{rested-from-zero}
 use Rattle.histories.specs.History.{Running, shows}
 use Rattle.histories.specs.Asked.{Reads, by-clock, by-screen, by-sums, by-wheel, by-devices, by-interaction, by-keys, by-presses, by-place, by-events, by-press}
-use Rattle.histories.specs.Asked.{by-wheel-at, by-click-past, by-gesture, by-gesture-by-axis, by-place-and-press, by-pressing, by-long-press, by-long-touch, by-waiting, by-tally, by-event-list}
-use Rattle.histories.specs.Asked.{reads, ReadsEvents, ensured, EveryAnswerIsTheModels, HistoriesAnswer}
+use Rattle.histories.specs.Asked.{by-wheel-at, by-click-past, by-last-move, by-gesture, by-gesture-by-axis, by-place-and-press, by-pressing, by-long-press, by-long-touch, by-waiting, by-tally, by-event-list}
+use Rattle.histories.specs.Asked.{reads, ReadsEvents, ensured, EveryAnswerIsTheModels, HistoriesAnswer, HistoriesRested}
 use Rattle.histories.proofs.History.{run-from-fresh}
 
 -- two lists of events with the same event, or none, at each place
@@ -40,6 +42,7 @@ answer-by by-events x q a h = h (x .lent .places) (shows x) refl
 answer-by by-press x q a h = h (x .lent .codes) (x .lent .places) (shows x) refl
 answer-by by-wheel-at x q a h = h (shows x) refl refl
 answer-by by-click-past x q a h = h (x .lent .codes) (x .lent .places) (shows x) refl refl
+answer-by by-last-move x q a h = h (shows x) refl refl
 answer-by by-gesture x q a h = h (shows x) refl refl
 answer-by by-gesture-by-axis x q a h = h (x .lent .presses) (shows x) refl refl refl refl
 answer-by by-place-and-press x q a h = h (x .lent .times) (x .lent .positions) (x .lent .codes) (x .lent .places) (shows x) refl refl
@@ -56,3 +59,7 @@ every-answer-is-the-models x q a h = answer-by (reads q) x q a h
 pub histories-answer : HistoriesAnswer
 histories-answer x y calls answers start history q a h =
     ap (λ (p : Panel). ask q p) (sym (run-from-fresh x start y calls answers history)) ∙ every-answer-is-the-models y q a h
+
+pub histories-rested : HistoriesRested
+histories-rested x y calls answers start history a h =
+    subst (λ (r : Reply). FromZero r) (histories-answer x y calls answers start history Q.time-since-last-movement a h) (rested-from-zero calls)

@@ -11,13 +11,14 @@ use Rattle.model.specs.Questions as ask
 use Rattle.model.specs.Questions.{Settled, Question, settled, Reply, events, ask}
 use Rattle.pointer_events.specs.Events.{event-or-none}
 use Rattle.panel.specs.Answers.{of-clock, of-screen, of-sums, of-wheel, of-devices, of-interaction, of-keys, of-presses, of-place, of-events, of-press, of-event-count, of-event-at}
-use Rattle.panel.specs.Answers.{of-wheel-at, of-click-past, of-gesture, of-gesture-by-axis, of-place-and-press, of-pressing, of-long-press, of-long-touch, of-waiting, of-tally}
+use Rattle.panel.specs.Answers.{of-wheel-at, of-click-past, of-last-move, of-gesture, of-gesture-by-axis, of-place-and-press, of-pressing, of-long-press, of-long-touch, of-waiting, of-tally}
+use Rattle.theorems.specs.Reach.{FromZero}
 use Rattle.histories.specs.History.{Running, shows, Starts, History}
 
 -- ---- what a question's function is given: each is a definition of panel/specs/Answers.antt
 pub data Reads : Type 0 where
   by-clock by-screen by-sums by-wheel by-devices by-interaction by-keys by-presses by-place by-events by-press : Reads
-  by-wheel-at by-click-past by-gesture by-gesture-by-axis by-place-and-press by-pressing by-long-press by-long-touch by-waiting by-tally : Reads
+  by-wheel-at by-click-past by-last-move by-gesture by-gesture-by-axis by-place-and-press by-pressing by-long-press by-long-touch by-waiting by-tally : Reads
   -- the pointer events, by `pointer_event_count` and `pointer_event`
   by-event-list : Reads
 
@@ -85,6 +86,7 @@ settled-by ask.potential-drag-id = by-interaction
 abbrev pub reads : Question → Reads
 reads (settled q) = settled-by q
 reads ask.time-since-last-click = by-click-past
+reads ask.time-since-last-movement = by-last-move
 reads ask.has-touch-screen = by-devices
 reads ask.tally = by-tally
 
@@ -112,6 +114,7 @@ module _ (x : Running) (q : Question) (a : Reply) where
   ensured by-press = of-press q (x .panel .input .pointer .press) a
   ensured by-wheel-at = of-wheel-at q (x .panel .input .wheel) (x .panel .input .clock) a
   ensured by-click-past = of-click-past q (x .panel .input .pointer .press) (x .panel .input .clock) a
+  ensured by-last-move = of-last-move q (x .panel .input .pointer) (x .panel .input .clock) a
   ensured by-gesture = of-gesture q (x .panel .devices) (x .panel .input .sums) a
   ensured by-gesture-by-axis = of-gesture-by-axis q (x .panel .devices) (x .panel .input .sums) (x .panel .input .keys) (x .panel .input .screen) a
   ensured by-place-and-press = of-place-and-press q (x .panel .input .pointer) a
@@ -136,3 +139,9 @@ abbrev pub HistoriesAnswer : Type 0
 HistoriesAnswer =
     (x y : Running) (calls : List Call) (answers : List Outcome) → Starts x → History x calls answers y
     → (q : Question) (a : Reply) → Answers y q a → ask q (run fresh calls) ≡ a
+
+-- 02 A.4: so the seconds since the last movement are none, or at least 0
+abbrev pub HistoriesRested : Type 0
+HistoriesRested =
+    (x y : Running) (calls : List Call) (answers : List Outcome) → Starts x → History x calls answers y
+    → (a : Reply) → Answers y ask.time-since-last-movement a → FromZero a

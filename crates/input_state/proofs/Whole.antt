@@ -8,8 +8,8 @@ use lib.ListN.{getD, length}
 use lib.Ieee.{Float}
 use Rattle.data.specs.Limits.{max-events, key-count}
 use Rattle.model.specs.Numbers.{+0, one}
-use Rattle.model.specs.Types.{Rect, InputOptions, WheelState, Event}
-use Rattle.model.specs.Pointer.{Place, start-place, place-events, place-pass, Press, press-pass, is-decidedly-dragging}
+use Rattle.model.specs.Types.{Rect, InputOptions, MaybeF64, no-time, WheelState, Event}
+use Rattle.model.specs.Pointer.{Place, start-place, place-events, place-pass, Press, press-pass, is-decidedly-dragging, move-time}
 use Rattle.model.specs.Touch.{TouchState, end-touches}
 use Rattle.model.specs.Wheel.{wheel-default, wheel-pass}
 use Rattle.model.specs.Pass.{Panel, time-of, rect-or, clock-pass, screen-pass, is-empty, key-events, keys-pass, sums-of, decidedly-dragging, fresh, fresh-place, fresh-press}
@@ -41,6 +41,7 @@ pub fresh-is : (c : Pass.Clock) (s : Pass.Screen) (q : Place) (r : Press) (w : W
       place = q;
       press = r;
       started-decidedly-dragging = false;
+      last-move-time = no-time;
       touch-states = [];
       wheel = w;
       keys = k;
@@ -51,7 +52,7 @@ pub fresh-is : (c : Pass.Clock) (s : Pass.Screen) (q : Place) (r : Press) (w : W
 unfolding fresh
 fresh-is c s q r w k m e1 e2 e3 e4 e5 e6 e7 = rw (e1, e2, e3, e4, e5, e6, e7)
 
-pub acted : (es : List Event) (vs : List TouchState) (p : Panel) (i : Pass.PassInput) (c : Pass.Clock) (s : Pass.Screen) (q : Place) (r : Press) (b : Bool)
+pub acted : (es : List Event) (vs : List TouchState) (p : Panel) (i : Pass.PassInput) (c : Pass.Clock) (s : Pass.Screen) (q : Place) (r : Press) (b : Bool) (l : MaybeF64)
     (w : WheelState) (k : Pass.Keys) (m : Pass.Sums) →
     c ≡ clock-pass i (time-of i (p .clock .time)) (p .clock) →
     s ≡ screen-pass i (p .screen) →
@@ -60,6 +61,7 @@ pub acted : (es : List Event) (vs : List TouchState) (p : Panel) (i : Pass.PassI
     b
     ≡ (is-decidedly-dragging (i .options) (time-of i (p .clock .time)) (r .held) (r .past .has-moved-too-much-for-a-click)
     && not (decidedly-dragging (p .clock) (p .screen) (p .press))) →
+    l ≡ move-time (time-of i (p .clock .time)) (r .held .pointer-events) (q .velocity) (p .last-move-time) →
     w ≡ wheel-pass (rect-or (i .screen-rect) (p .screen .viewport-rect)) (i .options) (time-of i (p .clock .time)) (i .smoothing-factor) es (p .wheel) →
     k ≡ keys-pass es (p .keys) →
     m ≡ sums-of (i .options) es w →
@@ -69,6 +71,7 @@ pub acted : (es : List Event) (vs : List TouchState) (p : Panel) (i : Pass.PassI
       place = q;
       press = r;
       started-decidedly-dragging = b;
+      last-move-time = l;
       touch-states = map (end-touches (time-of i (p .clock .time)) (p .place .interact-pos) es) vs;
       wheel = w;
       keys = k;
@@ -77,7 +80,7 @@ pub acted : (es : List Event) (vs : List TouchState) (p : Panel) (i : Pass.PassI
       tally = p .tally;
     } ≡ begin-by es vs p i
 unfolding begin-by
-acted es vs p i c s q r b w k m e1 e2 e3 e4 e5 e6 e7 e8 = rw (e8, e7, e6, e5, e4, e3, e2, e1)
+acted es vs p i c s q r b l w k m e1 e2 e3 e4 e5 e6 e7 e8 e9 = rw (e9, e8, e7, e6, e5, e4, e3, e2, e1)
 
 -- the lent arrays, of the parts that write them
 pub stored : (es : List Event) (vs : List TouchState) (p : Panel) (i : Pass.PassInput) (l l' : Lent) (s : InputState) (q : PlaceHeld) (r : PressHeld) →

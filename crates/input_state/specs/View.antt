@@ -9,7 +9,7 @@ use lib.Seq.{sets}
 use lib.Ieee.{Float}
 use Rattle.data.specs.Limits.{max-events, key-count}
 use Rattle.model.specs.Types.{Rect, InputOptions, MaybeF64, no-time, some-time, Event}
-use Rattle.model.specs.Pointer.{place-pass, press-pass, is-decidedly-dragging}
+use Rattle.model.specs.Pointer.{place-pass, press-pass, is-decidedly-dragging, move-time}
 use Rattle.model.specs.Touch.{TouchState, end-touches}
 use Rattle.model.specs.Wheel.{wheel-pass}
 use Rattle.model.specs.Pass.{Panel, Interaction, time-of, rect-or, clock-pass, screen-pass, keys-pass, sums-of, decidedly-dragging, fresh, pass}
@@ -84,6 +84,7 @@ panel l s vs n t =
       place = place (l .times) (l .positions) (s .pointer .place);
       press = press (l .codes) (l .places) (s .pointer .press);
       started-decidedly-dragging = s .pointer .«started_decidedly_dragging»;
+      last-move-time = s .pointer .«last_move_time»;
       touch-states = vs;
       wheel = s .wheel;
       keys = keys (l .presses) (s .keys);
@@ -106,6 +107,7 @@ begin-by es vs p i =
       press = s;
       started-decidedly-dragging =
           is-decidedly-dragging o time (s .held) (s .past .has-moved-too-much-for-a-click) && not (decidedly-dragging (p .clock) (p .screen) (p .press));
+      last-move-time = move-time time (s .held .pointer-events) (place-pass time es (p .place) .velocity) (p .last-move-time);
       touch-states = map (end-touches time (p .place .interact-pos) es) vs;
       wheel = w;
       keys = keys-pass es (p .keys);
@@ -132,6 +134,8 @@ pub record PointerPassed (old : InputOptions) (before : Float) (o : InputOptions
   pub started-is : r .«started_decidedly_dragging»
       ≡ (is-decidedly-dragging o time (press codes' places' (r .press) .held) (press codes' places' (r .press) .past .has-moved-too-much-for-a-click)
       && not (is-decidedly-dragging old before (press codes places (p .press) .held) (press codes places (p .press) .past .has-moved-too-much-for-a-click)))
+  -- the last movement's time, by the pass's pointer events and its velocity
+  pub moved-is : r .«last_move_time» ≡ move-time time (press codes' places' (r .press) .held .pointer-events) (r .place .velocity) (p .«last_move_time»)
 
 -- ---- a pass that is taken
 

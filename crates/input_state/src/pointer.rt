@@ -1,10 +1,12 @@
 // The pointer in a pass.
 use data::options::InputOptions;
+use data::pointer::MaybeF64;
 use emath_history::history::MAX_LEN;
 use emath_history::history::PARTS;
 use event_loop::LISTED;
 use place_loop::place_pass;
 use pointer_clicks::is_decidedly_dragging;
+use pointer_clicks::last_move_time;
 use pointer_clicks::started_decidedly_dragging;
 use pointer_events::CODES;
 use pointer_events::PLACES;
@@ -20,6 +22,8 @@ pub struct Pointer {
     pub place: Place,
     pub press: Press,
     pub started_decidedly_dragging: bool,
+    // none before any movement
+    pub last_move_time: MaybeF64,
 }
 
 // Of the first `count` events in the pointer's list. `before` and `old` are the pointer's time and the options before the pass.
@@ -47,6 +51,7 @@ pub fn pointer_pass(
     let old_press = p.press;
     let old_held = old_press.held;
     let old_past = old_press.past;
+    let old_last = p.last_move_time;
     let moved = old_past.has_moved_too_much_for_a_click;
     let was = is_decidedly_dragging(old_held, codes, old, before, moved);
     let place = place_pass(old_place, times, positions, time, feed, lists, count);
@@ -55,9 +60,12 @@ pub fn pointer_pass(
     let past = press.past;
     let spoilt = past.has_moved_too_much_for_a_click;
     let started = started_decidedly_dragging(held, codes, options, time, spoilt, was);
+    let velocity = place.velocity;
+    let last = last_move_time(held, codes, velocity, time, old_last);
     Pointer {
         place,
         press,
         started_decidedly_dragging: started,
+        last_move_time: last,
     }
 }

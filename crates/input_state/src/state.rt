@@ -14,6 +14,7 @@ use crate::sums::Sums;
 use crate::sums::fresh_sums;
 use crate::sums::sums_of;
 use data::mouse_wheel::WheelState;
+use data::pointer::MaybeF64;
 use emath_history::history::MAX_LEN;
 use emath_history::history::PARTS;
 use event_loop::KEYS;
@@ -53,6 +54,7 @@ pub fn fresh() -> InputState
         place,
         press,
         started_decidedly_dragging: false,
+        last_move_time: MaybeF64::None,
     };
     let wheel = wheel_state::default();
     let keys = key_state::keys::fresh();

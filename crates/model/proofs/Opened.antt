@@ -97,11 +97,11 @@ unfolding model-Pass.no-keys model-Pass.no-presses model-Pass.no-interaction mod
 model-pass = Type 0
 
 unfoldable pub model-pointer : Type 1
-unfolding model-Pointer.unwrap-or-default model-Pointer.zero-motion model-Pointer.add-motion model-Pointer.with-place model-Pointer.place-event model-Pointer.place-events model-Pointer.clear-history-after model-Pointer.start-place model-Pointer.delta-of model-Pointer.add-latest model-Pointer.velocity-of model-Pointer.finish-place model-Pointer.end-place model-Pointer.place-pass model-Pointer.no-buttons model-Pointer.set-down model-Pointer.button-down model-Pointer.any-down model-Pointer.is-press model-Pointer.is-release model-Pointer.is-click model-Pointer.any model-Pointer.press-too-long model-Pointer.could-any-button-be-click model-Pointer.is-decidedly-dragging model-Pointer.is-long-press model-Pointer.near model-Pointer.count-of model-Pointer.click-count model-Pointer.too-far model-Pointer.add-event model-Pointer.press-button model-Pointer.release-button model-Pointer.with-moved model-Pointer.remember-click model-Pointer.click-of model-Pointer.release model-Pointer.press-event model-Pointer.press-events model-Pointer.clear-events model-Pointer.press-pass
+unfolding model-Pointer.unwrap-or-default model-Pointer.zero-motion model-Pointer.add-motion model-Pointer.with-place model-Pointer.place-event model-Pointer.place-events model-Pointer.clear-history-after model-Pointer.start-place model-Pointer.delta-of model-Pointer.add-latest model-Pointer.velocity-of model-Pointer.finish-place model-Pointer.end-place model-Pointer.place-pass model-Pointer.no-buttons model-Pointer.set-down model-Pointer.button-down model-Pointer.any-down model-Pointer.is-press model-Pointer.is-release model-Pointer.is-click model-Pointer.is-move model-Pointer.any model-Pointer.move-time model-Pointer.press-too-long model-Pointer.could-any-button-be-click model-Pointer.is-decidedly-dragging model-Pointer.is-long-press model-Pointer.near model-Pointer.count-of model-Pointer.click-count model-Pointer.too-far model-Pointer.add-event model-Pointer.press-button model-Pointer.release-button model-Pointer.with-moved model-Pointer.remember-click model-Pointer.click-of model-Pointer.release model-Pointer.press-event model-Pointer.press-events model-Pointer.clear-events model-Pointer.press-pass
 model-pointer = Type 0
 
 unfoldable pub model-questions : Type 1
-unfolding model-Questions.shown model-Questions.zoom-reply model-Questions.zoom-by-axis model-Questions.zoom-2d-reply model-Questions.rotation-reply model-Questions.translation-reply model-Questions.source-if model-Questions.until-menu model-Questions.some-event model-Questions.repaint-after model-Questions.drag-delta model-Questions.same-button model-Questions.presses-button model-Questions.releases-button model-Questions.clicks-button model-Questions.clicks-button-times model-Questions.reply model-Questions.ask
+unfolding model-Questions.shown model-Questions.zoom-reply model-Questions.zoom-by-axis model-Questions.zoom-2d-reply model-Questions.rotation-reply model-Questions.translation-reply model-Questions.source-if model-Questions.until-menu model-Questions.some-event model-Questions.repaint-after model-Questions.drag-delta model-Questions.same-button model-Questions.presses-button model-Questions.releases-button model-Questions.clicks-button model-Questions.clicks-button-times model-Questions.reply model-Questions.since model-Questions.ask
 model-questions = Type 0
 
 unfoldable pub model-touch : Type 1

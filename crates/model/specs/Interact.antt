@@ -296,6 +296,7 @@ with-interaction p s n =
       place = p .place;
       press = p .press;
       started-decidedly-dragging = p .started-decidedly-dragging;
+      last-move-time = p .last-move-time;
       touch-states = p .touch-states;
       wheel = p .wheel;
       keys = p .keys;

@@ -14,10 +14,10 @@ use Rattle.feed.specs.Decode.{Decoded, good, malformed, outside-domain, Item, i
 use Rattle.feed.specs.Feed.{events-of}
 use Rattle.model.specs.Numbers.{+0, neg-infinity, one, sixtieth, ten-thousand}
 use Rattle.model.specs.Options.{default-options}
-use Rattle.model.specs.Types.{no-pos, no-vec, no-time, Vec2, Rect, Modifiers, InputOptions, WheelState}
+use Rattle.model.specs.Types.{no-pos, no-vec, no-time, MaybeF64, Vec2, Rect, Modifiers, InputOptions, WheelState}
 use Rattle.model.specs.Types.{PassRefusal, Malformed, OutsideDomain, TimeBelow, TooManyEvents, NoPlace}
 use Rattle.model.specs.Types.{Event, Key, ModifiersChanged, PointerMoved, MouseMoved, Button, PointerGone, Zoom, Rotate, Touch, MouseWheel, WindowFocused, Other}
-use Rattle.model.specs.Pointer.{Place, place-pass, Held, ClickPast, Press, press-pass, is-decidedly-dragging, no-buttons}
+use Rattle.model.specs.Pointer.{Place, place-pass, Held, ClickPast, Press, press-pass, is-decidedly-dragging, no-buttons, move-time}
 use Rattle.model.specs.Touch.{TouchState, no-place, find-device, touch-event, touch-pass}
 use Rattle.model.specs.Wheel.{wheel-default, wheel-pass}
 
@@ -67,6 +67,7 @@ pub record Panel : Type 0 where
   pub place : Place
   pub press : Press
   pub started-decidedly-dragging : Bool
+  pub last-move-time : MaybeF64
   pub touch-states : List TouchState
   pub wheel : WheelState
   pub keys : Keys
@@ -110,6 +111,7 @@ fresh =
       place = fresh-place;
       press = fresh-press;
       started-decidedly-dragging = false;
+      last-move-time = no-time;
       touch-states = [];
       wheel = wheel-default;
       keys = record { keys-down = no-keys; modifiers = no-modifiers; presses = no-presses; feed-empty = true };
@@ -263,6 +265,7 @@ begin-pass p i =
       press = s;
       started-decidedly-dragging =
           is-decidedly-dragging o time (s .held) (s .past .has-moved-too-much-for-a-click) && not (decidedly-dragging (p .clock) (p .screen) (p .press));
+      last-move-time = move-time time (s .held .pointer-events) (place-pass time es (p .place) .velocity) (p .last-move-time);
       touch-states = touch-pass time (p .place .interact-pos) es (p .touch-states);
       wheel = w;
       keys = keys-pass es (p .keys);

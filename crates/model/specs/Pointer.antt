@@ -157,7 +157,7 @@ button-down Extra2 d = d .extra2
 unfoldable pub any-down : ButtonsDown → Bool
 any-down d = d .primary || d .secondary || d .middle || d .extra1 || d .extra2
 
--- `is_press`, `is_release`, `is_click`
+-- `is_press`, `is_release`, `is_click`, and `PointerEvent::Moved`
 unfoldable pub is-press : PointerEvent → Bool
 is-press (Moved v) = false
 is-press (Pressed v b) = true
@@ -174,9 +174,18 @@ is-click (Pressed v b) = false
 is-click (Released no-click b) = false
 is-click (Released (some-click c) b) = true
 
+unfoldable pub is-move : PointerEvent → Bool
+is-move (Moved v) = true
+is-move (Pressed v b) = false
+is-move (Released c b) = false
+
 unfoldable pub any : (PointerEvent → Bool) → List PointerEvent → Bool
 any f [] = false
 any f (e ∷ es) = f e || any f es
+
+-- `last_move_time` after a pass at `time` with these pointer events and then this velocity. 02 A.4: "set by a move and by a velocity other than zero"
+unfoldable pub move-time : Float → List PointerEvent → Vec2 → MaybeF64 → MaybeF64
+move-time time es v old = cond (any is-move es || vec-ne v vec-zero) (some-time time) old
 
 -- is the press older than max_click_duration
 unfoldable pub press-too-long : InputOptions → Float → MaybeF64 → Bool

@@ -12,7 +12,7 @@ use Rattle.data.specs.Modifiers.{matches-any}
 use Rattle.data.specs.Numbers.{button-number}
 use Rattle.model.specs.Numbers.{+0, one, fifth}
 use Rattle.model.specs.Types.{MaybePos2, no-pos, some-pos, Vec2, MaybeVec2, no-vec, some-vec, Rect, Modifiers, InputOptions, MaybeF64, no-time, some-time}
-use Rattle.model.specs.Types.{PointerButton, MaybeClick, no-click, some-click, PointerEvent, Moved, Pressed, Released, WheelState}
+use Rattle.model.specs.Types.{MaybeF32, no-number, some-number, PointerButton, MaybeClick, no-click, some-click, PointerEvent, Moved, Pressed, Released, WheelState}
 use Rattle.model.specs.Types.{MouseWheelSource, MaybeMouseWheelSource, no-source, some-source, Rotation, Radians, Headings, MaybeMultiTouchInfo, no-info, some-info}
 use Rattle.model.specs.Pointer.{Place, Held, any, is-press, is-release, is-click}
 use Rattle.model.specs.Pointer as Pointer
@@ -43,7 +43,7 @@ pub data Settled : Type 0 where
 pub data Question : Type 0 where
   settled : Settled → Question
   -- those that may differ for longer
-  time-since-last-click has-touch-screen tally : Question
+  time-since-last-click time-since-last-movement has-touch-screen tally : Question
 
 pub data Reply : Type 0 where
   bool : Bool → Reply
@@ -54,6 +54,8 @@ pub data Reply : Type 0 where
   maybe-position : MaybePos2 → Reply
   -- seconds, f64
   maybe-seconds : MaybeF64 → Reply
+  -- seconds, f32
+  maybe-number : MaybeF32 → Reply
   rectangle : Rect → Reply
   flags : Modifiers → Reply
   source : MaybeMouseWheelSource → Reply
@@ -244,9 +246,15 @@ reply dragged s = widget (s .interaction .dragged)
 reply potential-click-id s = widget (s .interaction .potential-click-id)
 reply potential-drag-id s = widget (s .interaction .potential-drag-id)
 
+-- `time_since_last_movement`: `(self.time - self.last_move_time) as f32`. 02 A.4: "or 'none' before any"
+unfoldable pub since : Float → MaybeF64 → MaybeF32
+since now no-time = no-number
+since now (some-time t) = some-number (narrow binary32 (sub binary64 now t))
+
 -- a question asked of a panel
 unfoldable pub ask : Question → Panel → Reply
 ask (settled q) p = reply q (shown p)
 ask time-since-last-click p = number (narrow binary32 (sub binary64 (p .clock .pointer-time) (p .press .past .last-click-time)))
+ask time-since-last-movement p = maybe-number (since (p .clock .pointer-time) (p .last-move-time))
 ask has-touch-screen p = bool (Touch.has-touch-screen (p .touch-states))
 ask tally p = count (p .tally)

@@ -36,6 +36,7 @@ pub use Rattle.data.specs.declared.touch.TouchPhase.{TouchPhase}
 pub use Rattle.data.specs.declared.touch.TouchPhase.the-variants.{Start, Move, End, Cancel}
 pub use Rattle.data.specs.declared.touch.MaybeF32.{MaybeF32}
 pub use Rattle.data.specs.declared.touch.MaybeF32.the-variants.{None as no-force, Some as some-force}
+pub use Rattle.data.specs.declared.touch.MaybeF32.the-variants.{None as no-number, Some as some-number}
 pub use Rattle.data.specs.declared.touch.ActiveTouch.{ActiveTouch}
 pub use Rattle.data.specs.declared.touch.PinchType.{PinchType}
 pub use Rattle.data.specs.declared.touch.PinchType.the-variants.{Horizontal, Vertical, Proportional}

@@ -26,7 +26,7 @@ unfolding model_calls-Clicks.one-click model_calls-Clicks.many-clicks model_call
 model_calls-clicks = Type 0
 
 unfoldable pub model_calls-dump : Type 1
-unfolding model_calls-Dump.history-words model_calls-Dump.place-words model_calls-Dump.down-bits model_calls-Dump.press-words model_calls-Dump.wheel-words model_calls-Dump.maybe-force-words model_calls-Dump.touches-words model_calls-Dump.averages-words model_calls-Dump.previous-words model_calls-Dump.gesture-words model_calls-Dump.devices-words model_calls-Dump.keys-words model_calls-Dump.options-words model_calls-Dump.state-words model_calls-Dump.interaction-words model_calls-Dump.widget-words model_calls-Dump.all-widget-words model_calls-Dump.layer-before model_calls-Dump.insert-slice model_calls-Dump.sort-slices model_calls-Dump.slices-words model_calls-Dump.insert-known model_calls-Dump.sort-known model_calls-Dump.known-words model_calls-Dump.dump-words
+unfolding model_calls-Dump.history-words model_calls-Dump.place-words model_calls-Dump.down-bits model_calls-Dump.press-words model_calls-Dump.wheel-words model_calls-Dump.touches-words model_calls-Dump.averages-words model_calls-Dump.previous-words model_calls-Dump.gesture-words model_calls-Dump.devices-words model_calls-Dump.keys-words model_calls-Dump.options-words model_calls-Dump.state-words model_calls-Dump.interaction-words model_calls-Dump.widget-words model_calls-Dump.all-widget-words model_calls-Dump.layer-before model_calls-Dump.insert-slice model_calls-Dump.sort-slices model_calls-Dump.slices-words model_calls-Dump.insert-known model_calls-Dump.sort-known model_calls-Dump.known-words model_calls-Dump.dump-words
 model_calls-dump = Type 0
 
 unfoldable pub model_calls-exchanges : Type 1

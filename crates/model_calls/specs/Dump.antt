@@ -10,13 +10,13 @@ use Rattle.data.specs.Bits.{bit-number}
 use Rattle.data.specs.Modifiers.{modifiers-number}
 use Rattle.data.specs.Numbers.{source-number, status-number, pinch-number}
 use Rattle.feed.specs.Encode.{id-words, pos-words, vec-words, float-word}
-use Rattle.model.specs.Types.{LayerId, WidgetRect, InputOptions, ButtonsDown, WheelState, MaybeF32, no-force, some-force, ActiveTouch, DynGestureState, MaybeDynGestureState, no-state, some-state}
+use Rattle.model.specs.Types.{LayerId, WidgetRect, InputOptions, ButtonsDown, WheelState, ActiveTouch, DynGestureState, MaybeDynGestureState, no-state, some-state}
 use Rattle.model.specs.Types.{MaybeGestureState, no-gesture, some-gesture}
 use Rattle.model.specs.Pointer.{Place, Held, ClickPast}
 use Rattle.model.specs.Touch.{TouchState}
 use Rattle.model.specs.Pass.{Panel, Clock, Screen, Keys, Sums, Interaction}
 use Rattle.model.specs.Widgets.{Known}
-use Rattle.edges.specs.Words.{float-words, present, absent, maybe-pos-words, maybe-vec-words, maybe-time-words, maybe-id-words, rect-words, pointer-events-words}
+use Rattle.edges.specs.Words.{float-words, present, absent, maybe-pos-words, maybe-vec-words, maybe-time-words, maybe-number-words, maybe-id-words, rect-words, pointer-events-words}
 use Rattle.model_calls.specs.Ask.{packs}
 
 unfoldable pub history-words : List Sample → List ℕ
@@ -46,13 +46,9 @@ wheel-words w =
     status-number (w .status) ∷ source-number (w .source) ∷ modifiers-number (w .modifiers)
     ∷ float-words binary64 (w .«last_wheel_event») ++ (vec-words (w .«unprocessed_wheel_delta») ++ vec-words (w .«smooth_wheel_delta»))
 
-unfoldable pub maybe-force-words : MaybeF32 → List ℕ
-maybe-force-words no-force = absent 1
-maybe-force-words (some-force x) = present (float-word x ∷ [])
-
 unfoldable pub touches-words : List ActiveTouch → List ℕ
 touches-words [] = []
-touches-words (t ∷ ts) = id-words (t .id) ++ (pos-words (t .pos) ++ (maybe-force-words (t .force) ++ touches-words ts))
+touches-words (t ∷ ts) = id-words (t .id) ++ (pos-words (t .pos) ++ (maybe-number-words (t .force) ++ touches-words ts))
 
 unfoldable pub averages-words : DynGestureState → List ℕ
 averages-words a =

@@ -84,6 +84,9 @@ of-wheel-at q w c a = (p : Model.Panel) → p .wheel ≡ w → p .clock ≡ cloc
 abbrev pub of-click-past : Question → Press → Clock → Reply → Type 0
 of-click-past q s c a = (codes : List ℕ) (places : List Float) (p : Model.Panel) → p .press ≡ press codes places s → p .clock ≡ clock c → ask q p ≡ a
 
+abbrev pub of-last-move : Question → Pointer → Clock → Reply → Type 0
+of-last-move q x c a = (p : Model.Panel) → p .last-move-time ≡ x .«last_move_time» → p .clock ≡ clock c → ask q p ≡ a
+
 abbrev pub of-gesture : Question → Devices → Sums → Reply → Type 0
 of-gesture q ds s a = (p : Model.Panel) → p .touch-states ≡ view ds → p .sums ≡ sums s → ask q p ≡ a
 

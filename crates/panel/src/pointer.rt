@@ -1,12 +1,14 @@
 // Where the pointer is and how it moves.
+use data::touch::MaybeF32;
 use emath::pos2::MaybePos2;
 use emath::vec2::MaybeVec2;
 use emath::vec2::Vec2;
+use input_state::clock::Clock;
 use input_state::pointer::Pointer;
 use pointer_place::Place;
-ghost use Rattle.model.specs.Questions.{settled, bool, vector, maybe-vector, maybe-position};
+ghost use Rattle.model.specs.Questions.{settled, bool, vector, maybe-vector, maybe-position, maybe-number};
 ghost use Rattle.model.specs.Questions as ask;
-ghost use Rattle.panel.specs.Answers.{of-place, of-place-and-press};
+ghost use Rattle.panel.specs.Answers.{of-place, of-place-and-press, of-last-move};
 
 pub fn delta(place: Place) -> Vec2
     ensures { λ r. ⌜ of-place (settled ask.delta) place (vector r) ⌝ }
@@ -66,6 +68,14 @@ pub fn is_moving(place: Place) -> bool
     ensures { λ r. ⌜ of-place (settled ask.is-moving) place (bool r) ⌝ }
 {
     pointer_questions::moving::is_moving(place)
+}
+
+// In seconds, or none before any.
+pub fn time_since_last_movement(pointer: Pointer, clock: Clock) -> MaybeF32
+    ensures { λ r. ⌜ of-last-move ask.time-since-last-movement pointer clock (maybe-number r) ⌝ }
+{
+    let last = pointer.last_move_time;
+    pointer_questions::moving::time_since_last_movement(last, clock.pointer_time)
 }
 
 // How far the pointer moved since the press, if there is one.

@@ -19,7 +19,7 @@ ghost use Prim.Native.Nat.{ℕ};
 ghost use lib.Ieee.{Float, lt};
 ghost use Rattle.emath.specs.Vec.{length};
 ghost use Rattle.model.specs.Pointer.{set-down, button-down, any-down, press-too-long, near, click-count, too-far, click-of, remember-click};
-ghost use Rattle.model.specs.Pointer.{could-any-button-be-click, is-decidedly-dragging, clear-events};
+ghost use Rattle.model.specs.Pointer.{could-any-button-be-click, is-decidedly-dragging, clear-events, move-time};
 ghost use Rattle.pointer_clicks.specs.View.{held, past};
 
 // The pass's events are the first `event_count` in the lent arrays.
@@ -264,6 +264,26 @@ pub fn started_decidedly_dragging(
 {
     let is = is_decidedly_dragging(h, codes, options, time, moved);
     is & !was
+}
+
+// last_move_time after a pass: of a pointer that moves no event is looked at.
+pub fn last_move_time(
+    h: Held,
+    codes: &[u32; CODES],
+    velocity: Vec2,
+    time: f64,
+    old: MaybeF64,
+) -> MaybeF64
+    ensures { λ r. ⌜ ((positions : List Float) → r ≡ move-time time (held (now (codes .entry)) positions h .pointer-events) velocity old) ⌝ }
+{
+    let zero = Vec2::zero();
+    if velocity.ne(zero) {
+        return MaybeF64::Some(time);
+    }
+    if any(codes, h.event_count, Sought::Move) {
+        return MaybeF64::Some(time);
+    }
+    old
 }
 
 // pointer_events.clear()

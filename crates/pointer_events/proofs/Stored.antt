@@ -15,13 +15,10 @@ use Rattle.data.specs.Limits.{max-events}
 use Rattle.data.specs.Modifiers.{modifiers-number}
 use Rattle.feed.specs.Shape.{button-of}
 use Rattle.feed.proofs.RoundTrip.{button-back, modifiers-back}
-use Rattle.model.specs.Types.{Pos2}
 use Rattle.model.specs.Types.{no-click, some-click, PointerEvent, Moved, Pressed, Released}
-use Rattle.model.specs.Pointer.{any, is-press, is-release, is-click}
-use Rattle.model.specs.Questions.{presses-button, releases-button, clicks-button, clicks-button-times}
-use Rattle.pointer_events.specs.Types.{Entry, Sought, no-event, some-event}
-use Rattle.pointer_events.specs.Types.sought as sought
-use Rattle.pointer_events.specs.Events.{click-of, event-of, entry-of, entry-at, events-from, counted, events, event-or-none, asks, codes-with, codes-of, positions-of, Pushed}
+use Rattle.model.specs.Pointer.{any}
+use Rattle.pointer_events.specs.Types.{Entry, no-event, some-event}
+use Rattle.pointer_events.specs.Events.{click-of, event-of, entry-of, entry-at, events-from, counted, events, event-or-none, codes-with, codes-of, positions-of, Pushed}
 
 -- ---- an event is read back as it was written
 pub event-back : (e : PointerEvent) → event-of (entry-of e) ≡ e
@@ -260,17 +257,6 @@ module _ (cs : List ℕ) (ps : List Float) (n i : ℕ) where
   pub read-none : counted n ≤ i → no-event ≡ event-or-none (events cs ps n) i
   unfolding events
   read-none h = read-past cs ps 0 (counted n) i h
-
--- no question looks for a move
-pub moved-none : (q : Sought) (v : Pos2) → false ≡ asks q (Moved v)
-unfolding asks is-press is-release is-click presses-button releases-button clicks-button clicks-button-times
-moved-none sought.Press v = refl
-moved-none sought.Release v = refl
-moved-none sought.Click v = refl
-moved-none (sought.PressOf b) v = refl
-moved-none (sought.ReleaseOf b) v = refl
-moved-none (sought.ClickOf b) v = refl
-moved-none (sought.ClicksOf n b) v = refl
 
 -- ---- one looked for: what is left of the search from event i on
 unfoldable pub rest : (PointerEvent → Bool) → List ℕ → List Float → ℕ → ℕ → Bool

@@ -14,7 +14,7 @@ use Rattle.data.specs.Numbers.{button-number}
 use Rattle.data.specs.Modifiers.{modifiers-number, modifiers-of}
 use Rattle.feed.specs.Shape.{button-of}
 use Rattle.model.specs.Types.{Click, no-click, some-click, PointerEvent, Moved, Pressed, Released}
-use Rattle.model.specs.Pointer.{is-press, is-release, is-click}
+use Rattle.model.specs.Pointer.{is-press, is-release, is-click, is-move}
 use Rattle.model.specs.Questions.{presses-button, releases-button, clicks-button, clicks-button-times}
 use Rattle.pointer_events.specs.Types.{Entry, MaybePointerEvent, no-event, some-event, Sought}
 use Rattle.pointer_events.specs.Types.sought as sought
@@ -72,6 +72,7 @@ asks (sought.PressOf b) = presses-button b
 asks (sought.ReleaseOf b) = releases-button b
 asks (sought.ClickOf b) = clicks-button b
 asks (sought.ClicksOf n b) = clicks-button-times n b
+asks sought.Move = is-move
 
 -- the codes with an entry's as those of event n
 unfoldable pub codes-with : ℕ → Entry → List ℕ → List ℕ

@@ -14,7 +14,7 @@ ghost use lib.Ieee.{Float};
 ghost use Rattle.emath_history.specs.Ring.{set-position};
 ghost use Rattle.data.specs.Limits.{max-events};
 ghost use Rattle.feed.specs.Shape.{button-of};
-ghost use Rattle.model.specs.Types.{Pos2, Click, Pressed, Released, no-click, some-click};
+ghost use Rattle.model.specs.Types.{Pos2, Click, Moved, Pressed, Released, no-click, some-click};
 ghost use Rattle.model.specs.Pointer.{any};
 ghost use Rattle.model.specs.Questions.{same-button};
 ghost use Rattle.pointer_events.specs.Types.{Entry};
@@ -52,6 +52,7 @@ pub enum Sought {
     ClickOf(PointerButton),
     // a click that counts so many
     ClicksOf(u32, PointerButton),
+    Move,
 }
 
 pub fn counted(count: usize) -> usize
@@ -221,6 +222,21 @@ fn same_button(button: PointerButton, n: u32) -> bool
     button.number() == other.number()
 }
 
+fn move_is(sought: Sought) -> bool
+    ensures { λ r. ⌜ ((pos : Pos2) → r ≡ asks sought (Moved pos)) ⌝ }
+{
+    match sought {
+        Sought::Press => false,
+        Sought::Release => false,
+        Sought::Click => false,
+        Sought::PressOf(_) => false,
+        Sought::ReleaseOf(_) => false,
+        Sought::ClickOf(_) => false,
+        Sought::ClicksOf(_, _) => false,
+        Sought::Move => true,
+    }
+}
+
 fn press_is(sought: Sought, button: u32) -> bool
     ensures { λ r. ⌜ ((pos : Pos2) → r ≡ asks sought (Pressed pos (button-of button))) ⌝ }
 {
@@ -232,6 +248,7 @@ fn press_is(sought: Sought, button: u32) -> bool
         Sought::ReleaseOf(_) => false,
         Sought::ClickOf(_) => false,
         Sought::ClicksOf(_, _) => false,
+        Sought::Move => false,
     }
 }
 
@@ -246,6 +263,7 @@ fn release_is(sought: Sought, button: u32) -> bool
         Sought::ReleaseOf(b) => same_button(b, button),
         Sought::ClickOf(_) => false,
         Sought::ClicksOf(_, _) => false,
+        Sought::Move => false,
     }
 }
 
@@ -265,6 +283,7 @@ fn click_is(sought: Sought, button: u32, count: u32) -> bool
             }
             false
         }
+        Sought::Move => false,
     }
 }
 
@@ -272,7 +291,7 @@ fn matches(sought: Sought, kind: u32, button: u32, count: u32) -> bool
     ensures { λ r. ⌜ ((x : Entry) → x .kind ≡ kind → x .button ≡ button → x .count ≡ count → r ≡ asks sought (event-of x)) ⌝ }
 {
     match kind {
-        0 => false,
+        0 => move_is(sought),
         1 => press_is(sought, button),
         2 => release_is(sought, button),
         _ => click_is(sought, button, count),

@@ -3,6 +3,7 @@ use Prim.Native.Nat.{ℕ}
 use mathlib.Core.Path.{_≡_}
 use mathlib.Core.List.{List}
 use lib.Ieee.{Float}
+use Rattle.model.specs.Types.{MaybeF64}
 use Rattle.model.specs.Pass.{Panel}
 use Rattle.model.specs.Questions.{Settled, Question, Reply, Shown, reply, ask}
 use Rattle.pointer_place.specs.declared.Place.{Place}
@@ -30,3 +31,7 @@ of-both q p h a =
 -- one that reads the clicks
 abbrev pub of-past : Question → Float → ClickPast → Reply → Type 0
 of-past q time p a = (s : Panel) → s .clock .pointer-time ≡ time → s .press .past ≡ past p → ask q s ≡ a
+
+-- one that reads the last movement's time
+abbrev pub of-last-move : Question → Float → MaybeF64 → Reply → Type 0
+of-last-move q time last a = (s : Panel) → s .clock .pointer-time ≡ time → s .last-move-time ≡ last → ask q s ≡ a

@@ -1,4 +1,6 @@
 // Where the pointer is and how it moves.
+use data::pointer::MaybeF64;
+use data::touch::MaybeF32;
 use emath::pos2::MaybePos2;
 use emath::vec2::MaybeVec2;
 use emath::vec2::Vec2;
@@ -7,9 +9,9 @@ use pointer_place::Place;
 ghost use mathlib.Core.Path.{_≡_};
 ghost use mathlib.Core.List.{List};
 ghost use lib.Ieee.{Float};
-ghost use Rattle.model.specs.Questions.{bool, vector, maybe-vector, maybe-position};
+ghost use Rattle.model.specs.Questions.{bool, vector, maybe-vector, maybe-position, maybe-number};
 ghost use Rattle.model.specs.Questions as ask;
-ghost use Rattle.pointer_questions.specs.Answers.{of-place, of-both};
+ghost use Rattle.pointer_questions.specs.Answers.{of-place, of-both, of-last-move};
 
 pub fn delta(p: Place) -> Vec2
     ensures { λ r. ⌜ of-place ask.delta p (vector r) ⌝ }
@@ -77,6 +79,16 @@ pub fn is_moving(p: Place) -> bool
     let v = p.velocity;
     let zero = Vec2::zero();
     v.ne(zero)
+}
+
+// In seconds, or none before any; `time` is that of the pointer's last pass.
+pub fn time_since_last_movement(last: MaybeF64, time: f64) -> MaybeF32
+    ensures { λ r. ⌜ of-last-move ask.time-since-last-movement time last (maybe-number r) ⌝ }
+{
+    match last {
+        MaybeF64::None => MaybeF32::None,
+        MaybeF64::Some(t) => MaybeF32::Some(ieee_narrow::narrow(time - t)),
+    }
 }
 
 // How far the pointer moved since the press, if there is one.

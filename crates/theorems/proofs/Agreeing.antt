@@ -1,6 +1,6 @@
--- Two panels from the next taken pass on: they differ in the click past, in devices without a touch and in the tally, and answer alike. Assumes nothing.
+-- Two panels from the next taken pass on: they differ in the click past, in devices without a touch, in the tally and in the last movement's time, and answer alike. Assumes nothing.
 use mathlib.Core.Path.{_≡_, refl, sym, ap, _∙_, subst}
-use mathlib.Core.Bool.{Bool, true, false, not, _&&_, _||_}
+use mathlib.Core.Bool.{Bool, true, false, not, _&&_, _||_, cond}
 use mathlib.Core.Option.{Option, none, some}
 use mathlib.Core.List.{List}
 use lib.Dec.{T}
@@ -8,13 +8,14 @@ use lib.Ieee.{Float, binary32, binary64, sub, le}
 use lib.Ieee.Scale.{finite}
 use Rattle.ieee_narrow.specs.Narrow.{narrow}
 use Rattle.ieee_laws.proofs.Order.{le-trans, le-refl}
-use Rattle.model.specs.Types.{InputOptions, Primary, Event}
-use Rattle.model.specs.Pointer.{Held, ClickPast, Press, any, is-click, any-down, no-buttons, button-down, press-too-long, could-any-button-be-click, is-decidedly-dragging, is-long-press, clear-events, press-events, press-pass}
+use Rattle.emath.specs.Vec.{vec-zero, vec-ne}
+use Rattle.model.specs.Types.{InputOptions, Primary, Event, MaybeF64, some-time}
+use Rattle.model.specs.Pointer.{Held, ClickPast, Press, any, is-click, is-move, move-time, any-down, no-buttons, button-down, press-too-long, could-any-button-be-click, is-decidedly-dragging, is-long-press, clear-events, press-events, press-pass}
 use Rattle.model.specs.Touch.{TouchState, touch-pass, multi-touch, any-touches, find-device, info-at, any-touches-at}
 use Rattle.model.specs.Pass.{Panel, PassInput, Interaction, Tally, begin-pass, clock-pass, decidedly-dragging, pass-events, time-of}
 use Rattle.model.specs.Interact.{InteractInput, InteractionSnapshot, seen, snapshot, interaction-after, with-interaction, tally-after, long-press, could-click, has-pos}
 use Rattle.model.specs.Calls.{passed}
-use Rattle.model.specs.Questions.{Question, settled, time-since-last-click, has-touch-screen, tally, shown, reply, ask}
+use Rattle.model.specs.Questions.{Question, settled, time-since-last-click, time-since-last-movement, has-touch-screen, tally, since, shown, reply, ask}
 use Rattle.theorems.specs.Clearing.{FirstIsPress, Unless, first-button, button-came, Since, then-since, may-differ}
 use Rattle.model.proofs.InOrder.{Ascend, touch-pass-ascending}
 use Rattle.theorems.proofs.Devices.{live, touch-pass-live, info-live, any-touches-at-live, multi-touch-live, any-touches-live}
@@ -22,15 +23,16 @@ use Rattle.theorems.proofs.Times.{time-in-range}
 use Rattle.theorems.proofs.Trace.{Trace, unpressed, pressed, clicked, equal, pair, Kept, steps, first, could-same, decidedly-same, last-same, click-flag, next-pass}
 use Rattle.theorems.proofs.Taken.{Taken, Answered}
 
--- p with another click past, other devices and another tally
-unfoldable pub but-for : Panel → ClickPast → List TouchState → Tally → Panel
-but-for p b vs n =
+-- p with another click past, other devices, another tally and another time of the last movement
+unfoldable pub but-for : Panel → ClickPast → List TouchState → Tally → MaybeF64 → Panel
+but-for p b vs n l =
     record {
       clock = p .clock;
       screen = p .screen;
       place = p .place;
       press = pair (p .press .held) b;
       started-decidedly-dragging = p .started-decidedly-dragging;
+      last-move-time = l;
       touch-states = vs;
       wheel = p .wheel;
       keys = p .keys;
@@ -44,13 +46,15 @@ pub record Agreeing (D tc : Float) (pr : Bool) (k : Since) (p q : Panel) : Type 
   pub past : ClickPast
   pub devices : List TouchState
   pub count : Tally
-  pub is : q ≡ but-for p past devices count
+  pub moved-at : MaybeF64
+  pub is : q ≡ but-for p past devices count moved-at
   pub same-live : live (p .touch-states) ≡ live devices
   pub ascend-p : Ascend (p .touch-states)
   pub ascend-q : Ascend devices
   pub flag : Bool
   pub trace : Trace D tc (p .clock .time) (p .press .held) (p .press .past) past pr flag
   pub clicks : T (k .clicked) → T flag
+  pub moves : T (k .moved) → moved-at ≡ p .last-move-time
   pub fin-tc : T (finite tc)
   pub timed : T (finite (p .clock .time))
   pub from : T (le tc (p .clock .time))
@@ -94,14 +98,15 @@ press-together D tc old now o es h a b false c delay ft fn l m u t = go c (next-
         (first D tc now o delay ft fn (le-trans tc old now l m) (le-refl now fn) es (clear-events h) a b q la lb u)
 
 -- the state after it, of p and of p with another click past
-begin-but-for : (p : Panel) (i : PassInput) (b : ClickPast) (vs : List TouchState) (n : Tally) (D tc : Float) (pr c : Bool)
+begin-but-for : (p : Panel) (i : PassInput) (b : ClickPast) (vs : List TouchState) (n : Tally) (l : MaybeF64) (D tc : Float) (pr c : Bool)
     → (t : Together D tc (time-of i (p .clock .time)) pr c (press-pass (i .options) (time-of i (p .clock .time)) (pass-events i) (p .press)) (press-pass (i .options) (time-of i (p .clock .time)) (pass-events i) (pair (p .press .held) b)))
     → decidedly-dragging (p .clock) (p .screen) (p .press) ≡ decidedly-dragging (p .clock) (p .screen) (pair (p .press .held) b)
-    → begin-pass (but-for p b vs n) i
+    → begin-pass (but-for p b vs n l) i
     ≡ but-for (begin-pass p i) (press-pass (i .options) (time-of i (p .clock .time)) (pass-events i) (pair (p .press .held) b) .past)
     (touch-pass (time-of i (p .clock .time)) (p .place .interact-pos) (pass-events i) vs) n
+    (move-time (time-of i (p .clock .time)) (begin-pass p i .press .held .pointer-events) (begin-pass p i .place .velocity) l)
 unfolding begin-pass but-for
-begin-but-for p i b vs n D tc pr c t e =
+begin-but-for p i b vs n l D tc pr c t e =
     let o = i .options in
     let now = time-of i (p .clock .time) in
     let x = press-pass o now (pass-events i) (p .press) in
@@ -116,6 +121,7 @@ begin-but-for p i b vs n D tc pr c t e =
       place = m .place;
       press = pair (t .held j) (y .past);
       started-decidedly-dragging = d j && not (sym e j);
+      last-move-time = move-time now (t .held j .pointer-events) (m .place .velocity) l;
       touch-states = touch-pass now (p .place .interact-pos) (pass-events i) vs;
       wheel = m .wheel;
       keys = m .keys;
@@ -127,7 +133,7 @@ begin-but-for p i b vs n D tc pr c t e =
 pub agreeing-pass : (i : PassInput) (D tc : Float) (pr : Bool) (k : Since) (p q p' q' : Panel) → Agreeing D tc pr k p q → Taken p i p' → Taken q i q' → T (le (i .options .«max_double_click_delay») D)
     → T (le (p .clock .time) (time-of i (p .clock .time))) → Unless pr (FirstIsPress D tc (p' .clock .time) (first-button (pass-events i)))
     → Agreeing D tc (button-came pr (first-button (pass-events i))) (then-since (passed p') k) p' q'
-unfolding but-for begin-pass clock-pass decidedly-dragging
+unfolding but-for begin-pass clock-pass decidedly-dragging move-time
 agreeing-pass i D tc pr k p q p' q' g tp tq delay later opens =
     let core : Unless pr (FirstIsPress D tc now (first-button es)) → Agreeing D tc (button-came pr (first-button es)) (then-since (passed m) k) m q' =
     λ u. built (press-together D tc (p .clock .time) now o es (p .press .held) (p .press .past) (g .past) pr (g .flag) delay (g .fin-tc) fin-now (g .from) later u (g .trace)) in
@@ -156,10 +162,17 @@ agreeing-pass i D tc pr k p q p' q' g tp tq delay later opens =
     y : Press
     y = press-pass o now es (pair (p .press .held) (g .past))
 
-    is-then : Together D tc now (button-came pr (first-button es)) (g .flag) x y → q' ≡ but-for m (y .past) (touch-pass now (p .place .interact-pos) es (g .devices)) (g .count)
+    last : MaybeF64
+    last = move-time now (m .press .held .pointer-events) (m .place .velocity) (g .moved-at)
+
+    same-last : (b : Bool) → T (b || k .moved) → cond b (some-time now) (g .moved-at) ≡ cond b (some-time now) (p .last-move-time)
+    same-last true u = refl
+    same-last false u = g .moves u
+
+    is-then : Together D tc now (button-came pr (first-button es)) (g .flag) x y → q' ≡ but-for m (y .past) (touch-pass now (p .place .interact-pos) es (g .devices)) (g .count) last
     is-then t =
         tq .is ∙ ap (λ (z : Panel). begin-pass z i) (g .is)
-        ∙ begin-but-for p i (g .past) (g .devices) (g .count) D tc (button-came pr (first-button es)) (g .flag) t
+        ∙ begin-but-for p i (g .past) (g .devices) (g .count) (g .moved-at) D tc (button-came pr (first-button es)) (g .flag) t
         (decidedly-same D tc (p .clock .time) (p .press .held) (p .press .past) (g .past) (p .screen .options) (p .clock .pointer-time) pr (g .flag) (g .trace))
 
     flags : (t : Together D tc now (button-came pr (first-button es)) (g .flag) x y) (c' : Bool) → (T c' → T (t .flag)) → T (c' || k .clicked) → T (t .flag)
@@ -172,7 +185,9 @@ agreeing-pass i D tc pr k p q p' q' g tp tq delay later opens =
           past = y .past;
           devices = touch-pass now (p .place .interact-pos) es (g .devices);
           count = g .count;
+          moved-at = last;
           is = is-then t;
+          moves = same-last (any is-move (m .press .held .pointer-events) || vec-ne (m .place .velocity) vec-zero);
           same-live = touch-pass-live now (p .place .interact-pos) es (p .touch-states) (g .devices) (g .ascend-p) (g .ascend-q) (g .same-live);
           ascend-p = touch-pass-ascending now (p .place .interact-pos) es (p .touch-states) (g .ascend-p);
           ascend-q = touch-pass-ascending now (p .place .interact-pos) es (g .devices) (g .ascend-q);
@@ -206,7 +221,7 @@ module _ (D tc : Float) (pr : Bool) (k : Since) (p q : Panel) (g : Agreeing D tc
   devices-same f h = h (p .touch-states) (g .ascend-p) ∙ ap f (g .same-live) ∙ sym (h (g .devices) (g .ascend-q))
 
   other : Panel
-  other = but-for p (g .past) (g .devices) (g .count)
+  other = but-for p (g .past) (g .devices) (g .count) (g .moved-at)
 
   could' : could-click p ≡ could-click other
   unfolding could-click but-for other
@@ -268,14 +283,20 @@ module _ (D tc : Float) (pr : Bool) (k : Since) (p q : Panel) (g : Agreeing D tc
       (last-same D tc (p .clock .time) (p .press .held) (p .press .past) (g .past) pr (g .flag) (g .trace) t)
       ∙ ap (ask time-since-last-click) (sym (g .is))
 
+  since-movement-same : g .moved-at ≡ p .last-move-time → ask time-since-last-movement p ≡ ask time-since-last-movement q
+  unfolding ask but-for
+  since-movement-same e =
+      ap (λ (z : MaybeF64). Rattle.model.specs.Questions.maybe-number (since (p .clock .pointer-time) z)) (sym e) ∙ ap (ask time-since-last-movement) (sym (g .is))
+
+  doubly : (b : Bool) → T (not (not b)) → T b
+  doubly true t = tt
+  doubly false t = t
+
   pub agreeing-replies : (question : Question) → T (not (may-differ k question)) → ask question p ≡ ask question q
   unfolding ask may-differ
   agreeing-replies (settled a) t = ap (reply a) shown-same
   agreeing-replies time-since-last-click t = since-click-same (g .clicks (doubly (k .clicked) t))
-    where
-      doubly : (b : Bool) → T (not (not b)) → T b
-      doubly true t = tt
-      doubly false t = t
+  agreeing-replies time-since-last-movement t = since-movement-same (g .moves (doubly (k .moved) t))
   agreeing-replies has-touch-screen t = absurd t
   agreeing-replies tally t = absurd t
 
@@ -296,7 +317,7 @@ module _ (D tc : Float) (pr : Bool) (k : Since) (p q : Panel) (g : Agreeing D tc
       let n' = tally-after t (q .tally) in
       let same-snapshot : snapshot (seen p) x (p .interaction) ≡ snapshot (seen q) x (q .interaction) = λ j. snapshot (seen-same j) x (interaction-same j) in
       let same-after : d ≡ interaction-after (seen q) x (q .interaction) = λ j. interaction-after (seen-same j) x (interaction-same j) in
-      let e : q' ≡ but-for (with-interaction p d n) (g .past) (g .devices) n' =
+      let e : q' ≡ but-for (with-interaction p d n) (g .past) (g .devices) n' (g .moved-at) =
       hq .is ∙ ap (λ (z : Interaction). with-interaction q z n') (sym same-after) ∙ ap (λ (z : Panel). with-interaction z d n') (g .is) in (
         hp .answer ∙ same-snapshot ∙ sym (hq .answer),
         subst (λ (z : Panel). Agreeing D tc pr k z q') (sym (hp .is))
@@ -304,7 +325,9 @@ module _ (D tc : Float) (pr : Bool) (k : Since) (p q : Panel) (g : Agreeing D tc
               past = g .past;
               devices = g .devices;
               count = n';
+              moved-at = g .moved-at;
               is = e;
+              moves = g .moves;
               same-live = g .same-live;
               ascend-p = g .ascend-p;
               ascend-q = g .ascend-q;

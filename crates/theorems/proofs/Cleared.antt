@@ -1,16 +1,17 @@
 -- The clearing pass and its interact clear a panel, further interacts leave it cleared, and the next taken pass makes two of them agree. Assumes nothing.
 use mathlib.Core.Path.{_≡_, refl, sym, ap, _∙_, subst}
-use mathlib.Core.Bool.{Bool, true, false, not, _&&_, _||_, true≢false, false≢true}
+use mathlib.Core.Bool.{Bool, true, false, not, _&&_, _||_, cond, true≢false, false≢true}
 use mathlib.Core.Option.{Option, none, some}
 use mathlib.Core.List.{List, [], _∷_, _++_, map}
 use lib.Dec.{T}
 use lib.Ieee.{Float, le}
 use lib.Ieee.Scale.{finite}
 use Rattle.ieee_laws.proofs.Order.{le-refl}
-use Rattle.model.specs.Types.{Vec2, Rect, Pos2, Modifiers, InputOptions, no-pos, some-pos, no-time, PointerButton, PointerEvent, Moved, Pressed, Released}
+use Rattle.emath.specs.Vec.{vec-zero, vec-ne}
+use Rattle.model.specs.Types.{Vec2, Rect, Pos2, Modifiers, InputOptions, no-pos, some-pos, no-time, some-time, PointerButton, PointerEvent, Moved, Pressed, Released}
 use Rattle.model.specs.Types.{Event, Key, ModifiersChanged, PointerMoved, MouseMoved, Button, PointerGone, Zoom, Rotate, Touch, MouseWheel, WindowFocused, Other}
 use Rattle.model.specs.Pointer.{Place, with-place, place-event, place-events, clear-history-after, start-place, finish-place, end-place, place-pass}
-use Rattle.model.specs.Pointer.{Held, ClickPast, Press, any, is-press, is-release, is-click, any-down, no-buttons, could-any-button-be-click, is-decidedly-dragging, add-event, press-button, release-button, click-of, release}
+use Rattle.model.specs.Pointer.{Held, ClickPast, Press, any, is-press, is-release, is-click, is-move, move-time, any-down, no-buttons, could-any-button-be-click, is-decidedly-dragging, add-event, press-button, release-button, click-of, release}
 use Rattle.model.specs.Pointer.{press-event, press-events, clear-events, press-pass}
 use Rattle.model.specs.Touch.{touch-pass}
 use Rattle.model.specs.Pass.{Panel, PassInput, Interaction, Tally, no-interaction, begin-pass, clock-pass, decidedly-dragging, pass-events, time-of, or-else}
@@ -38,6 +39,7 @@ with-tally n w =
       pointer-events = w .pointer-events;
       past = w .past;
       started-decidedly-dragging = w .started-decidedly-dragging;
+      last-move-time = w .last-move-time;
       touch-states = w .touch-states;
       tally = n;
     }
@@ -308,6 +310,7 @@ module _ (c : PassInput) (tc : Float) (rect : Rect) (r : Rest) (i : PassInput) (
   begin-cleared : begin-pass (cleared-panel c tc rect r u no-interaction) i
       ≡ but-for (begin-pass (cleared-panel c tc rect r w no-interaction) i) (press-events (i .options) (time-of i tc) (pass-events i) (pair no-held (u .past)) .past)
       (touch-pass (time-of i tc) (some-pos (r .pos)) (pass-events i) (u .touch-states)) (u .tally)
+      (move-time (time-of i tc) (begin-pass (cleared-panel c tc rect r w no-interaction) i .press .held .pointer-events) (begin-pass (cleared-panel c tc rect r w no-interaction) i .place .velocity) (u .last-move-time))
   unfolding begin-pass but-for cleared-panel clock-pass press-pass clear-events no-held with-velocity
   begin-cleared =
       let o = i .options in
@@ -332,6 +335,7 @@ module _ (c : PassInput) (tc : Float) (rect : Rect) (r : Rest) (i : PassInput) (
         place = velocity-pass (u .velocity) now es (pp .place) j;
         press = pair (both .held j) (y .past);
         started-decidedly-dragging = st j;
+        last-move-time = move-time now (both .held j .pointer-events) (velocity-pass (u .velocity) now es (pp .place) j .velocity) (u .last-move-time);
         touch-states = touch-pass now (some-pos (r .pos)) es (u .touch-states);
         wheel = m .wheel;
         keys = m .keys;
@@ -340,20 +344,27 @@ module _ (c : PassInput) (tc : Float) (rect : Rect) (r : Rest) (i : PassInput) (
         tally = u .tally;
       }
 
+  same-last : (b : Bool) → T (b || false) → cond b (some-time (time-of i tc)) (u .last-move-time) ≡ cond b (some-time (time-of i tc)) (w .last-move-time)
+  same-last true t = refl
+  same-last false t = absurd t
+
   begin-agreeing : Ascend (w .touch-states) → Ascend (u .touch-states) → live (w .touch-states) ≡ live (u .touch-states)
       → Agreeing D tc (button-came false (first-button (pass-events i))) (then-since (passed (begin-pass (cleared-panel c tc rect r w no-interaction) i)) nothing-since)
       (begin-pass (cleared-panel c tc rect r w no-interaction) i) (begin-pass (cleared-panel c tc rect r u no-interaction) i)
-  unfolding begin-pass cleared-panel clock-pass press-pass clear-events no-held
+  unfolding begin-pass cleared-panel clock-pass press-pass clear-events no-held move-time
   begin-agreeing a b e =
       let now = time-of i tc in
       let es = pass-events i in
       let x = press-events (i .options) now es (pair no-held (w .past)) in
       let y = press-events (i .options) now es (pair no-held (u .past)) in
+      let m = begin-pass (cleared-panel c tc rect r w no-interaction) i in
       record {
         past = y .past;
         devices = touch-pass now (some-pos (r .pos)) es (u .touch-states);
         count = u .tally;
+        moved-at = move-time now (m .press .held .pointer-events) (m .place .velocity) (u .last-move-time);
         is = begin-cleared;
+        moves = same-last (any is-move (m .press .held .pointer-events) || vec-ne (m .place .velocity) vec-zero);
         same-live = touch-pass-live now (some-pos (r .pos)) es (w .touch-states) (u .touch-states) a b e;
         ascend-p = touch-pass-ascending now (some-pos (r .pos)) es (w .touch-states) a;
         ascend-q = touch-pass-ascending now (some-pos (r .pos)) es (u .touch-states) b;

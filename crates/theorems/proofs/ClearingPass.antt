@@ -11,7 +11,7 @@ use Rattle.emath.specs.Vec.{vec-zero, vec-add, normalized}
 use Rattle.emath.specs.History.{velocity}
 use Rattle.data.specs.Modifiers.{no-modifiers}
 use Rattle.model.specs.Numbers.{+0, one}
-use Rattle.model.specs.Types.{Vec2, Rect, InputOptions, MaybePos2, no-pos, some-pos, MaybeVec2, no-vec, some-vec, no-time, PointerEvent, WheelState, End, ActiveTouch, Event, WindowFocused}
+use Rattle.model.specs.Types.{Vec2, Rect, InputOptions, MaybePos2, no-pos, some-pos, MaybeVec2, no-vec, some-vec, MaybeF64, no-time, PointerEvent, WheelState, End, ActiveTouch, Event, WindowFocused}
 use Rattle.model.specs.Pointer.{Place, unwrap-or-default, zero-motion, add-motion, with-place, place-event, place-events, clear-history-after, start-place, delta-of, finish-place, end-place, place-pass}
 use Rattle.model.specs.Pointer.{ClickPast, Press, no-buttons, set-down, release-button, release, press-event, press-events, clear-events, press-pass}
 use Rattle.model.specs.Touch.{TouchState, remove-touch, on-touch, new-device, touch-device, at-device, some-touch, calc-dynamic-state, update-gesture, forget-previous-if, touch-event, touch-events, end-device, end-touches, touch-pass}
@@ -75,6 +75,7 @@ pub record Undecided : Type 0 where
   pub pointer-events : List PointerEvent
   pub past : ClickPast
   pub started-decidedly-dragging : Bool
+  pub last-move-time : MaybeF64
   pub touch-states : List TouchState
   pub tally : Tally
 
@@ -109,6 +110,7 @@ cleared-panel c tc rect r w d =
       place = cleared-place r (w .velocity);
       press = cleared-press (w .pointer-events) (w .past);
       started-decidedly-dragging = w .started-decidedly-dragging;
+      last-move-time = w .last-move-time;
       touch-states = w .touch-states;
       wheel = cleared-wheel c tc r;
       keys = cleared-keys;
@@ -197,6 +199,7 @@ undecided-of q =
       pointer-events = q .press .held .pointer-events;
       past = q .press .past;
       started-decidedly-dragging = q .started-decidedly-dragging;
+      last-move-time = q .last-move-time;
       touch-states = q .touch-states;
       tally = q .tally;
     }
@@ -240,6 +243,7 @@ module _ (p : Panel) (c : PassInput) (tc : Float) (rect : Rect) (es : List Touch
         place = place-cleared j;
         press = press-cleared j;
         started-decidedly-dragging = begin-pass p c .started-decidedly-dragging;
+        last-move-time = begin-pass p c .last-move-time;
         touch-states = begin-pass p c .touch-states;
         wheel = wheel-cleared j;
         keys = keys-cleared j;

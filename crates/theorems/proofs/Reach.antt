@@ -1,23 +1,27 @@
 -- What holds of every panel reached: an invariant of each call. Assumes nothing.
 use Prim.Native.Nat.{_+_}
-use mathlib.Core.Path.{refl, sym, subst}
-use mathlib.Core.Bool.{Bool, true, false, _&&_}
+use mathlib.Core.Path.{_≡_, refl, sym, subst}
+use mathlib.Core.Bool.{Bool, true, false, _&&_, _||_, cond}
 use mathlib.Core.List.{List, [], _∷_}
 use lib.Dec.{T, not-T}
-use lib.Ieee.{Float, binary32, binary64, add, lt, le, fits, ofBits}
+use lib.Ieee.{Float, binary32, binary64, add, sub, lt, le, fits, ofBits}
 use lib.Ieee.Fits.{and-l, and-r}
 use lib.Ieee.Scale.{finite}
 use Rattle.ieee_laws.proofs.Order.{le-trans, le-refl, le-not-lt, not-lt-le}
-use Rattle.ieee_laws.proofs.Monotone.{add-up}
-use Rattle.data.specs.Limits.{max-events, zero32, one32, within32, unit-interval-ok}
+use Rattle.ieee_laws.proofs.Monotone.{add-up, sub-from-zero, narrow-mono}
+use Rattle.ieee_laws.proofs.Exact.{narrow-exact}
+use Rattle.ieee_narrow.specs.Narrow.{narrow}
+use Rattle.emath.specs.Vec.{vec-zero, vec-ne}
+use Rattle.data.specs.Limits.{max-events, zero32, one32, within32, time-ok, unit-interval-ok}
 use Rattle.feed.specs.Decode.{items}
 use Rattle.model.specs.Numbers.{+0}
-use Rattle.model.specs.Types.{Pos2, InputOptions, Event}
-use Rattle.model.specs.Pointer.{ClickPast, Press, could-any-button-be-click, with-moved, remember-click, release, press-event, press-events, clear-events, press-pass}
-use Rattle.model.specs.Pass.{Panel, PassInput, fresh, fresh-press, begin-pass, clock-pass, pass-events, time-or, time-of}
+use Rattle.model.specs.Types.{Pos2, InputOptions, Event, MaybeF64, some-time}
+use Rattle.model.specs.Pointer.{ClickPast, Press, any, is-move, move-time, could-any-button-be-click, with-moved, remember-click, release, press-event, press-events, clear-events, press-pass}
+use Rattle.model.specs.Pass.{Panel, Clock, PassInput, fresh, fresh-press, begin-pass, clock-pass, pass-events, time-or, time-of}
 use Rattle.model.specs.Interact.{InteractInput, InteractionSnapshot, with-interaction}
 use Rattle.model.specs.Calls.{Call, Outcome, call, after, run}
-use Rattle.theorems.specs.Reach.{NotAfter, never, by, Reached, Reach, TimeNeverFalls, AbsentTimeNeverBelow}
+use Rattle.model.specs.Questions.{maybe-number, since, ask}
+use Rattle.theorems.specs.Reach.{NotAfter, never, by, LastMove, no-move, move-by, Reached, Reach, FromZero, no-seconds, seconds, RestedFromZero, TimeNeverFalls, AbsentTimeNeverBelow}
 use Rattle.theorems.proofs.Pointer.{PointerView, a-move, a-press, a-release, nothing, pointer-view}
 use Rattle.theorems.proofs.Times.{time-in-range, +0-time-ok, not-after-later}
 use Rattle.model.proofs.InOrder.{none-in-order}
@@ -45,12 +49,18 @@ unfolding press-events
 events-not-after o now [] s n h = h
 events-not-after o now (e ∷ es) s n h = events-not-after o now es (press-event o now e s) n (event-not-after o now e s n h)
 
+-- ---- movements
+pass-moved : (c d : Clock) (b : Bool) (l : MaybeF64) → T (time-ok (d .time)) → d .pointer-time ≡ d .time → T (le (c .time) (d .time)) → LastMove c l → LastMove d (cond b (some-time (d .time)) l)
+pass-moved c d true l t e h m = move-by (d .time) t (le-refl (d .time) (time-in-range (d .time) t .is-finite)) e
+pass-moved c d false l t e h no-move = no-move
+pass-moved c d false l t e h (move-by at k le-at f) = move-by at k (le-trans at (c .time) (d .time) le-at h) e
+
 -- ---- a call
 pub pass-later : (p : Panel) (i : PassInput) (q : Panel) → Reached p → Taken p i q → T (le (p .clock .time) (time-of i (p .clock .time)))
 pass-later p i q r t = not-lt-le (time-of i (p .clock .time)) (p .clock .time) (time-in-range (time-of i (p .clock .time)) (t .in-domain) .is-finite) (r .time-finite) (t .not-before)
 
 pub pass-reaches : (p : Panel) (i : PassInput) (q : Panel) → Reached p → Taken p i q → Reached q
-unfolding begin-pass clock-pass press-pass pass-events
+unfolding begin-pass clock-pass press-pass pass-events move-time
 pass-reaches p i q r t =
     let now = time-of i (p .clock .time) in
     let es = pass-events i in
@@ -60,6 +70,7 @@ pass-reaches p i q r t =
       time-finite = f;
       time-in-domain = t .in-domain;
       last-click = events-not-after (i .options) now es (record { held = clear-events (p .press .held); past = p .press .past }) (by f (le-refl now f)) (not-after-later (p .clock .time) now (p .press .past .last-click-time) (pass-later p i q r t) (r .last-click));
+      last-move = pass-moved (p .clock) (clock-pass i now (p .clock)) (any is-move (begin-pass p i .press .held .pointer-events) || vec-ne (begin-pass p i .place .velocity) vec-zero) (p .last-move-time) (t .in-domain) refl (pass-later p i q r t) (r .last-move);
       devices = touch-pass-in-order now (p .place .interact-pos) max-events (items (i .feed)) (p .touch-states) (r .devices) (t .surveyed);
     } in
     subst (λ (x : Panel). Reached x) (sym (t .is)) z
@@ -68,7 +79,7 @@ pub interact-reaches : (p : Panel) (x : InteractInput) (s : InteractionSnapshot)
 unfolding with-interaction
 interact-reaches p x s q r t =
     subst (λ (z : Panel). Reached z) (sym (t .is))
-    (record { time-finite = r .time-finite; time-in-domain = r .time-in-domain; last-click = r .last-click; devices = r .devices })
+    (record { time-finite = r .time-finite; time-in-domain = r .time-in-domain; last-click = r .last-click; last-move = r .last-move; devices = r .devices })
 
 call-reaches : (p : Panel) (c : Call) → Reached p → Reached (after p (call p c))
 unfolding after
@@ -88,7 +99,24 @@ run-reaches p (c ∷ cs) r = run-reaches (after p (call p c)) cs (call-reaches p
 
 pub reach : Reach
 unfolding fresh fresh-press
-reach cs = run-reaches fresh cs (record { time-finite = tt; time-in-domain = +0-time-ok; last-click = never refl; devices = none-in-order })
+reach cs = run-reaches fresh cs (record { time-finite = tt; time-in-domain = +0-time-ok; last-click = never refl; last-move = no-move; devices = none-in-order })
+
+-- ---- the seconds since the last movement
++0-fits : T (fits binary32 +0)
+unfolding fits
++0-fits = tt
+
+rested : (c : Clock) (l : MaybeF64) → T (time-ok (c .time)) → LastMove c l → FromZero (maybe-number (since (c .pointer-time) l))
+unfolding since
+rested c l t no-move = no-seconds
+rested c l t (move-by at k h e) =
+    let d = sub binary64 (c .time) at in
+    let from : T (le +0 d) = sub-from-zero binary64 (c .time) at (time-in-range (c .time) t .is-finite) (time-in-range at k .is-finite) h in
+    rw e (seconds (narrow binary32 d) (subst (λ (z : Float). T (le z (narrow binary32 d))) (narrow-exact binary32 +0 +0-fits) (narrow-mono binary32 +0 d from)))
+
+pub rested-from-zero : RestedFromZero
+unfolding ask
+rested-from-zero cs = let p = run fresh cs in rested (p .clock) (p .last-move-time) (reach cs .time-in-domain) (reach cs .last-move)
 
 -- ---- time never falls
 call-later : (p : Panel) (c : Call) → Reached p → T (le (p .clock .time) (after p (call p c) .clock .time))

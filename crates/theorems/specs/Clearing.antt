@@ -9,11 +9,12 @@ use lib.Ieee.{Float, binary64, add, sub, le}
 use Rattle.model.specs.Types.{Pos2, Vec2, Rect, Modifiers, InputOptions, Primary, Secondary, Middle, Extra1, Extra2, MouseWheelUnit, MouseWheelSource, MaybeF32, End, ActiveTouch}
 use Rattle.model.specs.Types.{Event, Key, ModifiersChanged, PointerMoved, MouseMoved, Button, PointerGone, Zoom, Rotate, Touch, MouseWheel, WindowFocused, Other}
 use Rattle.model.specs.Types.{PassRefusal, Malformed, OutsideDomain, TimeBelow, TooManyEvents, NoPlace, InteractRefusal}
-use Rattle.model.specs.Pointer.{any, is-click}
+use Rattle.emath.specs.Vec.{vec-zero, vec-ne}
+use Rattle.model.specs.Pointer.{any, is-click, is-move}
 use Rattle.model.specs.Touch.{TouchState}
 use Rattle.model.specs.Pass.{Panel, PassInput, fresh, pass-events, or-else}
 use Rattle.model.specs.Interact.{InteractInput, InteractionSnapshot}
-use Rattle.model.specs.Questions.{Question, settled, time-since-last-click, has-touch-screen, tally, ask}
+use Rattle.model.specs.Questions.{Question, settled, time-since-last-click, time-since-last-movement, has-touch-screen, tally, ask}
 use Rattle.model.specs.Calls.{Call, passes, interacts, Outcome, refused-pass, refused-interact, passed, answered, call, after, run}
 use Rattle.theorems.specs.Reach.{Reached}
 
@@ -175,18 +176,21 @@ pub data SameAnswer : Outcome → Outcome → Type 0 where
   -- the snapshot, with the ids written
   same-snapshot : (s : InteractionSnapshot) (p q : Panel) → SameAnswer (answered s p) (answered s q)
 
--- what has come since the clearing pass: a click
+-- what has come since the clearing pass: a click, a movement
 pub record Since : Type 0 where
   pub clicked : Bool
+  pub moved : Bool
 
 abbrev pub nothing-since : Since
-nothing-since = record { clicked = false }
+nothing-since = record { clicked = false; moved = false }
 
 -- "save .. the tally, the known devices and, up to the first later click, the seconds since the last one": which questions may be answered differently.
 -- 01: the devices known, "and with them has_touch_screen"
+-- 02 A.4: "After a clearing pass two panels need agree on this answer only from their first later movement."
 unfoldable pub may-differ : Since → Question → Bool
 may-differ since (settled q) = false
 may-differ since time-since-last-click = not (since .clicked)
+may-differ since time-since-last-movement = not (since .moved)
 may-differ since has-touch-screen = true
 may-differ since tally = true
 
@@ -209,9 +213,16 @@ has-click (refused-interact r) = false
 has-click (passed p) = any is-click (p .press .held .pointer-events)
 has-click (answered s p) = false
 
+-- a movement is what sets last_move_time in a taken pass: a move, or a velocity other than zero
+abbrev pub has-movement : Outcome → Bool
+has-movement (refused-pass r) = false
+has-movement (refused-interact r) = false
+has-movement (passed p) = any is-move (p .press .held .pointer-events) || vec-ne (p .place .velocity) vec-zero
+has-movement (answered s p) = false
+
 -- and what has come after one call more
 abbrev pub then-since : Outcome → Since → Since
-then-since o since = record { clicked = has-click o || since .clicked }
+then-since o since = record { clicked = has-click o || since .clicked; moved = has-movement o || since .moved }
 
 abbrev pub When : Bool → Type 0 → Type 0
 When true A = A

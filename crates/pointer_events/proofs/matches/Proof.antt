@@ -1,10 +1,12 @@
 -- Each way to a return is the case of the definition that its tests pick. Assumes nothing.
-use Rattle.pointer_events.proofs.Stored.{moved-none}
 use borrow.Author.Tests.{ne-eqb}
 use Rattle.pointer_events.specs.Events.{event-of, click-of}
 use borrow.Author.Needs.{needs}
 use Rattle.pointer_events.proofs.matches.Statement.{statement}
 use Rattle.pointer_events.proofs.matches.Tie as tie
+
+move-is-requires : tie.Need-move-is-requires
+move-is-requires c κs = search needs
 
 press-is-requires : tie.Need-press-is-requires
 press-is-requires c κs = search needs
@@ -17,7 +19,7 @@ click-is-requires c κs = search needs
 
 returns : tie.Need-returns
 unfolding event-of click-of
-returns c x k b n = rw (k, c .match .keys1) (moved-none _ _)
+returns c x k b n = rw (k, c .before .match .keys1) (c .move-is .ensures (x .pos))
 
 returns-2 : tie.Need-returns-2
 unfolding event-of click-of
@@ -38,6 +40,7 @@ pub matches-spec : {M : Type 1} → statement M
 matches-spec =
     tie.close
     (tie.spec
+    move-is-requires
     press-is-requires
     release-is-requires
     click-is-requires

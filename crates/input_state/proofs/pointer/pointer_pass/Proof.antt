@@ -16,14 +16,19 @@ press-pass-requires c κs = search needs
 started-decidedly-dragging-requires : tie.Need-started-decidedly-dragging-requires
 started-decidedly-dragging-requires c κs = search needs
 
+last-move-time-requires : tie.Need-last-move-time-requires
+last-move-time-requires c κs = search needs
+
 returns : tie.Need-returns
 returns c =
-    let a = c .before .before .before .before .before .before .before .before .before .before .before .before .before .before .before .before .before .args in
-    let press = c .before .before .before .before .press-pass in
+    let d = c .before .before .before in
+    let a = d .before .before .before .before .before .before .before .before .before .before .before .before .before .before .before .before .before .args in
+    let press = d .before .before .before .before .press-pass in
     record {
-      place-is = c .before .before .before .before .before .before .before .place-pass .ensures;
+      place-is = d .before .before .before .before .before .before .before .place-pass .ensures;
       press-is = press .ensures;
-      started-is = c .started-decidedly-dragging .ensures (press .last .1 .1 .0) ∙ rw (c .before .before .before .before .before .before .before .before .before .before .is-decidedly-dragging .ensures (a .places .now));
+      moved-is = c .last-move-time .ensures (press .last .1 .1 .0);
+      started-is = d .started-decidedly-dragging .ensures (press .last .1 .1 .0) ∙ rw (d .before .before .before .before .before .before .before .before .before .before .is-decidedly-dragging .ensures (a .places .now));
     }
 
 pub pointer-pass-spec : {M : Type 1} → statement M
@@ -34,4 +39,5 @@ pointer-pass-spec =
     place-pass-requires
     press-pass-requires
     started-decidedly-dragging-requires
+    last-move-time-requires
     returns)

@@ -82,12 +82,13 @@ returns c =
     record {
       result =
           λ vs us n t.
-          acted (shaped-events ws) us (panel old (a .s) vs n t) (input ws (a .i)) _ _ _ _ _ _ _ _
+          acted (shaped-events ws) us (panel old (a .s) vs n t) (input ws (a .i)) _ _ _ _ _ _ _ _ _
           (rw time at (c .before .before .before .before .before .before .before .before .before .before .clock-pass .ensures ws))
           (c .before .before .before .before .before .before .before .before .before .screen-pass .ensures ws)
           (placed .result)
           (pressed .result)
           (rw time at (pointer .started-is))
+          (rw time at (pointer .moved-is))
           (rw (time, c .before .before .before .before .before .before .before .before .before .before .before .rect-or .ensures) at (c .before .before .before .wheel-pass .ensures) ∙ wheel-all ws ps cs ls _ _ _ _ _)
           (keys .result ∙ keys-all ws ps cs ls _)
           (c .sums-of .ensures ∙ sums-all ws ps cs ls _ _);
