@@ -2,8 +2,8 @@
 //! What a line says of egui's answer is asserted here, so the table of the calls that show it is true.
 use crate::panel::{Hit, Hits, Rotation, Widget};
 use crate::script::*;
-use crate::words::{self, CLEAR, INSERT, INTERACT, PASS, SET_TALLY};
-use crate::{Pos2, Rect, Vec2};
+use crate::words::{self, CLEAR, INSERT, INTERACT, PASS, RESTED, SET_TALLY};
+use crate::{LEVEL, Pos2, Rect, Vec2};
 
 pub fn script() -> Script {
     let mut s = Script::default();
@@ -22,6 +22,9 @@ pub fn script() -> Script {
     refused_interacts(&mut s);
     orders(&mut s);
     malformed(&mut s);
+    if words::exists(RESTED, LEVEL) {
+        rested(&mut s);
+    }
     s.end();
     s
 }
@@ -638,4 +641,70 @@ fn malformed(s: &mut Script) {
     for counts in [[1, 0, 0], [0, 1, 0], [0, 0, 1], [0, 0, 3], [u32::MAX, 1, 0], [0x5555_5556, 0x5555_5556, 0]] {
         assert_eq!(s.call(4, &[66, 66, counts[0], counts[1], counts[2]]).0, 255);
     }
+}
+
+/// RESTED answers so.
+fn rests(s: &mut Script, seconds: Option<f32>) {
+    assert_eq!(s.record(RESTED, &[]), (0, 0));
+    assert_eq!(s.stream.panel.rested(), seconds, "{:?}", s.shown.last());
+}
+
+fn rested(s: &mut Script) {
+    s.show("A.4: none on a fresh panel, and after passes without a movement");
+    rests(s, None);
+    s.taken(1.0, &[]);
+    rests(s, None);
+    s.show("A.4: a move at 1.0, empty passes at 1.5 and 2.0: 0, 0.5, 1; a refused pass leaves it");
+    for (time, feed, seconds) in [(1.0, moved(3.0, 4.0), 0.0), (1.5, Vec::new(), 0.5), (2.0, Vec::new(), 1.0)] {
+        s.taken(time, &feed);
+        rests(s, Some(seconds));
+    }
+    s.refused(1.75, &moved(5.0, 5.0), 3, 0);
+    rests(s, Some(1.0));
+    s.show("A.4: a move to the same place is a movement");
+    s.taken(1.0, &moved(3.0, 4.0));
+    s.taken(2.0, &moved(3.0, 4.0));
+    rests(s, Some(0.0));
+    s.show("A.4: relative motion alone is none; touches, the wheel and keys are none");
+    for feed in [event(4, 0, &[5.0, 5.0]), touch(7, 1, 0, 3.0, 4.0), wheel(0, 1, 1, 0, 0.0, 5.0), event(1, 1 << 8 | 3, &[])] {
+        s.taken(1.0, &feed);
+        rests(s, None);
+    }
+    for (name, button, seconds) in [("a press clears the history: no movement", press(30.0, 4.0), 0.0625), ("a release gives a velocity: 0", release(30.0, 4.0), 0.0)] {
+        s.show(&format!("A.4: a button event at another place, after three samples: {name}"));
+        for time in [1.0, 1.03125] {
+            s.taken(time, &moved(3.0, 4.0));
+        }
+        s.taken(1.0625, &[]);
+        rests(s, Some(0.03125));
+        s.taken(1.09375, &button);
+        assert_eq!(s.stream.panel.input.pointer.is_moving(), seconds == 0.0);
+        rests(s, Some(seconds));
+    }
+    s.show("A.4: moves at 1.0, 1.03125, 1.0625, then nothing: 0 as long as the velocity lives, then it grows");
+    for k in 0..3u8 {
+        s.taken(1.0 + f64::from(k) / 32.0, &moved(3.0 + 4.0 * f32::from(k), 4.0));
+        rests(s, Some(0.0));
+    }
+    s.taken(1.09375, &[]);
+    assert!(s.stream.panel.input.pointer.is_moving());
+    rests(s, Some(0.0));
+    s.taken(2.0, &[]);
+    rests(s, Some(0.90625));
+    s.show("A.4: pointer gone is no movement; a velocity in its pass still is one");
+    s.taken(1.0, &moved(3.0, 4.0));
+    s.taken(2.0, &event(6, 0, &[]));
+    rests(s, Some(1.0));
+    for k in 0..3u8 {
+        s.taken(3.0 + f64::from(k) / 32.0, &moved(3.0 + 4.0 * f32::from(k), 4.0));
+    }
+    s.taken(3.09375, &event(6, 0, &[]));
+    assert!(s.stream.panel.input.pointer.is_moving());
+    rests(s, Some(0.0));
+    s.show("A.4: the difference is taken in f64 and then narrowed: a move at 16,777,217 s, a second later 1");
+    s.taken(16_777_217.0, &moved(3.0, 4.0));
+    s.taken(16_777_218.0, &[]);
+    rests(s, Some(1.0));
+    s.show("FORMAT.md: RESTED with a word is answered 255");
+    assert_eq!(s.record(RESTED, &[0]).0, 255);
 }

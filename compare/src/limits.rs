@@ -3,7 +3,7 @@ use crate::aimed::{DEVICES, Rng, nudge, nudge32, put};
 use crate::hands::finger_id;
 use crate::maker::{Maker, touch};
 use crate::panel::{Hit, Hits, Pass, Widget};
-use crate::words::{self, ASK, CLEAR, DUMP, INSERT, INTERACT, PASS, RESET, SET_TALLY};
+use crate::words::{self, ASK, CLEAR, DUMP, INSERT, INTERACT, PASS, RESET, RESTED, SET_TALLY};
 use crate::{Pos2, Rect, domain};
 
 impl Maker {
@@ -202,7 +202,9 @@ impl Maker {
                     self.call(INTERACT, &w)
                 }
                 4 => {
-                    let call = self.rng().pick(&[RESET, CLEAR, ASK, DUMP]);
+                    let calls = [RESET, CLEAR, ASK, DUMP, RESTED];
+                    let known = if words::exists(RESTED, self.s.stream.panel.level) { &calls[..] } else { &calls[..4] };
+                    let call = self.rng().pick(known);
                     self.call(call, &[0])
                 }
                 5 => self.call(SET_TALLY, &w[..if n == 1 { 0 } else { n }]),

@@ -5,7 +5,7 @@ use crate::domain::Held;
 use crate::panel::{Hits, Pass};
 use crate::maker::Maker;
 use crate::scenes::Scene;
-use crate::words::{self, ASK, CLEAR, DUMP, INSERT, INTERACT, PASS, RESET, SET_TALLY, Stream, tally_words};
+use crate::words::{self, ASK, CLEAR, DUMP, INSERT, INTERACT, PASS, RESET, RESTED, SET_TALLY, Stream, tally_words};
 use crate::{LEVEL, Pos2, Rect, script};
 
 // ---------------------------------------------------------------- balance
@@ -49,6 +49,9 @@ impl Balance {
 
 // ---------------------------------------------------------------- two panels
 
+/// RESTED exists from here on.
+const RESTED_LEVEL: u32 = words::CALLS[RESTED as usize].1;
+
 /// The second panel, and where the later list stands.
 pub struct Twin {
     pub b: Stream,
@@ -61,7 +64,9 @@ pub struct Twin {
     condition: bool,
     button_yet: bool,
     pass_yet: bool,
-    click_yet: bool,
+    since: Since,
+    /// the seconds since the last movement differed before the first later one
+    pub rested_apart: bool,
     pub passes: u64,
     pub interacts: u64,
     pub refused: u64,
@@ -69,8 +74,22 @@ pub struct Twin {
     pub differs: Option<String>,
 }
 
-/// Both answers to one call of the later list, but for what 01 excepts.
-pub fn agree(call: u32, a: &[u32], b: &[u32], click_yet: bool) -> Result<(), String> {
+/// What came from the next taken pass on: a click, a movement.
+#[derive(Clone, Copy, Default)]
+pub struct Since {
+    click: bool,
+    movement: bool,
+}
+impl Since {
+    /// By the words of an answered ASK: 121 bit 6 is any_click, bit 2 is_moving; from 129 on stand the pointer events, kind 0 a move.
+    pub fn asked(&mut self, w: &[u32]) {
+        self.click |= w[121] >> 6 & 1 != 0;
+        self.movement |= w[121] >> 2 & 1 != 0 || w[129..].chunks(5).take(w[128] as usize).any(|e| e[0] & 0xFF == 0);
+    }
+}
+
+/// Both answers to one call of the later list, but for what 01 and 02 except.
+pub fn agree(call: u32, a: &[u32], b: &[u32], since: Since) -> Result<(), String> {
     let (na, nb) = (a[0] >> 24, b[0] >> 24);
     if (na == 0) != (nb == 0) {
         return Err("taken by one, refused by the other".into());
@@ -81,7 +100,9 @@ pub fn agree(call: u32, a: &[u32], b: &[u32], click_yet: bool) -> Result<(), Str
     match call {
         INTERACT if na == 0 && a[..a.len() - tally_words(LEVEL)] != b[..b.len() - tally_words(LEVEL)] => Err("interact".into()),
         INTERACT if na == 0 => Ok(()),
-        ASK => asked(&a[1..], &b[1..], click_yet),
+        ASK => asked(&a[1..], &b[1..], since.click),
+        // 02 A.4: "two panels need agree on this answer only from their first later movement"
+        RESTED if !since.movement => Ok(()),
         _ if a != b => Err(format!("call {call}")),
         _ => Ok(()),
     }
@@ -122,7 +143,8 @@ impl Twin {
             condition,
             button_yet: false,
             pass_yet: false,
-            click_yet: false,
+            since: Since::default(),
+            rested_apart: false,
             passes: 0,
             interacts: 0,
             refused: 0,
@@ -166,24 +188,69 @@ impl Twin {
         self.interacts += (call == INTERACT && taken) as u64;
         self.refused += !taken as u64;
         self.pass_yet |= call == PASS && taken;
-        self.click_yet |= call == PASS && taken && a.panel.input.pointer.any_click();
         self.keep(requests, answers, call, &w, ra, rb);
         if call == PASS || call == INTERACT {
             let (mut ra, mut rb) = (Vec::new(), Vec::new());
             words::answer(a, ASK, &[], &mut ra);
             words::answer(&mut self.b, ASK, &[], &mut rb);
+            if self.pass_yet {
+                self.since.asked(&ra[1..]);
+            }
             self.keep(requests, answers, ASK, &[], ra, rb);
+            self.rested(a, requests, answers);
         }
+    }
+
+    fn rested(&mut self, a: &mut Stream, requests: &mut Vec<u32>, answers: &mut Vec<u32>) {
+        if !words::exists(RESTED, LEVEL) {
+            return;
+        }
+        let (mut ra, mut rb) = (Vec::new(), Vec::new());
+        words::answer(a, RESTED, &[], &mut ra);
+        words::answer(&mut self.b, RESTED, &[], &mut rb);
+        self.rested_apart |= self.pass_yet && ra != rb;
+        self.keep(requests, answers, RESTED, &[], ra, rb);
     }
 
     fn keep(&mut self, requests: &mut Vec<u32>, answers: &mut Vec<u32>, call: u32, w: &[u32], a: Vec<u32>, b: Vec<u32>) {
         if self.pass_yet && self.differs.is_none() {
-            self.differs = agree(call, &a, &b, self.click_yet).err();
+            self.differs = agree(call, &a, &b, self.since).err();
         }
         requests.extend(words::record(call, w));
         answers.extend(a);
         self.answers_b.extend(b);
     }
+}
+
+/// A.4's exception is needed, on egui's own answers: a panel that moved once and one that never did, after one clearing pass and interact.
+/// They differ in the next taken pass, a press, and for good until the first later movement; from that pass on they agree.
+pub fn rested_apart() -> Result<(), String> {
+    let answer = |s: &mut Stream, time: f64, feed: &[u32]| -> Vec<u32> {
+        let p = Pass { time: Some(time), screen_rect: Some(Rect::from_min_max(Pos2::new(0.0, 0.0), Pos2::new(800.0, 600.0))), ..Default::default() };
+        let mut taken = Vec::new();
+        words::answer(s, PASS, &words::write_pass(&p, feed), &mut taken);
+        assert_eq!(taken, [0], "a pass that is taken");
+        let mut rested = Vec::new();
+        words::answer(s, RESTED, &[], &mut rested);
+        rested
+    };
+    let at = Pos2::new(3.0, 4.0);
+    let (mut a, mut b) = (Stream::new(RESTED_LEVEL), Stream::new(RESTED_LEVEL));
+    answer(&mut a, 1.0, &script::moved(at.x, at.y));
+    for s in [&mut a, &mut b] {
+        answer(s, 2.0, &script::clearing_feed(&[], at));
+        words::answer(s, INTERACT, &words::write_interact(66, 66, &Hits::default()), &mut Vec::new());
+    }
+    let late = [(4.0, script::press(at.x, at.y)), (5.0, Vec::new()), (6.0, script::moved(at.x, at.y)), (7.0, Vec::new())];
+    for (k, (time, feed)) in late.iter().enumerate() {
+        let (ra, rb) = (answer(&mut a, *time, feed), answer(&mut b, *time, feed));
+        let apart = [2, 1, ((*time - 1.0) as f32).to_bits()];
+        let right = if k < 2 { ra == apart && rb == [2, 0, 0] } else { ra == rb && ra[1] == 1 };
+        if !right {
+            return Err(format!("at {time} s: {ra:?} and {rb:?}"));
+        }
+    }
+    Ok(())
 }
 
 /// Of a feed's first button event: is it a press?

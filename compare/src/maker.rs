@@ -3,7 +3,7 @@ use crate::aimed::{Aimed, DIRECTIONS, Rng, nudge, nudge32, put, some_options};
 use crate::lists::Twin;
 use crate::met::Met;
 use crate::panel::{Hits, Pass, Widget};
-use crate::words::{self, ASK, DUMP, INSERT, INTERACT, KERNEL, PASS, RESET, RESTORE, RESTORE_LAST, SET_TALLY};
+use crate::words::{self, ASK, DUMP, INSERT, INTERACT, KERNEL, PASS, RESET, RESTED, RESTORE, RESTORE_LAST, SET_TALLY};
 use crate::{Pos2, Vec2, domain};
 
 /// What one trace of `replay` may hold, in words.
@@ -78,6 +78,9 @@ impl Maker {
     /// A call with what is asked after it.
     pub fn call(&mut self, call: u32, w: &[u32]) -> usize {
         let at = self.record(call, w);
+        if call == PASS && words::exists(RESTED, self.s.stream.panel.level) {
+            self.record(RESTED, &[]);
+        }
         if self.all {
             self.record(ASK, &[]);
             self.record(DUMP, &[]);

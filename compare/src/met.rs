@@ -63,6 +63,9 @@ const AIMS: [&str; 38] = [
     "zoom of a gesture not a number",
 ];
 
+/// And once RESTED exists: A.4.
+const RESTED_AIMS: [&str; 4] = ["rested: none", "rested: 0 by a move", "rested: 0 by a velocity alone", "rested: more than 0"];
+
 #[derive(Clone)]
 pub struct Met {
     /// by call (the last: any unknown one) and the answer's number
@@ -83,7 +86,12 @@ impl Default for Met {
             wheels: [0; 48],
             buttons: [0; 10],
             keys: [false; 145],
-            aims: AIMS.iter().chain(&kernel_met::AIMS).map(|a| (*a, 0)).collect(),
+            aims: AIMS
+                .iter()
+                .chain(&kernel_met::AIMS)
+                .chain(RESTED_AIMS.iter().filter(|_| words::exists(words::RESTED, LEVEL)))
+                .map(|a| (*a, 0))
+                .collect(),
         }
     }
 }
@@ -136,6 +144,7 @@ impl Met {
                 self.aim("tally at its maximum", panel.tally == u32::MAX);
                 self.aim("interact before any pass", panel.input.pointer.x_view().time == f64::NEG_INFINITY);
             }
+            words::RESTED => self.rested(panel),
             _ => {}
         }
     }
@@ -145,6 +154,15 @@ impl Met {
         for name in kernel_met::shown(before, panel.limits().slots, w, answer[0] >> 24) {
             self.aim(name, true);
         }
+    }
+
+    fn rested(&mut self, panel: &Panel) {
+        let moved = panel.input.pointer.pointer_events.iter().any(|e| matches!(e, PointerEvent::Moved(_)));
+        let rest = panel.rested();
+        self.aim("rested: none", rest.is_none());
+        self.aim("rested: 0 by a move", rest == Some(0.0) && moved);
+        self.aim("rested: 0 by a velocity alone", rest == Some(0.0) && !moved);
+        self.aim("rested: more than 0", rest.is_some_and(|s| s > 0.0));
     }
 
     fn pass(&mut self, panel: &Panel, w: &[u32]) {
@@ -285,6 +303,9 @@ impl Met {
             for n in numbers.iter().filter(|n| self.calls[call][**n] == 0) {
                 v.push(format!("{} answered {n}", words::call_name(call as u32)));
             }
+        }
+        for n in [0, 255].iter().filter(|n| words::exists(words::RESTED, LEVEL) && self.answered(words::RESTED, **n) == 0) {
+            v.push(format!("RESTED answered {n}"));
         }
         v.extend(self.missing_events());
         let all_landed = CALLS.iter().all(|(_, from)| LEVEL >= *from);

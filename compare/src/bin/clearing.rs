@@ -4,8 +4,10 @@
 //!   list, whose first button event is a press no sooner than twice the delay: from the next taken pass on
 //!   their answers agree, but for what 01 excepts;
 //! * the same without that condition on the first button event: some lists must differ, else the check sees nothing;
+//! * from A.4 on: some pairs must differ in the seconds since the last movement before the first later one, and one written by hand does;
 //! * along random lists each drag stop follows a start of the same id, at most one is open, the tally counts the starts.
-use fivvarul_compare::lists::{Balance, agree, two_panels};
+use fivvarul_compare::LEVEL;
+use fivvarul_compare::lists::{Balance, Since, agree, rested_apart, two_panels};
 use fivvarul_compare::maker::{LIMIT, Maker};
 use fivvarul_compare::words::{self, INTERACT, PASS, RESET, record_at};
 use std::io::{Read, Write};
@@ -36,6 +38,7 @@ struct Sum {
     refused: u64,
     left_out: u64,
     differ: u64,
+    rested_apart: u64,
 }
 
 /// One pair of panels on egui's answers; then through the program. The first difference, if any.
@@ -50,6 +53,7 @@ fn pair(seed: u64, condition: bool, program: &[String], sum: &mut Sum) -> Option
     sum.interacts += t.interacts;
     sum.refused += t.refused;
     sum.left_out += t.left_out;
+    sum.rested_apart += u64::from(t.rested_apart);
     if let Some(d) = &t.differs {
         sum.differ += 1;
         return Some(format!("egui: {d}"));
@@ -79,14 +83,15 @@ fn pair(seed: u64, condition: bool, program: &[String], sum: &mut Sum) -> Option
 
 /// The two later parts of the program's own answers.
 fn later_agrees(requests: &[u32], a: &[u32], b: &[u32]) -> Option<String> {
-    let (mut i, mut ja, mut jb, mut pass, mut click) = (0, 0, 0, false, false);
+    let (mut i, mut ja, mut jb, mut pass, mut since) = (0, 0, 0, false, Since::default());
     while i < requests.len() {
         let call = requests[i] >> 24;
         let (ra, rb) = (record_at(a, ja), record_at(b, jb));
         pass |= call == PASS && ra[0] >> 24 == 0;
-        // word 121 of ASK, bit 6: any_click
-        click |= call == words::ASK && pass && ra[1 + 121] >> 6 & 1 != 0;
-        if pass && let Err(e) = agree(call, ra, rb, click) {
+        if pass && call == words::ASK {
+            since.asked(&ra[1..]);
+        }
+        if pass && let Err(e) = agree(call, ra, rb, since) {
             return Some(format!("the program: {e}"));
         }
         i += 1 + (requests[i] & 0xFF_FFFF) as usize;
@@ -134,6 +139,10 @@ fn main() -> ExitCode {
     if lists == 0 && seconds == 0.0 {
         lists = 2000;
     }
+    if let Err(e) = rested_apart() {
+        println!("two panels, rested: {e}");
+        return ExitCode::from(1);
+    }
     let start = Instant::now();
     let (mut with, mut without, mut counted) = (Sum::default(), Sum::default(), [0; 3]);
     let mut n = 0;
@@ -156,9 +165,14 @@ fn main() -> ExitCode {
     println!("clearing: {} pairs of panels, {} passes and {} interacts taken by both, {} refused by both; every answer alike", s.lists, s.passes, s.interacts, s.refused);
     println!("  {} calls left out, taken by one and refused by the other; {} pairs left out, whose clearing pass is refused", s.left_out, s.skipped);
     println!("  without the condition on the first button event {} of {} lists differ", without.differ, without.lists);
+    println!("  {} pairs differ in the seconds since the last movement up to the first later one", s.rested_apart);
     println!("balance: {} interacts along random lists, {} starts, {} stops", counted[0], counted[1], counted[2]);
     if n >= 200 && (without.differ == 0 || counted[1] == 0) {
         println!("NOT MET: a list that differs without the condition, and a drag start");
+        return ExitCode::from(1);
+    }
+    if n >= 200 && words::exists(words::RESTED, LEVEL) && with.rested_apart == 0 {
+        println!("NOT MET: a pair that differs in the seconds since the last movement");
         return ExitCode::from(1);
     }
     ExitCode::SUCCESS
