@@ -71,6 +71,11 @@ impl Maker {
         }
         w[3] = 24 * records;
         w[2] = self.kernel_places(&w);
+        // a slot outside, after all that the places are for
+        if self.rng().once_in(12) {
+            w.extend([0, 0, 5, 0, 3 | 0x2F << 16, 10]);
+            w[3] += 24;
+        }
         if self.rng().once_in(12) {
             self.damage_length(&mut w);
         }
