@@ -134,7 +134,9 @@ fn dropped(s: &mut Script) {
     s.show("A.1: after 'dropped' everything is skipped through the next report end; what was before waits for the one after");
     gives(s, &[id(5), DROPPED, x(3), END, x(7), END], &[start(5, 7.0, 0.0)]);
     s.show("A.1: what is skipped is not judged: slot 99, a position and an id outside, another 'dropped'");
-    gives(s, &[id(5), DROPPED, slot(99), x(70_000), id(-9), DROPPED, slot(3), END, END], &[start(5, 0.0, 0.0)]);
+    gives(s, &[id(5), DROPPED, slot(99), x(70_000), id(-9), DROPPED, END, END], &[start(5, 0.0, 0.0)]);
+    s.show("A.1: a slot that is skipped is not chosen");
+    gives(s, &[id(5), DROPPED, slot(3), END, x(7), END], &[start(5, 7.0, 0.0)]);
     s.show("A.1: a 'dropped' at the end of a call: the next one goes on skipping, and its answer holds none");
     gives(s, &[id(5), DROPPED], &[]);
     gives(s, &[slot(99), id(6)], &[]);
