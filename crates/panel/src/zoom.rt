@@ -7,6 +7,8 @@ use key_state::keys::Keys;
 use scroll_questions::zoom::Zoom;
 use scroll_questions::zoom::Zoom2d;
 use touch_state::devices::Devices;
+// Of an exponent of size at most 1; a greater one is the host's to split: e^(a + b) = e^a · e^b.
+pub use zoom_factor::zoom_factor;
 ghost use Rattle.model.specs.Questions.{settled, vector, rotation};
 ghost use Rattle.model.specs.Questions as ask;
 ghost use Rattle.scroll_questions.specs.Answers.{zoom-answer, zoom-2d-answer};
