@@ -2,8 +2,8 @@
 //! What a line says of egui's answer is asserted here, so the table of the calls that show it is true.
 use crate::panel::{Hit, Hits, Rotation, Widget};
 use crate::script::*;
-use crate::words::{self, CLEAR, INSERT, INTERACT, PASS, RESTED, SET_TALLY};
-use crate::{LEVEL, Pos2, Rect, Vec2};
+use crate::words::{self, ASK, CLEAR, DUMP, EXP, INSERT, INTERACT, PASS, RESTED, SET_TALLY};
+use crate::{LEVEL, Pos2, Rect, Vec2, exponential};
 
 pub fn script() -> Script {
     let mut s = Script::default();
@@ -24,6 +24,9 @@ pub fn script() -> Script {
     malformed(&mut s);
     if words::exists(RESTED, LEVEL) {
         rested(&mut s);
+    }
+    if words::exists(EXP, LEVEL) {
+        exponents(&mut s);
     }
     s.end();
     s
@@ -707,4 +710,18 @@ fn rested(s: &mut Script) {
     rests(s, Some(1.0));
     s.show("FORMAT.md: RESTED with a word is answered 255");
     assert_eq!(s.record(RESTED, &[0]).0, 255);
+}
+
+/// Between a press and what is asked of the panel then: an exponent leaves it alone.
+fn exponents(s: &mut Script) {
+    for (name, exponents) in exponential::edges() {
+        s.show(&format!("02 A.5: {name}"));
+        s.taken(1.0, &press(1.0, 1.0));
+        for e in exponents {
+            let number = if exponential::taken(e) { 0 } else { 13 };
+            assert_eq!(s.record(EXP, &[e.to_bits()]), (number, 0));
+        }
+        s.record(ASK, &[]);
+        s.record(DUMP, &[]);
+    }
 }

@@ -13,8 +13,11 @@ impl Maker {
     pub fn later_calls(&mut self) {
         for _ in 0..8 {
             let call = self.rng().pick(&CALLS_OF_02);
-            let w = self.later_words(call);
-            self.call(call, &w);
+            // an exponent is one word: several at once
+            for _ in 0..if call == EXP { 6 } else { 1 } {
+                let w = self.later_words(call);
+                self.call(call, &w);
+            }
             // a foreign image that a program takes leaves a panel that egui doesn't know
             if call == RESTORE && exists(call, self.s.stream.panel.level) {
                 self.call(RESET, &[]);
@@ -26,7 +29,7 @@ impl Maker {
         match call {
             SET_TALLY => vec![10 + self.rng().below(5) as u32, 0, self.rng().pick(&[0, 1, 5, u32::MAX - 1, u32::MAX])],
             KERNEL => self.kernel_words(),
-            EXP => vec![self.exponent().to_bits()],
+            EXP => vec![self.exponent().to_bits(); self.rng().pick(&[1, 1, 1, 1, 1, 1, 1, 1, 1, 1, 0, 2])],
             PARK => vec![self.rng().pick(&[0, ENOUGH_PLACES, ENOUGH_PLACES])],
             RESTORE => self.image(),
             SURVEY => self.odd_feed(),

@@ -63,8 +63,20 @@ const AIMS: [&str; 38] = [
     "zoom of a gesture not a number",
 ];
 
-/// And once RESTED exists: A.4.
-const RESTED_AIMS: [&str; 4] = ["rested: none", "rested: 0 by a move", "rested: 0 by a velocity alone", "rested: more than 0"];
+/// The same of the requests of 02, each from its level on.
+const LATER_AIMS: [(&str, u32); 11] = [
+    ("rested: none", 4),
+    ("rested: 0 by a move", 4),
+    ("rested: 0 by a velocity alone", 4),
+    ("rested: more than 0", 4),
+    ("exponent 0", 5),
+    ("exponent -0", 5),
+    ("exponent 1", 5),
+    ("exponent -1", 5),
+    ("exponent just over 1 in size", 5),
+    ("exponent infinite", 5),
+    ("exponent not a number", 5),
+];
 
 #[derive(Clone)]
 pub struct Met {
@@ -87,10 +99,10 @@ impl Default for Met {
             buttons: [0; 10],
             keys: [false; 145],
             aims: AIMS
-                .iter()
-                .chain(&kernel_met::AIMS)
-                .chain(RESTED_AIMS.iter().filter(|_| words::exists(words::RESTED, LEVEL)))
-                .map(|a| (*a, 0))
+                .into_iter()
+                .chain(kernel_met::AIMS)
+                .chain(LATER_AIMS.into_iter().filter(|(_, from)| LEVEL >= *from).map(|(a, _)| a))
+                .map(|a| (a, 0))
                 .collect(),
         }
     }
@@ -122,6 +134,9 @@ impl Met {
         let number = (answer[0] >> 24) as usize;
         self.calls[row(call)][number] += 1;
         self.aim(NOT_LANDED, row(call) < UNKNOWN && !words::exists(call, panel.level));
+        if call == words::EXP && words::exists(call, panel.level) {
+            self.exponent(w, number);
+        }
         if number != 0 {
             return;
         }
@@ -163,6 +178,25 @@ impl Met {
         self.aim("rested: 0 by a move", rest == Some(0.0) && moved);
         self.aim("rested: 0 by a velocity alone", rest == Some(0.0) && !moved);
         self.aim("rested: more than 0", rest.is_some_and(|s| s > 0.0));
+    }
+
+    fn exponent(&mut self, w: &[u32], number: usize) {
+        let [bits] = *w else { return };
+        let e = f32::from_bits(bits);
+        let one = 1.0f32.to_bits();
+        match number {
+            0 => {
+                self.aim("exponent 0", bits == 0);
+                self.aim("exponent -0", bits == 1 << 31);
+                self.aim("exponent 1", e == 1.0);
+                self.aim("exponent -1", e == -1.0);
+            }
+            _ => {
+                self.aim("exponent just over 1 in size", e.abs().to_bits() == one + 1);
+                self.aim("exponent infinite", e.is_infinite());
+                self.aim("exponent not a number", e.is_nan());
+            }
+        }
     }
 
     fn pass(&mut self, panel: &Panel, w: &[u32]) {
@@ -297,6 +331,7 @@ impl Met {
             (6, &[0, 255]),
             (8, &[0, 255]),
             (words::KERNEL as usize, &KERNEL_ANSWERS),
+            (11, if LEVEL >= 5 { &[0, 13, 255] } else { &[255] }),
             (UNKNOWN, &[255]),
         ];
         for (call, numbers) in due {
