@@ -7,6 +7,7 @@ use pointer_events::CODES;
 use pointer_events::PLACES;
 use trace_answers::ask::ask;
 use trace_answers::dump::dump;
+use trace_answers::rested::rested;
 use trace_interact::interact::interact;
 use trace_kernel::kernel::kernel;
 use trace_machine::machine::Machine;
@@ -25,6 +26,7 @@ use trace_text::calls::INTERACT;
 use trace_text::calls::KERNEL;
 use trace_text::calls::PASS;
 use trace_text::calls::RESET;
+use trace_text::calls::RESTED;
 use trace_text::calls::SET_TALLY;
 use trace_widgets::insert::insert;
 use trace_widgets::widgets::widgets;
@@ -151,6 +153,15 @@ fn dumped(
     taken(widgets(a, n, set, words, numbers, edges, lent))
 }
 
+fn rest(m: Machine, a: &mut Answer, w: &[u32]) -> Reply {
+    if w.len() > 0 {
+        return malformed();
+    }
+    let p = m.panel;
+    let input = p.input;
+    taken(rested(a, 0, input))
+}
+
 // The calls that change no input. A new one is an arm here.
 fn change(
     m: Machine,
@@ -195,6 +206,7 @@ fn change(
         ),
         SET_TALLY => set_tally(m, w),
         KERNEL => kernel(m, a, w),
+        RESTED => kept(m, rest(m, a, w)),
         _ => kept(m, malformed()),
     }
 }

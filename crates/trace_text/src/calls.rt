@@ -17,3 +17,5 @@ pub const DUMP: u32 = 6;
 pub const SET_TALLY: u32 = 8;
 
 pub const KERNEL: u32 = 9;
+
+pub const RESTED: u32 = 10;

@@ -1,4 +1,5 @@
 // An answer's checksum, and a call in plain text.
 pub mod calls;
+pub mod numbers;
 pub mod sums;
 pub mod text;

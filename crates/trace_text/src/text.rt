@@ -7,7 +7,9 @@ use crate::calls::INTERACT;
 use crate::calls::KERNEL;
 use crate::calls::PASS;
 use crate::calls::RESET;
+use crate::calls::RESTED;
 use crate::calls::SET_TALLY;
+use crate::numbers::rested;
 use trace_events::clearing::is_clearing;
 use trace_events::events::event_count;
 use trace_events::events::events;
@@ -84,6 +86,7 @@ fn name(out: &mut Buffer, n: usize, kind: u32) -> usize {
         DUMP => bytes(out, n, b"dump      "),
         SET_TALLY => bytes(out, n, b"set tally "),
         KERNEL => bytes(out, n, b"kernel    "),
+        RESTED => bytes(out, n, b"rested    "),
         _ => bytes(out, n, b"?         "),
     }
 }
@@ -285,6 +288,10 @@ fn taken(out: &mut Buffer, n: usize, a: &[u32], kind: u32, w: &[u32], t: Tally) 
         INTERACT => {
             let m = name(out, n, kind);
             snapshot(out, m, a, t)
+        }
+        RESTED => {
+            let m = name(out, n, kind);
+            rested(out, m, a)
         }
         _ => alone(out, n, kind),
     }
