@@ -1,4 +1,5 @@
 // One call.
+use crate::exponent::exponent;
 use emath_history::history::MAX_LEN;
 use emath_history::history::PARTS;
 use panel::state::Panel;
@@ -21,6 +22,7 @@ use trace_machine::passes::pass;
 use trace_text::calls::ASK;
 use trace_text::calls::CLEAR_WIDGETS;
 use trace_text::calls::DUMP;
+use trace_text::calls::EXP;
 use trace_text::calls::INSERT;
 use trace_text::calls::INTERACT;
 use trace_text::calls::KERNEL;
@@ -207,6 +209,7 @@ fn change(
         SET_TALLY => set_tally(m, w),
         KERNEL => kernel(m, a, w),
         RESTED => kept(m, rest(m, a, w)),
+        EXP => kept(m, exponent(a, w)),
         _ => kept(m, malformed()),
     }
 }

@@ -19,3 +19,5 @@ pub const SET_TALLY: u32 = 8;
 pub const KERNEL: u32 = 9;
 
 pub const RESTED: u32 = 10;
+
+pub const EXP: u32 = 11;

@@ -12,3 +12,11 @@ pub fn rested(out: &mut Buffer, n: usize, a: &[u32]) -> usize {
     let m = float(out, n, at(a, 1));
     bytes(out, m, b" s")
 }
+
+// EXP: the factor, and the exponent that it is of.
+pub fn factor(out: &mut Buffer, n: usize, a: &[u32], w: &[u32]) -> usize {
+    let mut m = bytes(out, n, b"factor ");
+    m = float(out, m, at(a, 0));
+    m = bytes(out, m, b" of ");
+    float(out, m, at(w, 0))
+}

@@ -2,6 +2,7 @@
 use crate::calls::ASK;
 use crate::calls::CLEAR_WIDGETS;
 use crate::calls::DUMP;
+use crate::calls::EXP;
 use crate::calls::INSERT;
 use crate::calls::INTERACT;
 use crate::calls::KERNEL;
@@ -9,6 +10,7 @@ use crate::calls::PASS;
 use crate::calls::RESET;
 use crate::calls::RESTED;
 use crate::calls::SET_TALLY;
+use crate::numbers::factor;
 use crate::numbers::rested;
 use trace_events::clearing::is_clearing;
 use trace_events::events::event_count;
@@ -87,6 +89,7 @@ fn name(out: &mut Buffer, n: usize, kind: u32) -> usize {
         SET_TALLY => bytes(out, n, b"set tally "),
         KERNEL => bytes(out, n, b"kernel    "),
         RESTED => bytes(out, n, b"rested    "),
+        EXP => bytes(out, n, b"exponent  "),
         _ => bytes(out, n, b"?         "),
     }
 }
@@ -116,6 +119,7 @@ fn meaning_from_6(out: &mut Buffer, n: usize, code: u32) -> usize {
         10 => bytes(out, n, b"the tally of drag starts is full"),
         11 => bytes(out, n, b"the length is no multiple of 24 bytes"),
         12 => bytes(out, n, b"a slot outside 0 to 9"),
+        13 => bytes(out, n, b"an exponent over 1 in size, or not a number"),
         _ => bytes(out, n, b"no such call, or its words do not fit it; skipped"),
     }
 }
@@ -292,6 +296,10 @@ fn taken(out: &mut Buffer, n: usize, a: &[u32], kind: u32, w: &[u32], t: Tally) 
         RESTED => {
             let m = name(out, n, kind);
             rested(out, m, a)
+        }
+        EXP => {
+            let m = name(out, n, kind);
+            factor(out, m, a, w)
         }
         _ => alone(out, n, kind),
     }
