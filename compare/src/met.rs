@@ -321,7 +321,7 @@ impl Met {
     /// What should have been met, and was not.
     pub fn missing(&self) -> Vec<String> {
         let mut v = Vec::new();
-        let due: [(usize, &[usize]); 10] = [
+        let due: [(usize, &[usize]); 12] = [
             (0, &[0, 255]),
             (1, &[0, 1, 2, 3, 4, 5, 255]),
             (2, &[0, 1, 2, 6, 7, 8, 9, 255]),
@@ -331,16 +331,14 @@ impl Met {
             (6, &[0, 255]),
             (8, &[0, 255]),
             (words::KERNEL as usize, &KERNEL_ANSWERS),
-            (11, if LEVEL >= 5 { &[0, 13, 255] } else { &[255] }),
+            (words::RESTED as usize, &[0, 255]),
+            (words::EXP as usize, &[0, 13, 255]),
             (UNKNOWN, &[255]),
         ];
         for (call, numbers) in due {
             for n in numbers.iter().filter(|n| self.calls[call][**n] == 0) {
                 v.push(format!("{} answered {n}", words::call_name(call as u32)));
             }
-        }
-        for n in [0, 255].iter().filter(|n| words::exists(words::RESTED, LEVEL) && self.answered(words::RESTED, **n) == 0) {
-            v.push(format!("RESTED answered {n}"));
         }
         v.extend(self.missing_events());
         let all_landed = CALLS.iter().all(|(_, from)| LEVEL >= *from);
