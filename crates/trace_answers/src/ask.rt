@@ -12,6 +12,7 @@ use input_state::pointer::Pointer;
 use input_state::screen::Screen;
 use input_state::state::InputState;
 use key_state::keys::Keys;
+use key_state::keys::PRESSES;
 use panel::buttons;
 use panel::clock;
 use panel::keys::feed_was_empty;
@@ -128,7 +129,7 @@ fn key_and_touch_words(
     n: usize,
     s: InputState,
     ds: Devices,
-    counts: &[u8; 145],
+    counts: &[u8; PRESSES],
 ) -> usize {
     let k = s.keys;
     let c = s.clock;
@@ -236,7 +237,7 @@ pub fn ask(
     ds: Devices,
     codes: &[u32; CODES],
     places: &[f32; PLACES],
-    counts: &[u8; 145],
+    counts: &[u8; PRESSES],
 ) -> usize {
     let c = s.clock;
     let screen = s.screen;

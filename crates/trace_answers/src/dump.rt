@@ -7,6 +7,7 @@ use emath_history::history::PARTS;
 use input_state::clock::Clock;
 use input_state::state::InputState;
 use interaction_state::state::Interaction;
+use key_state::keys::PRESSES;
 use pointer_events::CODES;
 use pointer_events::PLACES;
 use touch_state::devices::Devices;
@@ -55,7 +56,7 @@ fn clock_words(a: &mut Answer, n: usize, c: Clock) -> usize {
     float(a, m, c.stable_dt)
 }
 
-fn input(a: &mut Answer, n: usize, s: InputState, p: &[u8; 145]) -> usize {
+fn input(a: &mut Answer, n: usize, s: InputState, p: &[u8; PRESSES]) -> usize {
     let clock = s.clock;
     let screen = s.screen;
     let viewport = screen.viewport_rect;
@@ -90,7 +91,7 @@ pub fn dump(
     positions: &[f32; PARTS],
     codes: &[u32; CODES],
     places: &[f32; PLACES],
-    p: &[u8; 145],
+    p: &[u8; PRESSES],
 ) -> usize {
     let w = s.wheel;
     let mut m = pointer(a, n, s, times, positions, codes, places);

@@ -1,6 +1,7 @@
 // The keys, 32 and 4 to a word.
 use data::bits::bit_number;
 use key_state::keys::Keys;
+use key_state::keys::PRESSES;
 use panel::keys::key_down;
 use panel::keys::num_presses;
 use trace_words::words::Answer;
@@ -30,14 +31,14 @@ fn wide(x: u8) -> u32 {
 }
 
 // Keys `4 j` to `4 j + 3`, the first in the low byte.
-fn presses_word(p: &[u8; 145], j: u32) -> u32 {
+fn presses_word(p: &[u8; PRESSES], j: u32) -> u32 {
     let k = j % 64 * 4;
     let low = wide(num_presses(p, k)) % 256 + wide(num_presses(p, k + 1)) % 256 * 0x100;
     let high = wide(num_presses(p, k + 2)) % 256 + wide(num_presses(p, k + 3)) % 256 * 0x100;
     low % 0x1_0000 + high % 0x1_0000 * 0x1_0000
 }
 
-pub fn presses(a: &mut Answer, n: usize, p: &[u8; 145]) -> usize {
+pub fn presses(a: &mut Answer, n: usize, p: &[u8; PRESSES]) -> usize {
     let mut m = n;
     let mut j: u32 = 0;
     while j < 37 {
