@@ -2,6 +2,7 @@
 use crate::exponent::exponent;
 use emath_history::history::MAX_LEN;
 use emath_history::history::PARTS;
+use key_state::keys::PRESSES;
 use panel::state::Panel;
 use panel::widgets::empty;
 use pointer_events::CODES;
@@ -86,7 +87,7 @@ fn set_tally(m: Machine, w: &[u32]) -> Step {
 fn interacted(
     m: Machine,
     codes: &[u32; CODES],
-    presses: &[u8; 145],
+    presses: &[u8; PRESSES],
     words: &Words,
     numbers: &Numbers,
     a: &mut Answer,
@@ -104,7 +105,7 @@ fn asked(
     m: Machine,
     codes: &[u32; CODES],
     places: &[f32; PLACES],
-    presses: &[u8; 145],
+    presses: &[u8; PRESSES],
     a: &mut Answer,
     w: &[u32],
 ) -> Reply {
@@ -123,7 +124,7 @@ fn dumped(
     positions: &[f32; PARTS],
     codes: &[u32; CODES],
     places: &[f32; PLACES],
-    presses: &[u8; 145],
+    presses: &[u8; PRESSES],
     words: &Words,
     numbers: &Numbers,
     edges: &Edges,
@@ -171,7 +172,7 @@ fn change(
     positions: &[f32; PARTS],
     codes: &[u32; CODES],
     places: &[f32; PLACES],
-    presses: &[u8; 145],
+    presses: &[u8; PRESSES],
     words: &mut Words,
     numbers: &mut Numbers,
     edges: &mut Edges,
@@ -221,7 +222,7 @@ pub fn call(
     positions: &mut [f32; PARTS],
     codes: &mut [u32; CODES],
     places: &mut [f32; PLACES],
-    presses: &mut [u8; 145],
+    presses: &mut [u8; PRESSES],
     words: &mut Words,
     numbers: &mut Numbers,
     edges: &mut Edges,

@@ -1,5 +1,8 @@
 // A whole trace: read, replayed, answered.
 use crate::call::call;
+use emath_history::history::MAX_LEN;
+use emath_history::history::PARTS;
+use key_state::keys::PRESSES;
 use libc::STDERR_FILENO;
 use panel::clock::time;
 use pointer_events::CODES;
@@ -11,6 +14,7 @@ use trace_output::input::Record;
 use trace_output::input::WORDS;
 use trace_output::input::is_read;
 use trace_output::output::Buffer;
+use trace_output::output::SIZE;
 use trace_output::output::byte;
 use trace_output::output::flush;
 use trace_output::output::hex;
@@ -19,11 +23,14 @@ use trace_text::sums::head;
 use trace_text::sums::sum;
 use trace_text::text;
 use trace_text::text::Tally;
+use trace_words::records::LENT;
 use trace_words::records::Lent;
 use trace_words::reply::Reply;
 use trace_words::words::Answer;
 use trace_words::words::ROOM;
+use widget_index::table::EDGES;
 use widget_index::table::Edges;
+use widget_index::table::NUMBERS;
 use widget_index::table::Numbers;
 use widget_index::table::Words;
 
@@ -163,11 +170,11 @@ fn answered(
 
 fn one_call(
     before: Going,
-    times: &mut [f64; 1000],
-    positions: &mut [f32; 2000],
+    times: &mut [f64; MAX_LEN],
+    positions: &mut [f32; PARTS],
     codes: &mut [u32; CODES],
     places: &mut [f32; PLACES],
-    presses: &mut [u8; 145],
+    presses: &mut [u8; PRESSES],
     words: &mut Words,
     numbers: &mut Numbers,
     edges: &mut Edges,
@@ -207,7 +214,7 @@ fn ended(out: &mut Buffer, s: Going, form: Form, cut: bool) {
     say_end(out, s.bytes, form, cut, t);
 }
 
-fn start(presses: &mut [u8; 145]) -> Going {
+fn start(presses: &mut [u8; PRESSES]) -> Going {
     let machine = fresh(presses);
     let tally = text::none();
     Going {
@@ -219,18 +226,18 @@ fn start(presses: &mut [u8; 145]) -> Going {
 
 // Standard input, record by record, up to `limit` words. A record that is cut short or passes the limit ends the trace.
 pub fn replay(form: Form, limit: usize) {
-    let mut times = [0.0f64; 1000];
-    let mut positions = [0.0f32; 2000];
+    let mut times = [0.0f64; MAX_LEN];
+    let mut positions = [0.0f32; PARTS];
     let mut codes = [0u32; CODES];
     let mut places = [0.0f32; PLACES];
-    let mut presses = [0u8; 145];
-    let mut words = [0u64; 2080];
-    let mut numbers = [0u32; 5184];
-    let mut edges = [0.0f32; 8192];
-    let mut lent = [0u32; 17408];
-    let mut answer = [0u32; 65536];
-    let mut out = [0u8; 65536];
-    let mut request = [0u32; 262144];
+    let mut presses = [0u8; PRESSES];
+    let mut words = [0u64; widget_index::table::WORDS];
+    let mut numbers = [0u32; NUMBERS];
+    let mut edges = [0.0f32; EDGES];
+    let mut lent = [0u32; LENT];
+    let mut answer = [0u32; ROOM];
+    let mut out = [0u8; SIZE];
+    let mut request = [0u32; WORDS];
     let mut s = start(&mut presses);
     let mut left = limit;
     let mut more = is_read(&mut request, 1);
