@@ -165,7 +165,9 @@ fn main() -> ExitCode {
     println!("clearing: {} pairs of panels, {} passes and {} interacts taken by both, {} refused by both; every answer alike", s.lists, s.passes, s.interacts, s.refused);
     println!("  {} calls left out, taken by one and refused by the other; {} pairs left out, whose clearing pass is refused", s.left_out, s.skipped);
     println!("  without the condition on the first button event {} of {} lists differ", without.differ, without.lists);
-    println!("  {} pairs differ in the seconds since the last movement up to the first later one", s.rested_apart);
+    if words::exists(words::RESTED, LEVEL) {
+        println!("  {} pairs differ in the seconds since the last movement up to the first later one", s.rested_apart);
+    }
     println!("balance: {} interacts along random lists, {} starts, {} stops", counted[0], counted[1], counted[2]);
     if n >= 200 && (without.differ == 0 || counted[1] == 0) {
         println!("NOT MET: a list that differs without the condition, and a drag start");

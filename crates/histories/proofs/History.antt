@@ -13,6 +13,8 @@ use Rattle.model.specs.Interact.{InteractInput, InteractionSnapshot, interact, 
 use Rattle.model.specs.Calls.{Call, passes, interacts, Outcome, refused-interact, passed, answered, of-pass, of-interact, call, after, run, outcomes}
 use Rattle.theorems.specs.Balance as Model
 use Rattle.theorems.specs.Clearing.{Clears, Takes, Fair, Since, nothing-since, Alike, twice}
+use Rattle.theorems.specs.Reach.{Reached}
+use Rattle.theorems.proofs.Reach.{reach}
 use Rattle.theorems.proofs.Balance.{balance}
 use Rattle.theorems.proofs.Clearing.{clearing}
 use Rattle.survey.specs.Survey.{option}
@@ -32,7 +34,7 @@ use Rattle.input_pass.specs.Begun as Contract
 use Rattle.panel.specs.Steps.{ShowsInput}
 use Rattle.panel.proofs.Lookup.{looked-up}
 use Rattle.histories.specs.History.{Running, shows, Starts, Passes, passed-on, pass-answer, Given, interact-input, InteractsAs, interacted-on, interact-answer, History, rests, then-pass, then-interact}
-use Rattle.histories.specs.History.{WidgetsAreTheModels, IsRun, EveryHistoryIsRun, Balanced, HistoriesBalance, Life, AnswerAlike, HistoriesClear}
+use Rattle.histories.specs.History.{WidgetsAreTheModels, IsRun, EveryHistoryIsRun, HistoriesReach, Balanced, HistoriesBalance, Life, AnswerAlike, HistoriesClear}
 
 -- ---- one call of the code is the model's call
 record Stepped (x : Running) (c : Call) (a : Outcome) (y : Running) : Type 0 where
@@ -143,6 +145,9 @@ module _ (x : Running) (start : Starts x) where
 
 pub every-history-is-run : EveryHistoryIsRun
 every-history-is-run x y calls answers start h = followed x start y calls answers h .is-run
+
+pub histories-reach : HistoriesReach
+histories-reach x y calls answers start h = subst (λ (p : Panel). Reached p) (sym (run-from-fresh x start y calls answers h)) (reach calls)
 
 pub histories-balance : HistoriesBalance
 unfolding interaction-of

@@ -11,6 +11,7 @@ use Rattle.model.specs.Pass as Model
 use Rattle.model.specs.Interact.{InteractInput, InteractionSnapshot}
 use Rattle.model.specs.Calls.{Call, passes, interacts, Outcome, refused-interact, passed, answered, of-pass, after, run, outcomes}
 use Rattle.theorems.specs.Balance.{one-if-is, starts, stops, last-dragged, all-starts}
+use Rattle.theorems.specs.Reach.{Reached}
 use Rattle.theorems.specs.Clearing.{Clears, Fair, Since, nothing-since, then-since, Same, When, is-passed, twice}
 use Rattle.survey.specs.Survey.{option}
 use Rattle.hit_lists.specs.declared.MaybeHit.{MaybeHit}
@@ -109,6 +110,10 @@ pub record IsRun (x : Running) (calls : List Call) (answers : List Outcome) (y :
 
 abbrev pub EveryHistoryIsRun : Type 0
 EveryHistoryIsRun = (x y : Running) (calls : List Call) (answers : List Outcome) → Starts x → History x calls answers y → IsRun x calls answers y
+
+-- so a running panel has what every panel reached has: theorems' `Reached`
+abbrev pub HistoriesReach : Type 0
+HistoriesReach = (x y : Running) (calls : List Call) (answers : List Outcome) → Starts x → History x calls answers y → Reached (shows y)
 
 -- ---- demand 3, first half, of what the code answers and keeps
 pub record Balanced (answers : List Outcome) (y : Running) (widget : ℕ) : Type 0 where
