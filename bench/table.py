@@ -9,6 +9,7 @@ sets as ascending lists, as the calls here do.
 An insertion's lent slots go through the program by value: a run that only copies them is taken off. The questions are asked after a
 pass of 8 events, which is taken off too. Of both the time would say nothing: what is taken off is far more than what is left.
 Beside a root egui's column is the processor's own instruction.
+Beside the factor of an exponent egui's column is Rust's `f32::exp`, and the number is how many factors lie above 1.
 """
 import shlex, struct, subprocess, sys, time
 
@@ -55,7 +56,7 @@ def hits(n):
         words += [(i + 1) * 0x9E3779B1 % 2**32, 1 if i % 4 == 1 else 0]
     return words
 
-PASS, INSERT, INTERACT, ASK, ROOT32, ROOT64 = range(6)
+PASS, INSERT, INTERACT, ASK, ROOT32, ROOT64, EXPONENT = range(7)
 def request(kind, n, a=0, b=0, c=0, words=()):
     return struct.pack(f'<{6 + len(words)}I', kind, n, a, b, c, len(words), *words)
 
@@ -77,6 +78,7 @@ row('interact, 3 hits', 2.0, 2000, lambda n: request(INTERACT, n, 2, 2, 96, hits
 row('interact, 64 hits', 1.0, 300, lambda n: request(INTERACT, n, 6, 2, 96, hits(64)))
 row('root of an f32', None, 20000, lambda n: request(ROOT32, n))
 row('root of an f64', None, 20000, lambda n: request(ROOT64, n))
+row('factor of an exponent', None, 20000, lambda n: request(EXPONENT, n))
 row('30 questions', 2.0, 1000, lambda n: request(ASK, n, words=mixed(8)), 1, lambda n: request(PASS, n, words=mixed(8)))
 
 def answer(cmd, data):

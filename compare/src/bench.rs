@@ -39,6 +39,7 @@ pub fn run(words: &[u32], checked: bool) -> u64 {
         2 => interacts(n, given, a, b, checked),
         4 => roots32(n),
         5 => roots64(n),
+        6 => exponents(n),
         _ => passes(n, given, checked, true),
     }
 }
@@ -154,6 +155,18 @@ fn roots64(n: u32) -> u64 {
         sum = double(sum, f64::from_bits(w % 0x7ff0_0000_0000_0000).sqrt());
     }
     sum
+}
+
+// ---------------------------------------------------------------- factors of exponents: the platform's own
+
+fn exponents(n: u32) -> u64 {
+    let (mut above, mut w) = (0, 0u32);
+    for _ in 0..n {
+        w = w.wrapping_add(0x9e37_79b1);
+        let e = (w / 0x8000) as f32 / 65536.0 - 1.0;
+        above += u64::from(black_box(e).exp() > 1.0);
+    }
+    above
 }
 
 // ---------------------------------------------------------------- insertions

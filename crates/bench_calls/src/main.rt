@@ -1,6 +1,7 @@
 // Runs one kind of call many times, for the table that bench/run.sh prints. Standard input is words of 32 bits, the low byte first: which kind, how
 // often, three numbers, how many words follow, and those. compare/src/bench.rs runs the same requests on egui and prints the same number.
 mod asks;
+mod exponents;
 mod inserts;
 mod interacts;
 mod passes;
@@ -71,6 +72,7 @@ fn run(q: Request, words: &[u32]) -> u64 {
         2 => interacts::run(q.times, words, q.a, q.b, q.c),
         4 => roots::run32(q.times),
         5 => roots::run64(q.times),
+        6 => exponents::run(q.times),
         _ => asks::run(q.times, words),
     }
 }
