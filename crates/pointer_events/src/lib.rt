@@ -76,7 +76,7 @@ fn button_of(n: u32) -> PointerButton
     }
 }
 
-fn event_of(x: Entry) -> PointerEvent
+pub fn event_of(x: Entry) -> PointerEvent
     ensures { λ r. ⌜ r ≡ event-of x ⌝ }
 {
     let kind = x.kind;
@@ -123,7 +123,7 @@ fn released_entry(click: MaybeClick, button: PointerButton) -> Entry
     }
 }
 
-fn entry_of(e: PointerEvent) -> Entry
+pub fn entry_of(e: PointerEvent) -> Entry
     ensures { λ r. ⌜ r ≡ entry-of e ⌝ }
 {
     match e {
@@ -145,7 +145,7 @@ fn entry_of(e: PointerEvent) -> Entry
     }
 }
 
-fn entry_at(codes: &[u32; CODES], positions: &[f32; PLACES], i: usize) -> Entry
+pub fn entry_at(codes: &[u32; CODES], positions: &[f32; PLACES], i: usize) -> Entry
     requires { ⌜ i < max-events ⌝ }
     ensures { λ r. ⌜ r ≡ entry-at (now (codes .entry)) (now (positions .entry)) i ⌝ }
 {
