@@ -1,0 +1,2 @@
+-- What the functions of src/ need of a gesture's words.
+pub mod Parts
