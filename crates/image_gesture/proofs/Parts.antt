@@ -23,7 +23,7 @@ pub five : (v : El start-code) → length (write start-code v) ≡ 5
 unfolding write
 five v = refl
 
-nine : (v : El previous-code) → length (write previous-code v) ≡ 9
+pub nine : (v : El previous-code) → length (write previous-code v) ≡ 9
 unfolding write option-words zeros size
 nine none = refl
 nine (some v) = refl
@@ -49,3 +49,12 @@ joined l at s p a = refl
 pub put-fields : (l : List ℕ) (at : ℕ) (s : El start-code) (p : El previous-code) (a : El averages-code)
     → sets (sets (sets (set l at 1) (at + 1) (write start-code s)) (at + 1 + 5) (write previous-code p)) (at + 1 + 14) (write averages-code a) ≡ sets l at (write gesture-code (some (s, (p, a))))
 put-fields l at s p a = three-parts (set l at 1) (at + 1) (write start-code s) (write previous-code p) (write averages-code a) (five s) (nine p) ∙ rw add-one (joined l at s p a)
+
+pub gesture-length : (v : El gesture-code) → length (write gesture-code v) ≡ 23
+unfolding write option-words zeros size
+gesture-length none = refl
+gesture-length (some v) =
+    let s = write start-code (v .0) in
+    let p = write previous-code (v .1 .0) in
+    let a = write averages-code (v .1 .1) in
+    omega (arith, length-append s (p ++ a), length-append p a, five (v .0), nine (v .1 .0), eight (v .1 .1))

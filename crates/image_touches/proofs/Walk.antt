@@ -102,6 +102,9 @@ in-touches us h e t =
 pub len-le : (n c : ℕ) (a : List ActiveTouch) → length a ≡ 10 → n ≡ length (take c a) → n ≤ 10
 len-le n c a l e = omega (arith, length-take c a)
 
+pub count-le : (c : ℕ) (a : List ActiveTouch) → length a ≡ 10 → length (take c a) ≤ max-touches
+count-le c a l = len-le (length (take c a)) c a l refl
+
 pub lengths : (l x y : List ℕ) (k v i j : ℕ) (xs ys : List ℕ) → x ≡ sets (set l k v) i xs → y ≡ sets x j ys → length y ≡ length l
 lengths l x y k v i j xs ys e f = ap length f ∙ length-sets x j ys ∙ ap length e ∙ length-sets (set l k v) i xs ∙ length-set l k v
 

@@ -67,7 +67,7 @@ fn places_put(places: [ActiveTouch; MAX_TOUCHES], n: usize, out: &mut [u32], at:
 
 pub fn touches_put(ts: Touches, out: &mut [u32], at: usize)
     requires { ⌜ at + (1 + max-touches * 6) ≤ length (now out) ⌝ }
-    ensures { λ r. ⌜ (now (out .exit) ≡ sets (now (out .entry)) at (write (touches-code max-touches) (touches-el (list ts)))) × Each (λ v. In touch-code (v .1)) (touches-el (list ts)) ⌝ }
+    ensures { λ r. ⌜ (now (out .exit) ≡ sets (now (out .entry)) at (write (touches-code max-touches) (touches-el (list ts)))) × Each (λ v. In touch-code (v .1)) (touches-el (list ts)) × (length (list ts) ≤ max-touches) ⌝ }
 {
     let n = touches::len(ts);
     let places = ts.places;

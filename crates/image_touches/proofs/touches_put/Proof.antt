@@ -1,5 +1,5 @@
 -- `image_touches::touches_put` meets its contract.
-use Rattle.image_touches.proofs.Walk.{written, lengths, len-le, put-all}
+use Rattle.image_touches.proofs.Walk.{written, lengths, len-le, count-le, put-all}
 use Rattle.image.specs.Codes.{zeros}
 use Prim.Native.Nat.{_+_, _*_, _-_, _≤_}
 use Rattle.touches.proofs.Places.{first-of}
@@ -55,7 +55,7 @@ returns c =
     let a = c .before .before .before .before .before .before .before .before .before .before .before .args in
     let n = c .before .before .before .before .before .before .before .before .before .len .ensures in
     let t = first-of _ (a .ts .count) (a .ts .places) n in
-    (c .before .before .zeros-put .ensures ∙ rw (c .before .before .before .before .before .before .places-put .ensures .0) (put-all (a .out .now) (a .at) _ (a .ts .count) (a .ts .places) n t), rw t at (c .before .before .before .before .before .before .places-put .ensures .1))
+    (c .before .before .zeros-put .ensures ∙ rw (c .before .before .before .before .before .before .places-put .ensures .0) (put-all (a .out .now) (a .at) _ (a .ts .count) (a .ts .places) n t), rw t at (c .before .before .before .before .before .before .places-put .ensures .1), count-le (a .ts .count) (a .ts .places) (simp length-map at (c .before .before .before .before .before .before .before .before .before .before .before .good .0 .1 .1 .1 .0 .1 .0 .1)))
 
 pub touches-put-spec : {M : Type 1} → statement M
 touches-put-spec =

@@ -1,0 +1,2 @@
+-- What the functions of src/ need of the devices' words.
+pub mod Rows
