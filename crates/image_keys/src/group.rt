@@ -15,6 +15,7 @@ use image_words::header_bad;
 use image_words::word_at;
 use image_words::word_bad;
 use key_state::keys::Keys;
+use key_state::keys::PRESSES;
 ghost use mathlib.Core.Path.{_≡_};
 ghost use mathlib.Core.List.{List};
 ghost use mathlib.Core.Option.{none};
@@ -36,9 +37,7 @@ const MODIFIERS: usize = 78;
 
 const FEED_EMPTY: usize = 79;
 
-const PRESSES: usize = 80;
-
-const PRESS_COUNT: usize = 145;
+const PRESSES_PLACE: usize = 80;
 
 const FIVE_BITS: u32 = 31;
 
@@ -61,13 +60,13 @@ fn head_words(k: Keys) -> [u32; 8]
     ]
 }
 
-pub fn keys_put(k: Keys, presses: &[u8; 145], out: &mut [u32])
+pub fn keys_put(k: Keys, presses: &[u8; PRESSES], out: &mut [u32])
     requires { ⌜ keys-end ≤ length (now out) ⌝ }
     ensures { λ _. ⌜ (now (out .exit) ≡ sets (now (out .entry)) keys-place (write keys-code (keys-el (keys (now (presses .entry)) k)))) × In keys-code (keys-el (keys (now (presses .entry)) k)) ⌝ }
 {
     let head = head_words(k);
     copy(out, KEYS_PLACE, &head);
-    presses_put(presses, out, PRESSES);
+    presses_put(presses, out, PRESSES_PLACE);
 }
 
 pub fn keys_bad(words: &[u32]) -> MaybeIndex
@@ -77,20 +76,20 @@ pub fn keys_bad(words: &[u32]) -> MaybeIndex
     let down = down_bad(words);
     let modifiers = word_bad(words, MODIFIERS, FIVE_BITS);
     let empty = flag_bad(words, FEED_EMPTY);
-    let presses = presses_bad(words, PRESSES, PRESS_COUNT);
+    let presses = presses_bad(words, PRESSES_PLACE, PRESSES);
     first(
         leading,
         first(down, first(modifiers, first(empty, presses))),
     )
 }
 
-pub fn keys_at(words: &[u32], presses: &mut [u8; 145]) -> Keys
+pub fn keys_at(words: &[u32], presses: &mut [u8; PRESSES]) -> Keys
     requires { ⌜ bad-at keys-code (now words) keys-place ≡ none ⌝ }
     ensures { λ r. ⌜ keys (now (presses .exit)) r ≡ keys-of (value-at keys-code (now (words .entry)) keys-place) ⌝ }
 {
     let down = down_at(words);
     let modifiers = Modifiers::of(word_at(words, MODIFIERS));
-    presses_at(words, PRESSES, presses);
+    presses_at(words, PRESSES_PLACE, presses);
     Keys {
         down,
         modifiers,
