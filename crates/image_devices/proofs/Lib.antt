@@ -1,2 +1,3 @@
 -- What the functions of src/ need of the devices' words.
 pub mod Rows
+pub mod Back

@@ -1,2 +1,3 @@
 -- What the functions of src/ need of the events' words.
 pub mod Rows
+pub mod Back

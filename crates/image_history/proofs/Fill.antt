@@ -112,3 +112,8 @@ pub history-of-el : (vs : El history-code) → history-el (history-of vs) ≡ vs
 unfolding history-el history-of
 history-of-el [] = refl
 history-of-el (v ∷ vs) = ap {B = El history-code} (λ z. v ∷ z) (history-of-el vs)
+
+pub history-back : (h : List Sample) → history-of (history-el h) ≡ h
+unfolding history-of history-el
+history-back [] = refl
+history-back (s ∷ h) = ap {B = List Sample} (λ z. s ∷ z) (history-back h)

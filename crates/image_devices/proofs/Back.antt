@@ -1,0 +1,56 @@
+-- The devices read from the value that stands for them, and when that value is in range.
+use Prim.Native.Nat.{ℕ, _≤_}
+use mathlib.Core.Path.{_≡_, refl, sym, ap₂, subst}
+use mathlib.Core.List.{List, [], _∷_, map}
+use lib.Dec.{T, leb, le→leb}
+use lib.ListN.{length, length-map}
+use Rattle.data.specs.Limits.{max-devices, max-touches}
+use Rattle.data.specs.declared.touch.ActiveTouch.{ActiveTouch}
+use Rattle.data.specs.declared.touch.MaybeF32.{MaybeF32}
+use Rattle.data.specs.declared.touch.MaybeF32.the-variants.{None as no-force, Some as some-force}
+use Rattle.model.specs.Touch.{TouchState}
+use Rattle.image.specs.Codes.{In, Each}
+use Rattle.image.specs.Places.{Tested}
+use Rattle.image.proofs.Lists.{keyed-of}
+use Rattle.image_touches.specs.Touches.{ascending, force-el, force-of, touch-el, touch-of, touches-el, touches-of}
+use Rattle.image_touches.proofs.Walk.{in-touches}
+use Rattle.image_gesture.specs.Gesture.{gesture-el, gesture-of}
+use Rattle.image_gesture.proofs.Back.{gesture-back}
+use Rattle.image_devices.specs.Devices.{device-code, devices-code, DeviceEl, device-el, device-of, devices-el, devices-of, DeviceIn}
+
+force-back : (o : MaybeF32) → force-of (force-el o) ≡ o
+unfolding force-of force-el
+force-back no-force = refl
+force-back (some-force x) = refl
+
+touch-back : (t : ActiveTouch) → touch-of (touch-el t) ≡ t
+touch-back t = rw (force-back (t .force))
+
+touches-back : (us : List ActiveTouch) → touches-of (touches-el us) ≡ us
+unfolding touches-of touches-el
+touches-back [] = refl
+touches-back (u ∷ us) = ap₂ (λ (x : ActiveTouch) (xs : List ActiveTouch). x ∷ xs) (touch-back u) (touches-back us)
+
+device-back : (v : TouchState) → device-of (device-el v) ≡ v
+device-back v = rw (touches-back (v .active-touches), gesture-back (v .gesture-state))
+
+pub devices-back : (vs : List TouchState) → devices-of (devices-el vs) ≡ vs
+unfolding devices-of devices-el
+devices-back [] = refl
+devices-back (v ∷ vs) = ap₂ (λ (x : TouchState) (xs : List TouchState). x ∷ xs) (device-back v) (devices-back vs)
+
+-- what the state has of a device's touches: they are no more than the most, and their ids rise
+abbrev pub Held : TouchState → Type 0
+Held v = (length (v .active-touches) ≤ max-touches) × Tested ascending [] (touches-el (v .active-touches))
+
+each-in : (vs : List TouchState) → Each DeviceIn (map device-el vs) → Each Held vs → Each (λ (v : DeviceEl). In (device-code max-touches) (v .1)) (map device-el vs)
+each-in [] e h = tt
+each-in (v ∷ vs) e h = ((in-touches (v .active-touches) (h .0 .0) (e .0 .0) (h .0 .1), e .0 .1), each-in vs (e .1) (h .1))
+
+-- in range, where the ids rise: the devices' and those of each one's touches
+pub in-devices : (vs : List TouchState) → length vs ≤ max-devices → Each DeviceIn (devices-el vs) → Each Held vs → Tested ascending [] (devices-el vs) → In (devices-code max-devices max-touches) (devices-el vs)
+unfolding devices-el
+in-devices vs n e h t = (
+  subst (λ (k : ℕ). T (leb k max-devices)) (sym (length-map vs device-el)) (le→leb (length vs) max-devices n),
+  keyed-of ascending (In (device-code max-touches)) [] (map device-el vs) t (each-in vs e h),
+)
