@@ -23,7 +23,7 @@ fn digit(rem: u64, t: u64) -> u64
 // The whole root of the leading 2n of d's 62 digits, digit by digit: each turn takes the next two
 // digits of d into `rem`, and after it root * root + rem is the part of d taken in: `Recurrence` of
 // specs/Recurrence.antt, the loop's invariant. (62 and not 64: at the top of the word the compiler
-// makes a shift of two words of the product and the digits, which costs a quarter of the time.)
+// joins the product and the digits that come in to one shift over two words, which is slower.)
 fn root_digits(d: u64, n: u64) -> u64
     requires { ⌜ (d < 2 ^ 62) × (n ≤ 54) ⌝ }
     ensures { λ r. ⌜ r ≡ isqrt (taken d n) ⌝ }
