@@ -16,7 +16,6 @@ use data::kinds::ZOOM_KIND;
 use data::limits::BUTTON_COUNT;
 use data::limits::KEY_COUNT;
 use data::limits::UNIT_COUNT;
-use domain::coordinate_ok;
 use domain::force_ok;
 use domain::radians_ok;
 use domain::zoom_ok;
@@ -49,6 +48,18 @@ pub enum Verdict {
     OutsideDomain,
 }
 
+// An f32's pattern has the sign in its highest bit.
+const SIGN: u32 = 0x8000_0000;
+
+// 65,536's pattern. Without the sign patterns are in the order of the sizes, and an infinity's and a NaN's come last.
+const MAX_COORDINATE_BITS: u32 = 0x4780_0000;
+
+fn coordinate_word_ok(w: u32) -> bool
+    ensures { λ r. ⌜ r ≡ coordinate-ok (float-of w) ⌝ }
+{
+    w % SIGN <= MAX_COORDINATE_BITS
+}
+
 fn in_domain(ok: bool, list: u8, next: usize) -> Verdict
     ensures { λ r. ⌜ r ≡ judged true ok list next ⌝ }
 {
@@ -74,8 +85,8 @@ fn placed(feed: &[u32], at: usize, clean: bool, list: u8, next: usize) -> Verdic
     ensures { λ r. ⌜ r ≡ judged clean (pos-ok (pos-of (getD (now (feed .entry)) (at + 1) 0) (getD (now (feed .entry)) (at + 2) 0))) list next ⌝ }
 {
     if clean {
-        if coordinate_ok(float_of(feed[at + 1])) {
-            return in_domain(coordinate_ok(float_of(feed[at + 2])), list, next);
+        if coordinate_word_ok(feed[at + 1]) {
+            return in_domain(coordinate_word_ok(feed[at + 2]), list, next);
         }
         return Verdict::OutsideDomain;
     }
