@@ -3,6 +3,7 @@ use crate::layers::LayerId;
 use emath::rect::Rect;
 
 // `sense` is a plain number of sense.rs's bits, so that an unnamed bit can be given and refused.
+#[repr(C)]
 pub struct WidgetRect {
     pub id: u64,
     pub parent_id: u64,

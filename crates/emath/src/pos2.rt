@@ -2,7 +2,8 @@ use crate::vec2::Vec2;
 ghost use mathlib.Core.Path.{_≡_};
 ghost use Rattle.emath.specs.Vec.{pos-zero, pos-sub, distance, distance-sq};
 
-// A position on the screen.
+// A position on the screen. `repr(C)` here and in Rect, LayerId and WidgetRect: a host lends its widgets as they stand.
+#[repr(C)]
 pub struct Pos2 {
     pub x: f32,
     pub y: f32,

@@ -2,6 +2,7 @@ use crate::pos2::Pos2;
 ghost use mathlib.Core.Path.{_≡_};
 ghost use Rattle.emath.specs.Vec.{height};
 
+#[repr(C)]
 pub struct Rect {
     pub min: Pos2,
     pub max: Pos2,
