@@ -107,6 +107,16 @@ unfolding numbers-of
 numbers-length f zero = refl
 numbers-length f (suc n) = omega (arith, length-append (numbers-of f n) (f n ∷ []), numbers-length f n)
 
+-- the group has 153 words
+pub keys-length : (s : Keys) → length (write keys-code (keys-el s)) ≡ 153
+unfolding keys-head write
+keys-length s =
+    let e = ap length (head-then s) in
+    let f = length-append (keys-head s) (numbers-of (s .presses) key-count) in
+    let g = numbers-length (s .presses) key-count in
+    let h = head-length s in
+    omega (arith, e, f, g, h)
+
 pub number-at : (f : ℕ → ℕ) (n j : ℕ) → j < n → getD (numbers-of f n) j 0 ≡ f j
 unfolding numbers-of
 number-at f zero j h = absurd (omega arith)

@@ -18,7 +18,7 @@ use native.Mathlib.Nat.{mod-eq-of-lt}
 use Rattle.image_keys.proofs.Rows.{number-at}
 use Rattle.image.specs.Codes.{El, In}
 use Rattle.image_options.proofs.Trip.{boolean-back, boolean-forth, modifiers-again, modifiers-forth}
-use Rattle.image_keys.specs.Keys.{bits-number, down-code, down-el, down-words, keys-down-of, keys-code, keys-el, keys-of, max-word, max-last}
+use Rattle.image_keys.specs.Keys.{bits-number, down-code, down-el, down-words, keys-down-of, keys-code, keys-el, keys-of, NoKeyBeyond, max-word, max-last}
 use Rattle.image_keys.proofs.Bits.{bits-of, bits-same}
 
 -- a bit of the number is its key's
@@ -36,11 +36,6 @@ bit-back (suc n) f k (suc i) h =
     let e : (bit-number (f k) + 2 * m) / 2 ≡ m = omega arith in
     let g : k + suc i ≡ suc k + i = omega arith in
     rw (e, g) (bit-back n f (suc k) i (omega arith))
-
--- beyond the keys none is down, none was pressed
-pub record NoKeyBeyond (s : Keys) : Type 0 where
-  pub up : (k : ℕ) → key-count ≤ k → s .keys-down k ≡ false
-  pub unpressed : (k : ℕ) → key-count ≤ k → s .presses k ≡ 0
 
 down-back : (f : ℕ → Bool) → ((k : ℕ) → key-count ≤ k → f k ≡ false) → (k : ℕ) → keys-down-of (down-el f) k ≡ f k
 unfolding keys-down-of

@@ -1,5 +1,6 @@
 -- Group 6, the keys: its code, the value that stands for the model's record, and back.
-use Prim.Native.Nat.{ℕ, zero, suc, _+_, _*_, _/_, _%_}
+use Prim.Native.Nat.{ℕ, zero, suc, _+_, _*_, _/_, _%_, _≤_}
+use mathlib.Core.Path.{_≡_}
 use mathlib.Core.Bool.{Bool, false, cond}
 use mathlib.Core.List.{List, [], _∷_, _++_}
 use lib.Dec.{T, ltb}
@@ -79,3 +80,8 @@ keys-head s = header 6 (size (both down-code (both flags (both boolean (array ke
 
 abbrev pub KeysHead : Keys → Type 0
 KeysHead s = In down-code (down-el (s .keys-down)) × T (upto five-bits (modifiers-number (s .modifiers))) × T (flag (bit-number (s .feed-empty)))
+
+-- beyond the keys none is down, none was pressed
+pub record NoKeyBeyond (s : Keys) : Type 0 where
+  pub up : (k : ℕ) → key-count ≤ k → s .keys-down k ≡ false
+  pub unpressed : (k : ℕ) → key-count ≤ k → s .presses k ≡ 0
