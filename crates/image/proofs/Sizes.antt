@@ -3,7 +3,7 @@ use Prim.Native.Nat.{ℕ, suc, _+_}
 use mathlib.Core.Path.{_≡_, refl, ap, ap₂, _∙_}
 use mathlib.Core.Option.{none, some}
 use lib.ListN.{length, length-append}
-use Rattle.image.specs.Codes.{Code, word, single, double, id, both, array, maybe, group, table, blank, choice, keyed, ranked, El, size, write}
+use Rattle.image.specs.Codes.{Code, word, single, double, id, both, array, maybe, group, table, blank, choice, keyed, ranked, El, size, option-words, write}
 use Rattle.image.proofs.Lists.{zeros-length}
 
 -- no list in it
@@ -23,7 +23,7 @@ Plain (keyed m p a) = ⊥
 Plain (ranked n m p a) = ⊥
 
 pub plain-size : (c : Code) → Plain c → (v : El c) → length (write c v) ≡ size c
-unfolding write size
+unfolding write size option-words
 plain-size (word p) h v = refl
 plain-size (single p) h v = refl
 plain-size (double p) h v = refl
