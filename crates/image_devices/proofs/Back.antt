@@ -5,31 +5,16 @@ use mathlib.Core.List.{List, [], _∷_, map}
 use lib.Dec.{T, leb, le→leb}
 use lib.ListN.{length, length-map}
 use Rattle.data.specs.Limits.{max-devices, max-touches}
-use Rattle.data.specs.declared.touch.ActiveTouch.{ActiveTouch}
-use Rattle.data.specs.declared.touch.MaybeF32.{MaybeF32}
-use Rattle.data.specs.declared.touch.MaybeF32.the-variants.{None as no-force, Some as some-force}
-use Rattle.model.specs.Touch.{TouchState}
+use Rattle.model.specs.Touch.{TouchState, AllTouchesWithin, InOrder}
 use Rattle.image.specs.Codes.{In, Each}
 use Rattle.image.specs.Places.{Tested}
 use Rattle.image.proofs.Lists.{keyed-of}
-use Rattle.image_touches.specs.Touches.{ascending, force-el, force-of, touch-el, touch-of, touches-el, touches-of}
+use Rattle.image_touches.specs.Touches.{ascending, touch-el, touches-el}
 use Rattle.image_touches.proofs.Walk.{in-touches}
+use Rattle.image_touches.proofs.Trip.{touches-back, ascending-tested}
 use Rattle.image_gesture.specs.Gesture.{gesture-el, gesture-of}
 use Rattle.image_gesture.proofs.Back.{gesture-back}
 use Rattle.image_devices.specs.Devices.{device-code, devices-code, DeviceEl, device-el, device-of, devices-el, devices-of, DeviceIn}
-
-force-back : (o : MaybeF32) → force-of (force-el o) ≡ o
-unfolding force-of force-el
-force-back no-force = refl
-force-back (some-force x) = refl
-
-touch-back : (t : ActiveTouch) → touch-of (touch-el t) ≡ t
-touch-back t = rw (force-back (t .force))
-
-touches-back : (us : List ActiveTouch) → touches-of (touches-el us) ≡ us
-unfolding touches-of touches-el
-touches-back [] = refl
-touches-back (u ∷ us) = ap₂ (λ (x : ActiveTouch) (xs : List ActiveTouch). x ∷ xs) (touch-back u) (touches-back us)
 
 device-back : (v : TouchState) → device-of (device-el v) ≡ v
 device-back v = rw (touches-back (v .active-touches), gesture-back (v .gesture-state))
@@ -54,3 +39,13 @@ in-devices vs n e h t = (
   subst (λ (k : ℕ). T (leb k max-devices)) (sym (length-map vs device-el)) (le→leb (length vs) max-devices n),
   keyed-of ascending (In (device-code max-touches)) [] (map device-el vs) t (each-in vs e h),
 )
+
+-- devices in order are so
+each-held : (vs : List TouchState) → AllTouchesWithin vs → Each Held vs
+unfolding touches-el
+each-held [] h = tt
+each-held (v ∷ vs) h = ((h .0 .limit, ascending-tested touch-el (v .active-touches) (h .0 .ascend)), each-held vs (h .1))
+
+pub in-order-devices : (vs : List TouchState) → InOrder vs → Each DeviceIn (devices-el vs) → In (devices-code max-devices max-touches) (devices-el vs)
+unfolding devices-el
+in-order-devices vs o e = in-devices vs (o .limit) e (each-held vs (o .touches)) (ascending-tested device-el vs (o .ascend))

@@ -15,7 +15,7 @@ use Rattle.image.specs.Codes.{write, entry-words, option-words, zeros, all, siz
 use Rattle.image.specs.Places.{or-else, two-at, two-bad, value-at, bad-at, rows-at, key-at, keys-bad, Tested}
 use Rattle.image.proofs.Lists.{put-row, all-length, sets-at, read-row, map-append, each-more, zeros-length, keyed-of}
 use Rattle.image_words.specs.Leaves.{after}
-use Rattle.image_touches.specs.Touches.{ascending, force-code, touch-code, touches-code, touch-el, touch-of, touches-el, touches-of, seen-of, force-el, force-of}
+use Rattle.image_touches.specs.Touches.{ascending, force-code, touch-code, touches-code, touch-el, touch-of, touches-el, touches-of, seen-of}
 
 force-length : (o : Option Float) → length (write force-code o) ≡ 2
 unfolding write option-words zeros size
@@ -118,13 +118,3 @@ touches-length us h =
     let g = length-append ws (zeros ((10 - n) * 6)) in
     let z = zeros-length ((10 - n) * 6) in
     omega (arith, e, f, g, z)
-
-force-of-el : (o : Option Float) → force-el (force-of o) ≡ o
-unfolding force-el force-of
-force-of-el none = refl
-force-of-el (some x) = refl
-
-pub touches-of-el : (vs : List (ℕ × El touch-code)) → touches-el (touches-of vs) ≡ vs
-unfolding touches-el touches-of
-touches-of-el [] = refl
-touches-of-el (v ∷ vs) = ap₂ {C = List (ℕ × El touch-code)} (λ (o : Option Float) (z : List (ℕ × El touch-code)). (v .0, (v .1 .0, (v .1 .1 .0, o))) ∷ z) (force-of-el (v .1 .1 .1)) (touches-of-el vs)
