@@ -13,6 +13,7 @@ use lib.Ieee.{Float, binary32, binary64, ofBits}
 use Rattle.image.specs.Codes.{Code, word, single, double, id, both, array, maybe, group, table, blank, choice, keyed, ranked, El, size, half, header, single-ok, double-ok, Read, bad, good, then, read-word, read-two, read-zeros, read-option, read-times, read-keyed, count-of, table-ok, read, write, In, Words}
 use Rattle.image.specs.Places.{or-else, word-bad, two-at, two-bad, zeros-bad, rows-bad, rows-at, keys-bad, key-at, span, bad-at, value-at, Fixed, Placed, Told, ReadsByPlaces, Written, WrittenIsThere, SoundIsWritten}
 use Rattle.image.proofs.RoundTrip.{reads-back, is-written}
+use Rattle.image.proofs.Sound.{word-sound}
 
 data At (ws : List ℕ) (i : ℕ) : Type 0 where
   inside : ltb i (length ws) ≡ true → drop i ws ≡ getD ws i 0 ∷ drop (suc i) ws → At ws i
@@ -129,13 +130,7 @@ module _ {A : Type 0} (r : ℕ → List ℕ → Read A) (s : ℕ) (b : List ℕ 
 
 -- a count that passed its test
 word-most : (m : ℕ) (ws : List ℕ) (i : ℕ) → word-bad (λ w. leb w m) ws i ≡ none → getD ws i 0 ≤ m
-unfolding word-bad
-word-most m ws i h = go (ltb i (length ws)) (leb (getD ws i 0) m) refl h
-  where
-    go : (x y : Bool) → leb (getD ws i 0) m ≡ y → cond x (cond y none (some i)) (some i) ≡ none → getD ws i 0 ≤ m
-    go true true e h = leb→le (getD ws i 0) m (subst T (sym e) tt)
-    go true false e h = let z : _≡_ {A = ℕ} 0 1 = cc in absurd (omega arith)
-    go false y e h = let z : _≡_ {A = ℕ} 0 1 = cc in absurd (omega arith)
+word-most m ws i h = leb→le (getD ws i 0) m (word-sound (λ w. leb w m) ws i h)
 
 option-told : (a : Code) (ws : List ℕ) (i : ℕ) → Told (read a (suc i) (drop (suc i) ws)) (bad-at a ws (suc i)) (value-at a ws (suc i)) ws (suc i + size a) → (w : ℕ)
     → Told (read-option (size a) (read a) w (suc i) (drop (suc i) ws)) (cond (eqb w 0) (zeros-bad (size a) ws (suc i)) (bad-at a ws (suc i))) (cond (eqb w 0) none (some (value-at a ws (suc i)))) ws (i + suc (size a))

@@ -155,6 +155,26 @@ WrittenIsThere = (c : Code) → Placed c → (v : El c) → In c v → (ws : Lis
 abbrev pub SoundIsWritten : Type 0
 SoundIsWritten = (c : Code) → Placed c → (ws : List ℕ) (i : ℕ) → Words (drop i ws) → bad-at c ws i ≡ none → drop i ws ≡ write c (value-at c ws i) ++ drop (i + span c ws i) ws
 
+-- the codes whose tables have entries of some words, so that a length tells how many
+abbrev pub Sized : Code → Type 0
+Sized (word p) = Unit {0}
+Sized (single p) = Unit {0}
+Sized (double p) = Unit {0}
+Sized (id p) = Unit {0}
+Sized (both a b) = Sized a × Sized b
+Sized (array n a) = Sized a
+Sized (maybe a) = Sized a
+Sized (group n a) = Sized a
+Sized (table n m a) = T (ltb 0 (size a)) × Sized a
+Sized (blank n) = Unit {0}
+Sized (choice n f) = (k : ℕ) → Sized (f k)
+Sized (keyed m p a) = Sized a
+Sized (ranked n m p a) = Sized a
+
+-- what was read is in range: "15 at the first word outside its field's range .."
+abbrev pub SoundIsIn : Type 0
+SoundIsIn = (c : Code) → Sized c → (ws : List ℕ) (i : ℕ) → bad-at c ws i ≡ none → In c (value-at c ws i)
+
 -- the ids of a list pass their tests
 abbrev pub Tested : {A : Type 0} → (List ℕ → ℕ → Bool) → List ℕ → List (ℕ × A) → Type 0
 Tested p seen [] = Unit {0}
