@@ -1,18 +1,21 @@
--- The touches: what stands for them gives them back, every value stands for some, and ids that ascend pass their tests. Assumes nothing.
-use Prim.Native.Nat.{ℕ, _<_}
-use mathlib.Core.Path.{_≡_, refl, ap₂}
+-- The touches: what stands for them gives them back, every value stands for some, and ids ascend exactly if they pass their tests. Assumes nothing.
+use Prim.Native.Nat.{ℕ, _≤_, _<_}
+use mathlib.Core.Path.{_≡_, refl, sym, ap₂, subst}
 use mathlib.Core.Option.{Option, none, some}
 use mathlib.Core.List.{List, [], _∷_, map}
-use lib.Dec.{lt→ltb, ltb→lt}
+use lib.Dec.{T, leb, lt→ltb, ltb→lt, leb→le}
+use lib.ListN.{length, length-map}
 use lib.Ieee.{Float}
+use Rattle.data.specs.Limits.{max-touches}
 use Rattle.data.specs.declared.touch.ActiveTouch.{ActiveTouch}
 use Rattle.data.specs.declared.touch.MaybeF32.{MaybeF32}
 use Rattle.data.specs.declared.touch.MaybeF32.the-variants.{None as no-force, Some as some-force}
-use Rattle.model.specs.Touch.{Above, Ascending}
+use Rattle.model.specs.Touch.{Above, Ascending, touch-id-of}
 use Rattle.model.proofs.Ids.{above-down}
-use Rattle.image.specs.Codes.{El}
+use Rattle.image.specs.Codes.{El, In}
 use Rattle.image.specs.Places.{Tested}
-use Rattle.image_touches.specs.Touches.{ascending, touch-code, force-el, force-of, touch-el, touch-of, touches-el, touches-of}
+use Rattle.image.proofs.Lists.{keyed-tested}
+use Rattle.image_touches.specs.Touches.{ascending, touch-code, touches-code, force-el, force-of, touch-el, touch-of, touches-el, touches-of}
 
 force-back : (o : MaybeF32) → force-of (force-el o) ≡ o
 unfolding force-of force-el
@@ -63,3 +66,16 @@ module _ {A B : Type 0} (f : A → ℕ × B) where
   pub tested-ascending : (xs : List A) → Tested ascending [] (map f xs) → Ascending key xs
   tested-ascending [] t = tt
   tested-ascending (x ∷ xs) t = let r = risen (key x) [] xs (t .1) in (r .0, r .1)
+
+-- ---- of a value in range
+pub most : {A B : Type 0} (f : A → B) (xs : List A) (m : ℕ) → T (leb (length xs) m) → length (map f xs) ≤ m
+most f xs m h = subst (λ (n : ℕ). n ≤ m) (sym (length-map xs f)) (leb→le (length xs) m h)
+
+module _ (vs : List (ℕ × El touch-code)) (h : In (touches-code max-touches) vs) where
+  pub touches-ascend : Ascending touch-id-of (touches-of vs)
+  unfolding touches-el touches-of
+  touches-ascend = tested-ascending touch-el (touches-of vs) (subst (Tested ascending []) (sym (touches-forth vs)) (keyed-tested ascending (In touch-code) [] vs (h .1)))
+
+  pub touches-most : length (touches-of vs) ≤ max-touches
+  unfolding touches-of
+  touches-most = most touch-of vs max-touches (h .0)
