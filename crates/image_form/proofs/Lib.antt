@@ -1,0 +1,3 @@
+-- Form 1's laws.
+pub mod Trip
+pub mod Whole
