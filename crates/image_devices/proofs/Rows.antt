@@ -92,6 +92,12 @@ put-all l at n c a e t =
     let f : at + 1 ≡ suc at = omega arith in
     rw (m, t, f)
 
+-- how many words it takes
+pub group-length : (n c : ℕ) (a : List Device) → take n a ≡ take c a
+    → suc (length (written a n)) ≡ length (write (devices-code max-devices max-touches) (devices-el (map device-view (take c a))))
+unfolding write
+group-length n c a t = ap (λ (z : List Device). suc (length (all entry (devices-el (map device-view z))))) t
+
 pub count-le : (n c : ℕ) (a : List Device) → length a ≡ 4 → n ≡ length (take c a) → n ≤ 4
 count-le n c a l e = omega (arith, length-take c a)
 

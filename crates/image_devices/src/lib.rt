@@ -77,6 +77,36 @@ fn rows_put(places: [Device; MAX_DEVICES], n: usize, out: &mut [u32], at: usize)
     }
 }
 
+// How many words a device takes.
+fn device_words(d: Device) -> usize
+    ensures { λ r. ⌜ (r ≡ 86) × (r ≡ length (entry-words (write (device-code max-touches)) (device-el (device-view d)))) ⌝ }
+{
+    DEVICE_WORDS
+}
+
+fn rows_words(places: [Device; MAX_DEVICES], n: usize) -> usize
+    requires { ⌜ n ≤ max-devices ⌝ }
+    ensures { λ r. ⌜ (r ≡ n * 86) × (r ≡ length (all (entry-words (write (device-code max-touches))) (devices-el (map device-view (take n places))))) ⌝ }
+{
+    let mut words: usize = 0;
+    let mut i: usize = 0;
+    while i < n {
+        let d = places[i];
+        words += device_words(d);
+        i += 1;
+    }
+    words
+}
+
+// How many words the group takes.
+pub fn devices_words(ds: Devices) -> usize
+    ensures { λ r. ⌜ (r ≡ 1 + length (known ds) * 86) × (r ≡ length (write (devices-code max-devices max-touches) (devices-el (view ds)))) ⌝ }
+{
+    let n = touch_state::devices::len(ds);
+    let places = ds.places;
+    1 + rows_words(places, n)
+}
+
 pub fn devices_put(ds: Devices, out: &mut [u32], at: usize)
     requires { ⌜ at + (1 + length (known ds) * 86) ≤ length (now out) ⌝ }
     ensures { λ r. ⌜ (now (out .exit) ≡ sets (now (out .entry)) at (write (devices-code max-devices max-touches) (devices-el (view ds))))
