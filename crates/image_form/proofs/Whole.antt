@@ -87,6 +87,11 @@ panel-in d (taken p) = p
 panel-in d no-image = d
 panel-in d (wrong i) = d
 
+-- one answer gives one panel
+pub same-panel : (p q : Panel) → taken p ≡ taken q → p ≡ q
+unfolding panel-in
+same-panel p q h = ap (panel-in p) h
+
 none-taken : {A : Type 0} (p : Panel) → no-image ≡ taken p → A
 none-taken p h = let z : _≡_ {A = ℕ} 0 1 = cc in absurd (omega arith)
 
@@ -94,7 +99,7 @@ wrong-taken : {A : Type 0} (i : ℕ) (p : Panel) → wrong i ≡ taken p → A
 wrong-taken i p h = let z : _≡_ {A = ℕ} 0 1 = cc in absurd (omega arith)
 
 pub image-taken : (ws : List ℕ) (p : Panel) → read-image ws ≡ taken p → Taken ws p
-unfolding answer panel-in
+unfolding answer
 image-taken ws p h = go (eqb first-word (getD ws 0 0)) (image-bad ws) refl refl (sym (reads-image ws) ∙ h)
   where
     v : El panel-code
@@ -103,7 +108,7 @@ image-taken ws p h = go (eqb first-word (getD ws 0 0)) (image-bad ws) refl refl 
     go : (b : Bool) (o : Option ℕ) → eqb first-word (getD ws 0 0) ≡ b → image-bad ws ≡ o → cond b (answer o v) no-image ≡ taken p → Taken ws p
     go false o e f g = none-taken p g
     go true (some i) e f g = wrong-taken i p g
-    go true none e f g = record { first = eqb-true first-word (getD ws 0 0) e; sound = f; is = sym (ap (panel-in p) g) }
+    go true none e f g = record { first = eqb-true first-word (getD ws 0 0) e; sound = f; is = sym (same-panel _ p g) }
 
 -- nothing is wrong with the groups, and nothing is behind them
 groups-sound : (ws : List ℕ) → image-bad ws ≡ none → bad-at panel-code ws groups-place ≡ none
