@@ -18,7 +18,6 @@ use Rattle.theorems.proofs.Reach.{reach}
 use Rattle.theorems.proofs.Balance.{balance}
 use Rattle.theorems.proofs.Clearing.{clearing}
 use Rattle.survey.specs.Survey.{option}
-use Rattle.survey.proofs.Formed.{none-in-order}
 use Rattle.touch_state.specs.declared.devices.Devices.{Devices}
 use Rattle.touch_state.specs.View.{view}
 use Rattle.interaction_state.specs.declared.state.Interacted.{Interacted}
@@ -31,10 +30,20 @@ use Rattle.input_state.specs.View.{Lent}
 use Rattle.input_pass.specs.Begun.{outcome}
 use Rattle.input_state.specs.View as Shown
 use Rattle.input_pass.specs.Begun as Contract
+use Rattle.panel.specs.View.{shown-by}
 use Rattle.panel.specs.Steps.{ShowsInput}
 use Rattle.panel.proofs.Lookup.{looked-up}
-use Rattle.histories.specs.History.{Running, shows, Starts, Passes, passed-on, pass-answer, Given, interact-input, InteractsAs, interacted-on, interact-answer, History, rests, then-pass, then-interact}
-use Rattle.histories.specs.History.{WidgetsAreTheModels, IsRun, EveryHistoryIsRun, HistoriesReach, Balanced, HistoriesBalance, Life, AnswerAlike, HistoriesClear}
+use Rattle.image_ranges.specs.Ranges.{Ranged}
+use Rattle.image_ranges.proofs.Ranges.{runs-stay-in-range, every-run-is-in-range}
+use Rattle.image_form.specs.Form.{taken, read-image, Parkable}
+use Rattle.image_form.proofs.Whole.{same-panel}
+use Rattle.parking.specs.declared.check.ImageRefusal.{ImageRefusal}
+use Rattle.parking.specs.declared.check.ImageRefusal.the-variants.{None, FirstWord, Word}
+use Rattle.parking.specs.declared.restore.Restored.{Restored}
+use Rattle.parking.specs.Restored.{RestoredAs}
+use Rattle.histories.specs.History.{Running, shows, Starts, Passes, passed-on, pass-answer, Given, interact-input, InteractsAs, interacted-on, interact-answer, Parks, Restores, restored-on}
+use Rattle.histories.specs.History.{History, rests, then-pass, then-interact, then-parked, then-refused, WidgetsAreTheModels, IsRun, EveryHistoryIsRun, HistoriesReach, EveryRunIsParkable, HistoriesReadBack}
+use Rattle.histories.specs.History.{Balanced, HistoriesBalance, Life, AnswerAlike, HistoriesClear}
 
 -- ---- one call of the code is the model's call
 record Stepped (x : Running) (c : Call) (a : Outcome) (y : Running) : Type 0 where
@@ -99,6 +108,25 @@ interact-step x g (Taken a) hovered contains o h =
 pub widgets-are-the-models : WidgetsAreTheModels
 widgets-are-the-models g wf = sym (looked-up (g .set) (g .words) (g .numbers) (g .edges) wf)
 
+-- ---- a panel that is restored shows what the parked one showed
+reads-back : (x : Running) (words : List ℕ) → Parkable (shows x) → Parks x words → read-image words ≡ taken (shows x)
+reads-back x words o p = ap read-image (p .written) ∙ p .ensured .3 o
+
+restored-shows : (x other : Running) (words : List ℕ) (r : Restored) (l : Lent) → Parkable (shows x) → Parks x words → Restores other words r l → r .refusal ≡ None
+    → shows (restored-on r l) ≡ shows x
+restored-shows x other words r l o p h e =
+    let t = subst (λ (q : ImageRefusal). RestoredAs words (other .panel) (other .lent) r l q) e h in
+    same-panel (shows (restored-on r l)) (shows x) (sym (t .answered) ∙ reads-back x words o p)
+
+-- refused, it shows what it showed
+refused-shows : (x : Running) (words : List ℕ) (r : Restored) (l : Lent) → Restores x words r l → (r .refusal ≡ None → ⊥) → shows (restored-on r l) ≡ shows x
+refused-shows x words r l h n = go (r .refusal) refl h
+  where
+    go : (q : ImageRefusal) → r .refusal ≡ q → RestoredAs words (x .panel) (x .lent) r l q → shows (restored-on r l) ≡ shows x
+    go None e k = absurd (n e)
+    go FirstWord e k = ap₂ shown-by (k .lent) (k .panel)
+    go (Word i) e k = ap₂ shown-by (k .lent) (k .panel)
+
 -- ---- a whole history
 joins : (p p' q : Panel) (c : Call) (a : Outcome) (calls : List Call) (answers : List Outcome) → a ≡ call p c → p' ≡ after p a → answers ≡ outcomes p' calls → q ≡ run p' calls
     → (a ∷ answers ≡ outcomes p (c ∷ calls)) × (q ≡ run p (c ∷ calls))
@@ -108,34 +136,60 @@ joins p p' q c a calls answers e f g h = (ap₂ (λ (b : Outcome) (l : List Outc
     on : p' ≡ after p (call p c)
     on = f ∙ ap (after p) e
 
+-- a call leaves a panel that can be parked
+stepped-parkable : (x y : Running) (c : Call) (a : Outcome) → Parkable (shows x) → Stepped x c a y → Parkable (shows y)
+unfolding run
+stepped-parkable x y c a o s =
+    let e : shows y ≡ after (shows x) (call (shows x) c) = s .panel ∙ ap (after (shows x)) (s .answer) in
+    record { in-range = subst Ranged (sym e) (runs-stay-in-range (shows x) (o .in-range) (c ∷ [])); in-order = s .in-order }
+
 record Followed (x : Running) (calls : List Call) (answers : List Outcome) (y : Running) : Type 0 where
   is-run : IsRun x calls answers y
-  in-order : InOrder (view (y .panel .devices))
+  parkable : Parkable (shows y)
 
 extended : {x y z : Running} {c : Call} {a : Outcome} {calls : List Call} {answers : List Outcome} → Stepped x c a y → Followed y calls answers z → Followed x (c ∷ calls) (a ∷ answers) z
 extended {x} {y} {z} {c} {a} {calls} {answers} s f =
-    record { is-run = record { answers-are = both .0; panel-is = both .1 }; in-order = f .in-order }
+    record { is-run = record { answers-are = both .0; panel-is = both .1 }; parkable = f .parkable }
   where
     both : (a ∷ answers ≡ outcomes (shows x) (c ∷ calls)) × (shows z ≡ run (shows x) (c ∷ calls))
     both = joins (shows x) (shows y) (shows z) c a calls answers (s .answer) (s .panel) (f .is-run .answers-are) (f .is-run .panel-is)
 
-follows : {x y : Running} {calls : List Call} {answers : List Outcome} → InOrder (view (x .panel .devices)) → History x calls answers y → Followed x calls answers y
+-- a panel that shows the same goes on the same
+shown-again : {x y z : Running} {calls : List Call} {answers : List Outcome} → shows y ≡ shows x → Followed y calls answers z → Followed x calls answers z
+shown-again {x} {y} {z} {calls} {answers} e f =
+    record {
+      is-run = record { answers-are = f .is-run .answers-are ∙ ap (λ (p : Panel). outcomes p calls) e; panel-is = f .is-run .panel-is ∙ ap (λ (p : Panel). run p calls) e };
+      parkable = f .parkable;
+    }
+
+follows : {x y : Running} {calls : List Call} {answers : List Outcome} → Parkable (shows x) → History x calls answers y → Followed x calls answers y
 unfolding run outcomes
-follows o rests = record { is-run = record { answers-are = refl; panel-is = refl }; in-order = o }
-follows {x} o (then-pass given feed r l h rest) = let s = pass-step x given feed r l o h in extended s (follows (s .in-order) rest)
-follows {x} o (then-interact g r hovered contains h rest) = let s = interact-step x g r hovered contains o h in extended s (follows (s .in-order) rest)
+follows o rests = record { is-run = record { answers-are = refl; panel-is = refl }; parkable = o }
+follows {x} o (then-pass given feed r l h rest) =
+    let s = pass-step x given feed r l (o .in-order) h in
+    extended s (follows (stepped-parkable x _ _ _ o s) rest)
+follows {x} o (then-interact g r hovered contains h rest) =
+    let s = interact-step x g r hovered contains (o .in-order) h in
+    extended s (follows (stepped-parkable x _ _ _ o s) rest)
+follows {x} o (then-parked words other r l p h e rest) =
+    let s = restored-shows x other words r l o p h e in
+    shown-again s (follows (subst Parkable (sym s) o) rest)
+follows {x} o (then-refused words r l h n rest) = let s = refused-shows x words r l h n in shown-again s (follows (subst Parkable (sym s) o) rest)
+
+pub every-run-is-parkable : EveryRunIsParkable
+every-run-is-parkable calls = record { in-range = every-run-is-in-range calls; in-order = reach calls .devices }
 
 module _ (x : Running) (start : Starts x) where
   shows-fresh : shows x ≡ fresh
   shows-fresh = start .shows-fresh (x .lent) refl
 
-  starts-in-order : InOrder (view (x .panel .devices))
-  unfolding fresh
-  starts-in-order = subst InOrder (sym (ap (λ (p : Panel). p .touch-states) shows-fresh)) none-in-order
+  starts-parkable : Parkable (shows x)
+  unfolding run
+  starts-parkable = subst Parkable (sym shows-fresh) (every-run-is-parkable [])
 
   module _ (y : Running) (calls : List Call) (answers : List Outcome) (h : History x calls answers y) where
     followed : Followed x calls answers y
-    followed = follows starts-in-order h
+    followed = follows starts-parkable h
 
     answers-from-fresh : answers ≡ outcomes fresh calls
     answers-from-fresh = followed .is-run .answers-are ∙ ap (λ (p : Panel). outcomes p calls) shows-fresh
@@ -148,6 +202,9 @@ every-history-is-run x y calls answers start h = followed x start y calls answer
 
 pub histories-reach : HistoriesReach
 histories-reach x y calls answers start h = subst (λ (p : Panel). Reached p) (sym (run-from-fresh x start y calls answers h)) (reach calls)
+
+pub histories-read-back : HistoriesReadBack
+histories-read-back x y calls answers start h words p = reads-back y words (followed x start y calls answers h .parkable) p
 
 pub histories-balance : HistoriesBalance
 unfolding interaction-of
@@ -193,7 +250,7 @@ module _ (past : List Call) (c : PassInput) (x : InteractInput) (later : List Ca
   past-run = run-from-fresh (one .start) (one .starts) b past (one .past-answers) (one .past-history)
 
   to-clear : Followed b (passes c ∷ interacts x ∷ []) (passed (one .cleared-panel) ∷ answered (one .snapshot) (one .panel) ∷ []) (one .cleared)
-  to-clear = follows (followed (one .start) (one .starts) b past (one .past-answers) (one .past-history) .in-order) (one .clearing-history)
+  to-clear = follows (followed (one .start) (one .starts) b past (one .past-answers) (one .past-history) .parkable) (one .clearing-history)
 
   takes : Takes past c x (shows (one .cleared))
   takes =
@@ -208,7 +265,7 @@ module _ (past : List Call) (c : PassInput) (x : InteractInput) (later : List Ca
       taken = both-taken (shows b) (one .cleared-panel) (one .panel) (shows (one .cleared)) (one .snapshot) c x (to-clear .is-run .answers-are) (to-clear .is-run .panel-is)
 
   later-answers : one .answers ≡ outcomes (shows (one .cleared)) later
-  later-answers = follows (to-clear .in-order) (one .later-history) .is-run .answers-are
+  later-answers = follows (to-clear .parkable) (one .later-history) .is-run .answers-are
 
 answer-alike : (came : Bool) (since : Since) (p q : Panel) (later : List Call) → Alike came since p q later → AnswerAlike came since p q (outcomes p later) (outcomes q later)
 unfolding outcomes

@@ -1,11 +1,12 @@
--- Histories of the code: what its passes and interacts answer, call after call. By their contracts alone every history is the model's, and demand 3 holds of it.
+-- Histories of the code: what its passes and interacts answer, call after call, with parkings anywhere between. By their contracts alone every history is the model's,
+-- and demand 3 holds of it.
 use Prim.Native.Nat.{ℕ, _+_, _≤_}
 use mathlib.Core.Path.{_≡_}
 use mathlib.Core.Bool.{Bool, false, _||_}
 use mathlib.Core.Option.{none}
 use mathlib.Core.List.{List, [], _∷_}
 use lib.Ieee.{Float}
-use lib.ListN.{length}
+use lib.ListN.{length, take}
 use Rattle.data.specs.Limits.{max-tally}
 use Rattle.model.specs.Pass as Model
 use Rattle.model.specs.Interact.{InteractInput, InteractionSnapshot}
@@ -32,6 +33,12 @@ use Rattle.input_pass.specs.Begun as Contract
 use Rattle.panel.specs.declared.state.Panel.{Panel}
 use Rattle.panel.specs.View.{shown-by, Fresh, after-pass, after-interact}
 use Rattle.panel.specs.Steps.{Interacts, widgets-of}
+use Rattle.image_form.specs.Form.{taken, read-image, Parkable}
+use Rattle.parking.specs.declared.check.ImageRefusal.the-variants.{None}
+use Rattle.parking.specs.declared.park.Parked.the-variants.{Words}
+use Rattle.parking.specs.declared.restore.Restored.{Restored}
+use Rattle.parking.specs.Parked.{ParkedAs}
+use Rattle.parking.specs.Restored.{RestoredAs}
 
 -- ---- a panel that runs: its records, and what the lent arrays hold
 pub record Running : Type 0 where
@@ -93,6 +100,22 @@ abbrev pub interact-answer : Running → Interacted → List ℕ → List ℕ �
 interact-answer x (Refused why) hovered contains = refused-interact why
 interact-answer x (Taken a) hovered contains = answered (snapshot-of (a .snapshot) hovered contains) (shows (interacted-on x (Taken a)))
 
+-- ---- one parking: the words that parking's `park` wrote of panel x into a buffer that was long enough
+pub record Parks (x : Running) (words : List ℕ) : Type 0 where
+  pub before : List ℕ
+  pub buffer : List ℕ
+  pub count : ℕ
+  pub ensured : ParkedAs (shows x) before buffer (Words count)
+  pub written : words ≡ take count buffer
+
+-- ---- one restoring: given these words, `restore` of panel x returned r and left the arrays so
+abbrev pub Restores : Running → List ℕ → Restored → Lent → Type 0
+Restores x words r l = RestoredAs words (x .panel) (x .lent) r l (r .refusal)
+
+-- then the panel is the one that it returned
+abbrev pub restored-on : Restored → Lent → Running
+restored-on r l = record { panel = r .panel; lent = l }
+
 -- ---- a history: panel x gets the calls, gives the answers and is then y
 pub data History : Running → List Call → List Outcome → Running → Type 0 where
   rests : {x : Running} → History x [] [] x
@@ -102,6 +125,13 @@ pub data History : Running → List Call → List Outcome → Running → Type 0
   then-interact : {x y : Running} {calls : List Call} {answers : List Outcome} (g : Given) (r : Interacted) (hovered contains : List ℕ)
       → InteractsAs x g r hovered contains → History (interacted-on x r) calls answers y
       → History x (interacts (interact-input g) ∷ calls) (interact-answer x r hovered contains ∷ answers) y
+  -- 02 A.6: "A panel restored from an image that parking wrote has the past of the parked one". Neither is a call; the panel that is restored, on this
+  -- board or on another, may be any
+  then-parked : {x y : Running} {calls : List Call} {answers : List Outcome} (words : List ℕ) (other : Running) (r : Restored) (l : Lent)
+      → Parks x words → Restores other words r l → r .refusal ≡ None → History (restored-on r l) calls answers y → History x calls answers y
+  -- a refused restoring, of any words
+  then-refused : {x y : Running} {calls : List Call} {answers : List Outcome} (words : List ℕ) (r : Restored) (l : Lent)
+      → Restores x words r l → (r .refusal ≡ None → ⊥) → History (restored-on r l) calls answers y → History x calls answers y
 
 -- ---- every history is the model's
 pub record IsRun (x : Running) (calls : List Call) (answers : List Outcome) (y : Running) : Type 0 where
@@ -114,6 +144,16 @@ EveryHistoryIsRun = (x y : Running) (calls : List Call) (answers : List Outcome)
 -- so a running panel has what every panel reached has: theorems' `Reached`
 abbrev pub HistoriesReach : Type 0
 HistoriesReach = (x y : Running) (calls : List Call) (answers : List Outcome) → Starts x → History x calls answers y → Reached (shows y)
+
+-- 02 A.6: what the operations gave is within an image's ranges
+abbrev pub EveryRunIsParkable : Type 0
+EveryRunIsParkable = (calls : List Call) → Parkable (run Model.fresh calls)
+
+-- "Reading back what was written of a panel that the operations gave yields that state"
+abbrev pub HistoriesReadBack : Type 0
+HistoriesReadBack =
+    (x y : Running) (calls : List Call) (answers : List Outcome) → Starts x → History x calls answers y
+    → (words : List ℕ) → Parks y words → read-image words ≡ taken (shows y)
 
 -- ---- demand 3, first half, of what the code answers and keeps
 pub record Balanced (answers : List Outcome) (y : Running) (widget : ℕ) : Type 0 where
