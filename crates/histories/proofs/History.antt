@@ -9,8 +9,8 @@ use Rattle.data.specs.Limits.{max-tally}
 use Rattle.model.specs.Types.{PassRefusal}
 use Rattle.model.specs.Touch.{InOrder}
 use Rattle.model.specs.Pass.{Panel, PassInput, fresh}
-use Rattle.model.specs.Interact.{InteractInput, InteractionSnapshot, interact, with-interaction}
-use Rattle.model.specs.Calls.{Call, passes, interacts, Outcome, refused-interact, passed, answered, of-pass, of-interact, call, after, run, outcomes}
+use Rattle.model.specs.Interact.{InteractInput, InteractionSnapshot, with-interaction}
+use Rattle.model.specs.Calls.{Call, passes, interacts, Outcome, passed, answered, of-pass, of-interact, call, after, run, outcomes}
 use Rattle.theorems.specs.Balance as Model
 use Rattle.theorems.specs.Clearing.{Clears, Takes, Fair, Since, nothing-since, Alike, twice}
 use Rattle.theorems.specs.Reach.{Reached}
@@ -22,7 +22,7 @@ use Rattle.touch_state.specs.declared.devices.Devices.{Devices}
 use Rattle.touch_state.specs.View.{view}
 use Rattle.interaction_state.specs.declared.state.Interacted.{Interacted}
 use Rattle.interaction_state.specs.declared.state.Interacted.the-variants.{Refused, Taken}
-use Rattle.interaction_state.specs.View.{interaction-of, snapshot-of}
+use Rattle.interaction_state.specs.View.{interaction-of}
 use Rattle.input_pass.specs.declared.begin.Begun.{Begun}
 use Rattle.input_state.specs.declared.input.PassInput as Declared
 use Rattle.input_state.specs.declared.state.InputState.{InputState}

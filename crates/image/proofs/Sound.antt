@@ -10,8 +10,8 @@ use lib.ListN.{length, getD}
 use lib.Ieee.{Float, binary32, binary64, ofBits, toBits, fits}
 use lib.Ieee.Fits.{and-r}
 use lib.Ieee.Bits.{ofBits-fits}
-use Rattle.image.specs.Codes.{Code, word, single, double, id, both, array, maybe, group, table, blank, choice, keyed, ranked, size, header, single-ok, double-ok, count-of, table-ok, In, Each, Keyed}
-use Rattle.image.specs.Places.{word-bad, two-at, two-bad, zeros-bad, rows-bad, rows-at, keys-bad, key-at, bad-at, value-at, Sized, SoundIsIn}
+use Rattle.image.specs.Codes.{word, single, double, id, both, array, maybe, group, table, blank, choice, keyed, ranked, size, header, single-ok, double-ok, count-of, table-ok, In, Each, Keyed}
+use Rattle.image.specs.Places.{word-bad, two-at, two-bad, zeros-bad, rows-bad, rows-at, keys-bad, key-at, bad-at, value-at, SoundIsIn}
 use Rattle.image.proofs.Lists.{or-else-none, rows-length}
 
 -- ---- a test that nothing is wrong with was passed

@@ -5,14 +5,14 @@ use mathlib.Core.List.{List, [], _∷_, map}
 use lib.Dec.{T, leb, le→leb}
 use lib.ListN.{length, length-map}
 use Rattle.data.specs.Limits.{max-devices, max-touches}
-use Rattle.model.specs.Touch.{TouchState, TouchesWithin, AllTouchesWithin, InOrder}
+use Rattle.model.specs.Touch.{TouchState, AllTouchesWithin, InOrder}
 use Rattle.image.specs.Codes.{In, Each}
 use Rattle.image.specs.Places.{Tested}
 use Rattle.image.proofs.Lists.{keyed-of, keyed-tested, keyed-each}
 use Rattle.image_touches.specs.Touches.{ascending, touch-el, touches-el}
 use Rattle.image_touches.proofs.Walk.{in-touches}
 use Rattle.image_touches.proofs.Trip.{touches-back, touches-forth, ascending-tested, tested-ascending, most, touches-ascend, touches-most}
-use Rattle.image_gesture.specs.Gesture.{gesture-code, gesture-el, gesture-of}
+use Rattle.image_gesture.specs.Gesture.{gesture-code}
 use Rattle.image_gesture.proofs.Back.{gesture-back, gesture-forth}
 use Rattle.image_devices.specs.Devices.{device-code, devices-code, DeviceEl, device-el, device-of, devices-el, devices-of, DeviceIn}
 

@@ -1,11 +1,9 @@
 -- A panel that was taken can be parked in turn: its numbers are in the fields' ranges, its devices in order. Assumes nothing.
-use mathlib.Core.Path.{_≡_, sym, subst}
-use mathlib.Core.List.{List}
+use mathlib.Core.Path.{sym, subst}
 use mathlib.Core.Bool.{_&&_}
-use lib.Ieee.Fits.{and-i}
 use lib.Dec.{T}
+use lib.Ieee.Fits.{and-i}
 use Rattle.data.specs.Limits.{coordinate-ok, length-ok, unit-interval-ok, duration-ok, pos-ok, rect-ok, options-ok}
-use Rattle.model.specs.Pass.{Panel}
 use Rattle.image.specs.Codes.{El, In}
 use Rattle.image.specs.Places.{value-at}
 use Rattle.image_screen.specs.Screen.{rect-code, rect-of, options-code, options-of}

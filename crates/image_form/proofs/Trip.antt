@@ -1,10 +1,5 @@
 -- A panel from the value that stands for it, and every value in range stands for a panel. Assumes nothing.
-use mathlib.Core.Path.{_≡_, refl, ap, ap₂, _∙_}
-use mathlib.Core.List.{List}
-use Rattle.data.specs.Limits.{max-events, max-devices, max-touches}
-use Rattle.emath.specs.History.{Sample}
-use Rattle.model.specs.Types.{PointerEvent}
-use Rattle.model.specs.Touch.{InOrder}
+use mathlib.Core.Path.{_≡_, ap, _∙_}
 use Rattle.model.specs.Pass.{Panel}
 use Rattle.image.specs.Codes.{El, In}
 use Rattle.image_clock.proofs.Trip.{clock-back, clock-forth}
@@ -20,7 +15,6 @@ use Rattle.image_history.specs.History.{history-of}
 use Rattle.image_history.proofs.Fill.{history-back, history-of-el}
 use Rattle.image_events.specs.Events.{events-of-el}
 use Rattle.image_events.proofs.Back.{events-back, events-forth}
-use Rattle.image_devices.specs.Devices.{devices-of}
 use Rattle.image_devices.proofs.Back.{devices-back, devices-forth}
 use Rattle.image_form.specs.Form.{panel-code, fixed-el, el, panel-of}
 

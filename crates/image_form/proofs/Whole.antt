@@ -1,7 +1,7 @@
 -- A whole image: reading it is asking by places; reading gives what writing wrote, and takes only that. Assumes nothing.
 use Prim.Native.Nat.{ℕ, zero, suc, _+_, _≤_, _<_}
 use native.Mathlib.Omega.{arith}
-use mathlib.Core.Path.{_≡_, refl, sym, ap, ap₂, _∙_, subst}
+use mathlib.Core.Path.{_≡_, refl, sym, ap, ap₂, _∙_}
 use mathlib.Core.Bool.{Bool, true, false, cond}
 use mathlib.Core.Option.{Option, none, some}
 use mathlib.Core.List.{List, [], _∷_, _++_, append-nil}
@@ -9,7 +9,7 @@ use lib.Dec.{eqb, ltb}
 use lib.ListN.{length, getD, drop, length-drop, drop-of-length-le}
 use borrow.Author.Tests.{lt-ltb, le-ltb, ltb-false, eqb-true}
 use Rattle.model.specs.Pass.{Panel}
-use Rattle.image.specs.Codes.{size, Read, bad, good, read, write, El, In, Words}
+use Rattle.image.specs.Codes.{size, Read, bad, good, read, write, El, In}
 use Rattle.image.specs.Places.{or-else, bad-at, value-at, span, Placed, Fixed, Sized, Told}
 use Rattle.image.proofs.RoundTrip.{reads-back}
 use Rattle.image.proofs.Placed.{reads-by-places, sound-is-written}
