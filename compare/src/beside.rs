@@ -1,5 +1,6 @@
 //! A program's answers beside egui's, record by record: which is wrong, by the name of its field.
 use crate::naming;
+use crate::parking;
 use crate::words::{self, Stream, call_name};
 
 #[derive(Default)]
@@ -28,8 +29,9 @@ impl Beside {
             self.last = words::record(call, w);
         }
         self.known(call, want[0] >> 24 == 0);
+        let foreign = self.stream.foreign.is_some() && !matches!(call, words::PARK | words::RESTORE | words::RESTORE_LAST);
         let of_panel = !matches!(call, words::KERNEL | words::EXP | words::BOX);
-        let wrong = if self.unknown && of_panel {
+        let wrong = if (self.unknown || foreign) && of_panel {
             self.skipped += 1;
             None
         } else if words::judge(level, call, w, &want, got) {
@@ -37,7 +39,7 @@ impl Beside {
         } else {
             Some(format!("({}): {}", call_name(call), naming::first_difference(&self.stream.panel, call, &want, got)))
         };
-        self.unknown |= call == words::RESTORE && words::exists(call, level) && got == [0];
+        self.unknown |= call == words::RESTORE && words::exists(call, level) && !parking::is_form_1(level) && got == [0];
         wrong
     }
 

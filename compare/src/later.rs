@@ -2,6 +2,7 @@
 //! on the same words are what the comparison meets first.
 use crate::aimed::nudge;
 use crate::maker::{Maker, any_float};
+use crate::parking::is_form_1;
 use crate::words::*;
 
 const CALLS_OF_02: [u32; 16] =
@@ -18,8 +19,10 @@ impl Maker {
                 let w = self.later_words(call);
                 self.call(call, &w);
             }
-            // a foreign image that a program takes leaves a panel that egui doesn't know
-            if call == RESTORE && exists(call, self.s.stream.panel.level) {
+            self.leave_foreign();
+            // from A.8 on: a foreign image that a program takes leaves a panel that egui doesn't know
+            let level = self.s.stream.panel.level;
+            if call == RESTORE && exists(call, level) && !is_form_1(level) {
                 self.call(RESET, &[]);
             }
         }
@@ -30,7 +33,9 @@ impl Maker {
             SET_TALLY => vec![10 + self.rng().below(5) as u32, 0, self.rng().pick(&[0, 1, 5, u32::MAX - 1, u32::MAX])],
             KERNEL => self.kernel_words(),
             EXP => vec![self.exponent().to_bits(); self.rng().pick(&[1, 1, 1, 1, 1, 1, 1, 1, 1, 1, 0, 2])],
+            PARK if is_form_1(self.s.stream.panel.level) => vec![self.park_places(); self.rng().pick(&[1, 1, 1, 1, 0, 2])],
             PARK => vec![self.rng().pick(&[0, ENOUGH_PLACES, ENOUGH_PLACES])],
+            RESTORE_LAST => vec![0; self.rng().pick(&[0, 0, 0, 1])],
             RESTORE => self.image(),
             SURVEY => self.odd_feed(),
             SHORTEN => {

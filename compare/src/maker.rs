@@ -95,6 +95,7 @@ impl Maker {
         if dump != 0 && self.rng().once_in(if long { 20 * dump } else { dump }) {
             self.record(DUMP, &[]);
         }
+        self.some_parking();
         at
     }
 

@@ -4,7 +4,7 @@ use crate::kernel::Kernel;
 use crate::kernel_met;
 use crate::panel::Panel;
 use crate::words::CALLS;
-use crate::{LEVEL, Pos2, Vec2, domain, words};
+use crate::{LEVEL, Pos2, Vec2, domain, parking, words};
 use std::collections::BTreeMap;
 
 const KINDS: [&str; 16] = [
@@ -64,7 +64,7 @@ const AIMS: [&str; 38] = [
 ];
 
 /// The same of the requests of 02, each from its level on.
-const LATER_AIMS: [(&str, u32); 11] = [
+const LATER_AIMS: [(&str, u32); 43] = [
     ("rested: none", 4),
     ("rested: 0 by a move", 4),
     ("rested: 0 by a velocity alone", 4),
@@ -76,6 +76,65 @@ const LATER_AIMS: [(&str, u32); 11] = [
     ("exponent just over 1 in size", 5),
     ("exponent infinite", 5),
     ("exponent not a number", 5),
+    ("image of a fresh panel", 6),
+    ("image with a drag", 6),
+    ("image with a gesture", 6),
+    ("image with 1,000 samples", 6),
+    ("image with 64 events", 6),
+    ("image with 4 devices", 6),
+    ("image in a buffer of its length", 6),
+    ("image in a buffer one place short", 6),
+    ("image restored that parking wrote", 6),
+    ("image taken that no parking wrote", 6),
+    ("image refused at its first word", 6),
+    ("image refused in group 1", 6),
+    ("image refused in group 2", 6),
+    ("image refused in group 3", 6),
+    ("image refused in group 4", 6),
+    ("image refused in group 5", 6),
+    ("image refused in group 6", 6),
+    ("image refused in group 7", 6),
+    ("image refused in group 8", 6),
+    ("image refused in group 9", 6),
+    ("image refused in group 10", 6),
+    ("image refused in group 11", 6),
+    ("image refused in group 12", 6),
+    ("image refused: outside its range", 6),
+    ("image refused: a not-a-number in another form", 6),
+    ("image refused: another name or length", 6),
+    ("image refused: missing", 6),
+    ("image refused: left over", 6),
+    ("image refused: a value where its flag says none", 6),
+    ("image refused: a place that is not used", 6),
+    ("image refused: an id twice", 6),
+    ("image refused: an id out of order", 6),
+];
+/// By the group of the first wrong word.
+const REFUSED_IN: [&str; 12] = [
+    "image refused in group 1",
+    "image refused in group 2",
+    "image refused in group 3",
+    "image refused in group 4",
+    "image refused in group 5",
+    "image refused in group 6",
+    "image refused in group 7",
+    "image refused in group 8",
+    "image refused in group 9",
+    "image refused in group 10",
+    "image refused in group 11",
+    "image refused in group 12",
+];
+/// In the order of `parking::WRONGS`.
+const REFUSED_FOR: [&str; 9] = [
+    "image refused: outside its range",
+    "image refused: a not-a-number in another form",
+    "image refused: another name or length",
+    "image refused: missing",
+    "image refused: left over",
+    "image refused: a value where its flag says none",
+    "image refused: a place that is not used",
+    "image refused: an id twice",
+    "image refused: an id out of order",
 ];
 
 #[derive(Clone)]
@@ -137,6 +196,9 @@ impl Met {
         if call == words::EXP && words::exists(call, panel.level) {
             self.exponent(w, number);
         }
+        if words::exists(call, panel.level) && parking::is_form_1(panel.level) {
+            self.parking(panel, call, w, answer);
+        }
         if number != 0 {
             return;
         }
@@ -178,6 +240,38 @@ impl Met {
         self.aim("rested: 0 by a move", rest == Some(0.0) && moved);
         self.aim("rested: 0 by a velocity alone", rest == Some(0.0) && !moved);
         self.aim("rested: more than 0", rest.is_some_and(|s| s > 0.0));
+    }
+
+    /// A.6: what PARK writes, and why RESTORE refuses.
+    fn parking(&mut self, panel: &Panel, call: u32, w: &[u32], answer: &[u32]) {
+        match (call, answer[0] >> 24) {
+            (words::PARK, 0) => self.parked(panel, w, &answer[1..]),
+            (words::PARK, 8) => self.aim("image in a buffer one place short", parking::image(panel).len() as u32 == w[0] + 1),
+            (words::RESTORE, 14) => self.aim("image refused at its first word", true),
+            (words::RESTORE, 15) => {
+                let wrong = parking::wrong(w).expect("refused");
+                self.aim(REFUSED_IN[wrong.group - 1], true);
+                let k = parking::WRONGS.iter().position(|why| *why == wrong.why).expect("known");
+                self.aim(REFUSED_FOR[k], true);
+            }
+            (words::RESTORE, 0) => {
+                let own = parking::image(panel) == w;
+                self.aim("image restored that parking wrote", own);
+                self.aim("image taken that no parking wrote", !own);
+            }
+            _ => {}
+        }
+    }
+
+    fn parked(&mut self, panel: &Panel, w: &[u32], image: &[u32]) {
+        let i = &panel.input;
+        self.aim("image of a fresh panel", i.pointer.x_view().time == f64::NEG_INFINITY);
+        self.aim("image with a drag", panel.snapshot.dragged.is_some());
+        self.aim("image with a gesture", panel.first_gesture_device().is_some());
+        self.aim("image with 1,000 samples", i.pointer.x_view().pos_history.len() == 1000);
+        self.aim("image with 64 events", i.pointer.pointer_events.len() == 64);
+        self.aim("image with 4 devices", i.x_touch_states().len() == domain::MAX_DEVICES);
+        self.aim("image in a buffer of its length", w[0] as usize == image.len());
     }
 
     fn exponent(&mut self, w: &[u32], number: usize) {
@@ -321,7 +415,7 @@ impl Met {
     /// What should have been met, and was not.
     pub fn missing(&self) -> Vec<String> {
         let mut v = Vec::new();
-        let due: [(usize, &[usize]); 12] = [
+        let due: [(usize, &[usize]); 15] = [
             (0, &[0, 255]),
             (1, &[0, 1, 2, 3, 4, 5, 255]),
             (2, &[0, 1, 2, 6, 7, 8, 9, 255]),
@@ -333,9 +427,15 @@ impl Met {
             (words::KERNEL as usize, &KERNEL_ANSWERS),
             (words::RESTED as usize, &[0, 255]),
             (words::EXP as usize, &[0, 13, 255]),
+            (words::PARK as usize, &[0, 8, 255]),
+            (words::RESTORE_LAST as usize, &[0, 255]),
+            (words::RESTORE as usize, &[0, 14, 15]),
             (UNKNOWN, &[255]),
         ];
         for (call, numbers) in due {
+            if call < UNKNOWN && !words::exists(call as u32, LEVEL) {
+                continue;
+            }
             for n in numbers.iter().filter(|n| self.calls[call][**n] == 0) {
                 v.push(format!("{} answered {n}", words::call_name(call as u32)));
             }

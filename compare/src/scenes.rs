@@ -1,12 +1,12 @@
 //! Traces of aimed scenes, with egui's answers: what a hand (`hands`), a cable or a careless host (`limits`),
-//! a host that asks for 02's requests (`later`) does.
+//! a host that asks for 02's requests (`later`, `images`) does.
 //! ASK follows most calls and DUMP some. Between scenes come stretches of `aimed`'s requests.
 use crate::maker::{LIMIT, Maker};
 use crate::words::{ASK, DUMP};
 
 pub type Scene = fn(&mut Maker);
 /// The scenes, and how often each comes. The long ones (a full history, a full widget set) are rarer.
-const SCENES: [(u32, Scene); 24] = [
+const SCENES: [(u32, Scene); 25] = [
     (30, Maker::plain),
     (12, Maker::clicks),
     (6, Maker::moves),
@@ -29,6 +29,7 @@ const SCENES: [(u32, Scene); 24] = [
     (2, Maker::times),
     (3, Maker::few_widgets),
     (1, Maker::lent_contents),
+    (1, Maker::full_events),
     (1, Maker::full_history),
     (1, Maker::full_widgets),
 ];

@@ -6,7 +6,7 @@ use fivvarul_compare::maker::{LIMIT, Maker};
 use fivvarul_compare::met::Met;
 use fivvarul_compare::scenes::Scene;
 use fivvarul_compare::script::Script;
-use fivvarul_compare::{edges, kernel_edges, words};
+use fivvarul_compare::{LEVEL, edges, kernel_edges, parking_edges, words};
 use std::fmt::Write;
 
 /// What the test program reads and must write, as far as it is made.
@@ -127,13 +127,20 @@ fn main() {
     all.add("edges", &s.requests, &s.answers, "the lines below, each from a fresh panel");
     let k = kernel_edges::script();
     all.add("kernel", &k.requests, &k.answers, "KERNEL (A.1): the lines below, each from a fresh panel");
+    let p = words::exists(words::PARK, LEVEL).then(parking_edges::script);
+    if let Some(p) = &p {
+        all.add("parking", &p.requests, &p.answers, "PARK, RESTORE_LAST, RESTORE (A.6): the lines below, each from a fresh panel");
+    }
     if let Some(program) = std::env::args().nth(2) {
         put(&program, "stdin", &all.stdin);
         put(&program, "stdout", all.stdout.as_bytes());
     }
-    println!("\nWhat the answer is in each line is asserted where the trace is made (compare/src/edges.rs, surprises.rs, kernel_edges.rs).");
+    println!("\nWhat the answer is in each line is asserted where the trace is made (compare/src/edges.rs, surprises.rs, kernel_edges.rs, parking_edges.rs).");
     table("edges", &s);
     table("kernel", &k);
+    if let Some(p) = &p {
+        table("parking", p);
+    }
 }
 
 /// The calls that show each line.

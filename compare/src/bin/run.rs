@@ -1,10 +1,11 @@
-//! run [calls=N] [seconds=S] [seed=K] [keep=FILE] [scene=kernel] PROGRAM [ARGUMENT ..]
+//! run [calls=N] [seconds=S] [seed=K] [keep=FILE] [scene=kernel|images] PROGRAM [ARGUMENT ..]
 //! For each seed from K on a trace of just under 1 MiB: egui answers it here, PROGRAM as a child
 //! (trace on its standard input, answers on its standard output); every answer word is compared.
 //! Every sixteenth trace is also sent cut short at some byte: the records before are answered, and the program ends.
 //! Ends after N calls or S seconds (default 1,000,000 calls) with 0, or at the first difference with
 //! 1: then the request, the field's name, and the trace up to there in FILE. Without PROGRAM, egui alone.
-//! With scene=kernel the traces hold KERNEL calls and passes with what they gave, and only KERNEL's aims are asked for.
+//! With scene=kernel the traces hold KERNEL calls and passes with what they gave, and only KERNEL's aims are asked for; with
+//! scene=images images of what the other scenes leave, most of them damaged, and no aims are asked for.
 use fivvarul_compare::aimed::Rng;
 use fivvarul_compare::beside::Beside;
 use fivvarul_compare::maker::Maker;
@@ -21,17 +22,19 @@ struct Args {
     seed: u64,
     keep: String,
     kernel_alone: bool,
+    images: bool,
     program: Vec<String>,
 }
 
 fn args() -> Args {
-    let mut a = Args { calls: 0, seconds: 0.0, seed: 1, keep: "differs.trace".into(), kernel_alone: false, program: Vec::new() };
+    let mut a = Args { calls: 0, seconds: 0.0, seed: 1, keep: "differs.trace".into(), kernel_alone: false, images: false, program: Vec::new() };
     for arg in std::env::args().skip(1) {
         match arg.split_once('=') {
             Some(("calls", n)) if a.program.is_empty() => a.calls = n.parse().expect("calls=N"),
             Some(("seconds", n)) if a.program.is_empty() => a.seconds = n.parse().expect("seconds=S"),
             Some(("seed", n)) if a.program.is_empty() => a.seed = n.parse().expect("seed=K"),
             Some(("scene", "kernel")) if a.program.is_empty() => a.kernel_alone = true,
+            Some(("scene", "images")) if a.program.is_empty() => a.images = true,
             Some(("keep", f)) if a.program.is_empty() => a.keep = f.into(),
             _ => a.program.push(arg),
         }
@@ -136,7 +139,11 @@ fn main() -> ExitCode {
     let file = format!("{}.{}", a.keep, std::process::id());
     while met.total() < a.calls || (a.seconds > 0.0 && start.elapsed().as_secs_f64() < a.seconds) {
         let t = Instant::now();
-        let m = if a.kernel_alone { scenes::trace_of(Maker::kernel, seed) } else { scenes::trace(seed) };
+        let m = match () {
+            _ if a.kernel_alone => scenes::trace_of(Maker::kernel, seed),
+            _ if a.images => scenes::trace_of(Maker::images, seed),
+            _ => scenes::trace(seed),
+        };
         own += t.elapsed().as_secs_f64();
         met.add(&m.met);
         words += m.answers.len() as u64;
@@ -152,7 +159,11 @@ fn main() -> ExitCode {
         "{} calls in {} traces (seeds {} to {}) at level {LEVEL}, {words} answer words, {}; {spent:.1} s, {own:.1} of them egui's and the generator's",
         met.total(), seed - a.seed, a.seed, seed - 1, if a.program.is_empty() { "egui alone" } else { "no difference" }
     );
-    let missing = if a.kernel_alone { met.missing_kernel() } else { met.missing() };
+    let missing = match () {
+        _ if a.kernel_alone => met.missing_kernel(),
+        _ if a.images => Vec::new(),
+        _ => met.missing(),
+    };
     if seed - a.seed >= 10 && !missing.is_empty() {
         println!("NOT MET: {}", missing.join("; "));
         return ExitCode::from(1);
