@@ -53,6 +53,12 @@ if [ ! -x "$replay" ]; then
     "$bin/clearing" lists=1000 seed="$seed"
     exit 0
 fi
+# The stored corpora with each call parked and restored: the stored answers, and those of the parkings between them.
+corpora=${CORPORA:-$here/../target/bin/trace_corpora}
+if [ -x "$corpora" ]; then
+    "$corpora" < "$work/parked.stdin" > "$work/parked.got"
+    cmp -s "$work/parked.stdout" "$work/parked.got" || { echo "compare: the stored corpora are answered otherwise where each call is parked and restored"; exit 1; }
+fi
 # The samples, which are compared as they are; then the traces made here, and some of KERNEL alone.
 for trace in lost-release two-fingers; do
     "$bin/oracle" < "$here/../samples/$trace.trace" > "$work/want"
@@ -60,5 +66,6 @@ for trace in lost-release two-fingers; do
     cmp -s "$work/want" "$work/got" || { echo "compare: samples/$trace.trace is not answered as egui's files and 02 have it"; exit 1; }
 done
 "$bin/run" "$calls" seed="$seed" keep="$here/differs.trace" "$replay" whole
+"$bin/run" calls=200000 seed="$seed" keep="$here/differs.trace" scene=images "$replay" whole
 "$bin/run" calls=200000 seed="$seed" keep="$here/differs.trace" scene=kernel "$replay" whole
 "$bin/clearing" "$lists" seed="$seed" "$replay" whole

@@ -39,6 +39,7 @@ impl Maker {
 
     fn restore_last(&mut self) {
         self.record(RESTORE_LAST, &[]);
+        self.leave_foreign();
         self.record(ASK, &[]);
         if self.rng().once_in(4) {
             self.record(DUMP, &[]);

@@ -19,7 +19,6 @@ impl Maker {
                 let w = self.later_words(call);
                 self.call(call, &w);
             }
-            self.leave_foreign();
             // from A.8 on: a foreign image that a program takes leaves a panel that egui doesn't know
             let level = self.s.stream.panel.level;
             if call == RESTORE && exists(call, level) && !is_form_1(level) {

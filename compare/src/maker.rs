@@ -78,6 +78,7 @@ impl Maker {
     /// A call with what is asked after it.
     pub fn call(&mut self, call: u32, w: &[u32]) -> usize {
         let at = self.record(call, w);
+        self.leave_foreign();
         if call == PASS && words::exists(RESTED, self.s.stream.panel.level) {
             self.record(RESTED, &[]);
         }

@@ -15,6 +15,8 @@ struct Stored {
     stdin: Vec<u8>,
     stdout: String,
     calls: usize,
+    /// the same with PARK and RESTORE_LAST after each call
+    parked: Vec<u32>,
 }
 
 impl Stored {
@@ -34,9 +36,35 @@ impl Stored {
         put(&folder, &format!("{name}.sums"), sums.as_bytes());
         println!("| {name} | {calls} | {} | {} | {holds} |", self.calls, bytes.len());
         self.stdin.extend(bytes);
+        let mut at = 0;
+        while at < requests.len() {
+            let record = words::record_at(requests, at);
+            self.parked.extend(record);
+            self.parked.extend(words::record(words::PARK, &[words::ENOUGH_PLACES]));
+            self.parked.extend(words::record(words::RESTORE_LAST, &[]));
+            at += record.len();
+        }
         self.stdout.push_str(&sums);
         self.calls += calls;
     }
+}
+
+/// The stored answers with those of PARK and RESTORE_LAST between them. The traces that park by themselves are left out.
+fn parked(folder: &str, all: &Stored) {
+    let (mut stream, mut sums, mut at, mut n) = (words::Stream::default(), String::new(), 0, 0);
+    let stored: Vec<&str> = all.stdout.lines().collect();
+    while at < all.parked.len() {
+        let record = words::record_at(&all.parked, at);
+        let mut answer = Vec::new();
+        words::answer(&mut stream, record[0] >> 24, &record[1..], &mut answer);
+        let sum = format!("{:016x}", words::checksum(&answer));
+        assert!(n % 3 != 0 || sum == stored[n / 3], "call {} answers otherwise where each call is parked", n / 3);
+        writeln!(sums, "{sum}").expect("a string");
+        at += record.len();
+        n += 1;
+    }
+    put(folder, "parked.stdin", &all.parked.iter().flat_map(|w| w.to_le_bytes()).collect::<Vec<u8>>());
+    put(folder, "parked.stdout", sums.as_bytes());
 }
 
 fn put(folder: &str, file: &str, bytes: &[u8]) {
@@ -129,6 +157,7 @@ fn main() {
     all.add("kernel", &k.requests, &k.answers, "KERNEL (A.1): the lines below, each from a fresh panel");
     let p = words::exists(words::PARK, LEVEL).then(parking_edges::script);
     if let Some(p) = &p {
+        parked(&folder, &all);
         all.add("parking", &p.requests, &p.answers, "PARK, RESTORE_LAST, RESTORE (A.6): the lines below, each from a fresh panel");
     }
     if let Some(program) = std::env::args().nth(2) {

@@ -20,6 +20,10 @@ use trace_machine::machine::stepped;
 use trace_machine::machine::with_panel;
 use trace_machine::machine::with_set;
 use trace_machine::passes::pass;
+use trace_parking::park::Image;
+use trace_parking::park::park;
+use trace_parking::restore::restore;
+use trace_parking::restore::restore_last;
 use trace_text::calls::ASK;
 use trace_text::calls::CLEAR_WIDGETS;
 use trace_text::calls::DUMP;
@@ -27,9 +31,12 @@ use trace_text::calls::EXP;
 use trace_text::calls::INSERT;
 use trace_text::calls::INTERACT;
 use trace_text::calls::KERNEL;
+use trace_text::calls::PARK;
 use trace_text::calls::PASS;
 use trace_text::calls::RESET;
 use trace_text::calls::RESTED;
+use trace_text::calls::RESTORE;
+use trace_text::calls::RESTORE_LAST;
 use trace_text::calls::SET_TALLY;
 use trace_widgets::insert::insert;
 use trace_widgets::widgets::widgets;
@@ -227,19 +234,33 @@ pub fn call(
     numbers: &mut Numbers,
     edges: &mut Edges,
     lent: &mut Lent,
+    image: &mut Image,
     a: &mut Answer,
     kind: u32,
     w: &[u32],
 ) -> Step
     ensures { λ r. ⌜ Called m kind (now (w .entry))
         (arrays (lent-arrays (now (times .entry)) (now (positions .entry)) (now (codes .entry)) (now (places .entry)) (now (presses .entry)))
-        (now (words .entry)) (now (numbers .entry)) (now (edges .entry)) (now (lent .entry)))
+        (now (words .entry)) (now (numbers .entry)) (now (edges .entry)) (now (lent .entry)) (now (image .entry)))
         (arrays (lent-arrays (now (times .exit)) (now (positions .exit)) (now (codes .exit)) (now (places .exit)) (now (presses .exit)))
-        (now (words .exit)) (now (numbers .exit)) (now (edges .exit)) (now (lent .exit))) r ⌝ }
+        (now (words .exit)) (now (numbers .exit)) (now (edges .exit)) (now (lent .exit)) (now (image .exit))) r ⌝ }
 {
     match kind {
         RESET => reset(m, presses, w),
         PASS => pass(m, times, positions, codes, places, presses, a, w),
+        PARK => park(m, times, positions, codes, places, presses, image, a, w),
+        RESTORE_LAST => restore_last(
+            m,
+            times,
+            positions,
+            codes,
+            places,
+            presses,
+            image,
+            a,
+            w,
+        ),
+        RESTORE => restore(m, times, positions, codes, places, presses, a, w),
         _ => {
             let c = change(
                 m,

@@ -19,10 +19,14 @@ use trace_output::output::byte;
 use trace_output::output::flush;
 use trace_output::output::hex;
 use trace_output::output::word;
+use trace_parking::park::IMAGE_PLACES;
+use trace_parking::park::Image;
+use trace_text::counts::Tally;
+use trace_text::counts::counted;
+use trace_text::counts::none;
 use trace_text::sums::head;
 use trace_text::sums::sum;
 use trace_text::text;
-use trace_text::text::Tally;
 use trace_words::records::LENT;
 use trace_words::records::Lent;
 use trace_words::reply::Reply;
@@ -148,7 +152,7 @@ fn answered(
     let t = before.tally;
     let r = step.reply;
     let machine = step.machine;
-    let tally = text::counted(t, answer, r, kind);
+    let tally = counted(t, answer, r, kind, request);
     let bytes = written(
         out,
         before.bytes,
@@ -179,6 +183,7 @@ fn one_call(
     numbers: &mut Numbers,
     edges: &mut Edges,
     lent: &mut Lent,
+    image: &mut Image,
     answer: &mut Answer,
     out: &mut Buffer,
     form: Form,
@@ -202,6 +207,7 @@ fn one_call(
         numbers,
         edges,
         lent,
+        image,
         answer,
         kind,
         &all[0..len],
@@ -216,7 +222,7 @@ fn ended(out: &mut Buffer, s: Going, form: Form, cut: bool) {
 
 fn start(presses: &mut [u8; PRESSES]) -> Going {
     let machine = fresh(presses);
-    let tally = text::none();
+    let tally = none();
     Going {
         machine,
         bytes: 0,
@@ -235,6 +241,7 @@ pub fn replay(form: Form, limit: usize) {
     let mut numbers = [0u32; NUMBERS];
     let mut edges = [0.0f32; EDGES];
     let mut lent = [0u32; LENT];
+    let mut image = [0u32; IMAGE_PLACES];
     let mut answer = [0u32; ROOM];
     let mut out = [0u8; SIZE];
     let mut request = [0u32; WORDS];
@@ -264,6 +271,7 @@ pub fn replay(form: Form, limit: usize) {
             &mut numbers,
             &mut edges,
             &mut lent,
+            &mut image,
             &mut answer,
             &mut out,
             form,

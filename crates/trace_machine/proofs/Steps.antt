@@ -36,5 +36,5 @@ pub carried : {i j : PassInput} {f g : List ℕ} {l l' : Lent} {s : InputState} 
 carried p q h = rw (← p, ← q) h
 
 -- machines with equal panels
-pub same-panel : {p q : Panel} {s : WidgetRects} {k : KernelTouches} → p ≡ q → machine p s k ≡ machine q s k
+pub same-panel : {p q : Panel} {s : WidgetRects} {k : KernelTouches} {n : ℕ} → p ≡ q → machine p s k n ≡ machine q s k n
 same-panel e = rw e

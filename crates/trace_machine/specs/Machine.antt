@@ -21,18 +21,21 @@ use Rattle.trace_machine.specs.declared.machine.Machine.{Machine}
 use Rattle.trace_machine.specs.declared.machine.Step.{Step}
 use Rattle.trace_machine.specs.Given.{pass-words, pass-input}
 
-abbrev pub machine : Panel → WidgetRects → KernelTouches → Machine
-machine p s k = record { panel = p; «set» = s; kernel = k }
+abbrev pub machine : Panel → WidgetRects → KernelTouches → ℕ → Machine
+machine p s k n = record { panel = p; «set» = s; kernel = k; parked = n }
 
--- another panel, set or slots
+-- another panel, set, slots or image
 abbrev pub with-panel : Machine → Panel → Machine
-with-panel m p = machine p (m .«set») (m .kernel)
+with-panel m p = machine p (m .«set») (m .kernel) (m .parked)
 
 abbrev pub with-set : Machine → WidgetRects → Machine
-with-set m s = machine (m .panel) s (m .kernel)
+with-set m s = machine (m .panel) s (m .kernel) (m .parked)
 
 abbrev pub with-kernel : Machine → KernelTouches → Machine
-with-kernel m k = machine (m .panel) (m .«set») k
+with-kernel m k = machine (m .panel) (m .«set») k (m .parked)
+
+abbrev pub with-parked : Machine → ℕ → Machine
+with-parked m n = machine (m .panel) (m .«set») (m .kernel) n
 
 abbrev pub step : Machine → Reply → Step
 step m reply = record { machine = m; reply = reply }
@@ -52,8 +55,8 @@ pub record Starts (presses : List ℕ) (m : Machine) : Type 0 where
 pub record Resets (m : Machine) (w presses presses' : List ℕ) (r : Step) : Type 0 where
   -- with any word it is refused: the machine and every place of the presses are as before
   pub refused : (length w ≡ 0 → ⊥) → (r .reply .code ≡ 255) × (r .machine ≡ m) × (presses' ≡ presses)
-  -- with none it is taken
-  pub taken : length w ≡ 0 → (r .reply .code ≡ 0) × Starts presses' (r .machine)
+  -- with none it is taken; the last image stays
+  pub taken : length w ≡ 0 → (r .reply .code ≡ 0) × Starts presses' (r .machine) × (r .machine .parked ≡ m .parked)
 
 -- ---- PASS
 

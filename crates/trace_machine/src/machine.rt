@@ -1,4 +1,4 @@
-// The panel, the widget set and the kernel's slots between two calls; the lent arrays stand beside them.
+// The panel, the widget set, the kernel's slots and the length of the last image between two calls; the lent arrays stand beside them.
 use input_pass::begin::Begun;
 use kernel_touch::slots::KernelTouches;
 use key_state::keys::PRESSES;
@@ -15,12 +15,14 @@ use widget_index::table::WidgetRects;
 ghost use mathlib.Core.Option.{none};
 ghost use mathlib.Core.Path.{_≡_};
 ghost use Rattle.survey.specs.Survey.{option};
-ghost use Rattle.trace_machine.specs.Machine.{with-panel, with-set, with-kernel, step, stepped, Starts, Resets, AfterPass};
+ghost use Rattle.trace_machine.specs.Machine.{with-panel, with-set, with-kernel, with-parked, step, stepped, Starts, Resets, AfterPass};
 
 pub struct Machine {
     pub panel: Panel,
     pub set: WidgetRects,
     pub kernel: KernelTouches,
+    // how many words the last image has; 0: none was written
+    pub parked: usize,
 }
 
 // What a call makes of the machine, and its answer.
@@ -29,14 +31,19 @@ pub struct Step {
     pub reply: Reply,
 }
 
-// A fresh panel, an empty set and empty slots. The lent presses are cleared.
+// A fresh panel, an empty set, empty slots and no image. The lent presses are cleared.
 pub fn fresh(presses: &mut [u8; PRESSES]) -> Machine
-    ensures { λ r. ⌜ Starts (now (presses .exit)) r ⌝ }
+    ensures { λ r. ⌜ Starts (now (presses .exit)) r × (r .parked ≡ 0) ⌝ }
 {
     let panel = panel::state::fresh(presses);
     let set = empty();
     let kernel = kernel_touch::slots::fresh();
-    Machine { panel, set, kernel }
+    Machine {
+        panel,
+        set,
+        kernel,
+        parked: 0,
+    }
 }
 
 // A call that is refused leaves the machine `m` as it was.
@@ -69,7 +76,7 @@ fn reset_reply(words: usize) -> Reply
     taken(0)
 }
 
-// RESET: a fresh machine. Refused, the presses are as before.
+// RESET: a fresh machine; the last image stays. Refused, the presses are as before.
 pub fn reset(m: Machine, presses: &mut [u8; PRESSES], w: &[u32]) -> Step
     ensures { λ r. ⌜ Resets m (now (w .entry)) (now (presses .entry)) (now (presses .exit)) r ⌝ }
 {
@@ -77,7 +84,12 @@ pub fn reset(m: Machine, presses: &mut [u8; PRESSES], w: &[u32]) -> Step
     if reply.code != 0 {
         return kept(m, reply);
     }
-    kept(fresh(presses), reply)
+    let started = fresh(presses);
+    let machine = Machine {
+        parked: m.parked,
+        ..started
+    };
+    kept(machine, reply)
 }
 
 // A pass that is taken has no words to answer.
@@ -122,6 +134,15 @@ pub fn with_panel(m: Machine, panel: Panel, reply: Reply) -> Step
 {
     Step {
         machine: Machine { panel, ..m },
+        reply,
+    }
+}
+
+pub fn with_parked(m: Machine, parked: usize, reply: Reply) -> Step
+    ensures { λ r. ⌜ r ≡ step (with-parked m parked) reply ⌝ }
+{
+    Step {
+        machine: Machine { parked, ..m },
         reply,
     }
 }

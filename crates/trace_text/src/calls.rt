@@ -21,3 +21,9 @@ pub const KERNEL: u32 = 9;
 pub const RESTED: u32 = 10;
 
 pub const EXP: u32 = 11;
+
+pub const PARK: u32 = 12;
+
+pub const RESTORE_LAST: u32 = 13;
+
+pub const RESTORE: u32 = 14;

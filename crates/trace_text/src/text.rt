@@ -6,10 +6,15 @@ use crate::calls::EXP;
 use crate::calls::INSERT;
 use crate::calls::INTERACT;
 use crate::calls::KERNEL;
+use crate::calls::PARK;
 use crate::calls::PASS;
 use crate::calls::RESET;
 use crate::calls::RESTED;
+use crate::calls::RESTORE;
+use crate::calls::RESTORE_LAST;
 use crate::calls::SET_TALLY;
+use crate::counts::Tally;
+use crate::counts::is_balanced;
 use crate::numbers::factor;
 use crate::numbers::rested;
 use trace_events::clearing::is_clearing;
@@ -24,28 +29,6 @@ use trace_words::reply::Reply;
 use trace_words::request::PASS_WORDS;
 use trace_words::request::at;
 use trace_words::request::id;
-
-// Calls so far; drags started and stopped since the panel was fresh, and how many go on, 0 or 1.
-pub struct Tally {
-    pub calls: u64,
-    pub starts: u64,
-    pub stops: u64,
-    pub dragged: u64,
-}
-
-// So many calls, and a fresh panel.
-fn fresh(calls: u64) -> Tally {
-    Tally {
-        calls,
-        starts: 0,
-        stops: 0,
-        dragged: 0,
-    }
-}
-
-pub fn none() -> Tally {
-    fresh(0)
-}
 
 fn shifted(m: u64, by: u64) -> u64 {
     if by < 64 {
@@ -90,6 +73,15 @@ fn name(out: &mut Buffer, n: usize, kind: u32) -> usize {
         KERNEL => bytes(out, n, b"kernel    "),
         RESTED => bytes(out, n, b"rested    "),
         EXP => bytes(out, n, b"exponent  "),
+        _ => name_from_12(out, n, kind),
+    }
+}
+
+fn name_from_12(out: &mut Buffer, n: usize, kind: u32) -> usize {
+    match kind {
+        PARK => bytes(out, n, b"park      "),
+        RESTORE_LAST => bytes(out, n, b"restore   "),
+        RESTORE => bytes(out, n, b"restore   "),
         _ => bytes(out, n, b"?         "),
     }
 }
@@ -113,20 +105,22 @@ fn meaning_from_6(out: &mut Buffer, n: usize, code: u32) -> usize {
         8 => bytes(
             out,
             n,
-            b"an id buffer, a lent slice or a feed buffer is too short",
+            b"an id buffer, a lent slice, a feed or image buffer is too short",
         ),
         9 => bytes(out, n, b"an id of 0"),
         10 => bytes(out, n, b"the tally of drag starts is full"),
         11 => bytes(out, n, b"the length is no multiple of 24 bytes"),
         12 => bytes(out, n, b"a slot outside 0 to 9"),
         13 => bytes(out, n, b"an exponent over 1 in size, or not a number"),
+        14 => bytes(out, n, b"the first word is missing, or no image's"),
+        15 => bytes(out, n, b"a word out of its range or order, missing or left over"),
         _ => bytes(out, n, b"no such call, or its words do not fit it; skipped"),
     }
 }
 
-// The index of a refusal: a word of the feed, or an entry of a hit list.
+// The index of a refusal: a word of the feed or of the image, or an entry of a hit list.
 fn index(out: &mut Buffer, n: usize, kind: u32, i: u32) -> usize {
-    if kind == PASS {
+    if (kind == PASS) | (kind == RESTORE) {
         let m = bytes(out, n, b" at word ");
         return decimal(out, m, i as u64);
     }
@@ -225,11 +219,6 @@ fn did(out: &mut Buffer, n: usize, what: &[u8], d: u64) -> usize {
     bytes(out, m, b"  ")
 }
 
-// Each drag that started has stopped or goes on.
-fn is_balanced(t: Tally) -> bool {
-    t.starts == std::num::wrapping_add_u64(t.stops, t.dragged)
-}
-
 fn balance(out: &mut Buffer, n: usize, t: Tally) -> usize {
     let mut m = bytes(out, n, b"starts ");
     m = decimal(out, m, t.starts);
@@ -275,7 +264,15 @@ fn alone(out: &mut Buffer, n: usize, kind: u32) -> usize {
     }
 }
 
-fn taken(out: &mut Buffer, n: usize, a: &[u32], kind: u32, w: &[u32], t: Tally) -> usize {
+fn taken(
+    out: &mut Buffer,
+    n: usize,
+    a: &[u32],
+    r: Reply,
+    kind: u32,
+    w: &[u32],
+    t: Tally,
+) -> usize {
     match kind {
         PASS => {
             let m = name(out, n, kind);
@@ -301,37 +298,27 @@ fn taken(out: &mut Buffer, n: usize, a: &[u32], kind: u32, w: &[u32], t: Tally) 
             let m = name(out, n, kind);
             factor(out, m, a, w)
         }
+        _ => parked(out, n, r, kind, w),
+    }
+}
+
+// An image: how many words were written or read.
+fn parked(out: &mut Buffer, n: usize, r: Reply, kind: u32, w: &[u32]) -> usize {
+    match kind {
+        PARK => {
+            let m = name(out, n, kind);
+            several(out, m, r.words as u64, b"word")
+        }
+        RESTORE => {
+            let m = name(out, n, kind);
+            several(out, m, w.len() as u64, b"word")
+        }
+        RESTORE_LAST => {
+            let m = name(out, n, kind);
+            bytes(out, m, b"what was parked last")
+        }
         _ => alone(out, n, kind),
     }
-}
-
-fn one_if(d: u64) -> u64 {
-    if d == 0 {
-        return 0;
-    }
-    1
-}
-
-// After a taken interact.
-fn interacted(t: Tally, calls: u64, a: &[u32]) -> Tally {
-    Tally {
-        calls,
-        starts: std::num::wrapping_add_u64(t.starts, one_if(id(a, 4, 5))),
-        stops: std::num::wrapping_add_u64(t.stops, one_if(id(a, 8, 9))),
-        dragged: one_if(id(a, 6, 7)),
-    }
-}
-
-// After a call. A taken interact that names a drag start or stop is counted; a taken reset starts the count anew.
-pub fn counted(t: Tally, a: &[u32], r: Reply, kind: u32) -> Tally {
-    let calls = std::num::wrapping_add_u64(t.calls, 1);
-    if (kind == INTERACT) & (r.code == 0) {
-        return interacted(t, calls, a);
-    }
-    if (kind == RESET) & (r.code == 0) {
-        return fresh(calls);
-    }
-    Tally { calls, ..t }
 }
 
 pub fn line(
@@ -346,7 +333,7 @@ pub fn line(
 ) -> usize {
     let mut m = time(out, n, now);
     if r.code == 0 {
-        m = taken(out, m, a, kind, w, t);
+        m = taken(out, m, a, r, kind, w, t);
         return byte(out, m, b'\n');
     }
     m = refused(out, m, a, r, kind);

@@ -32,7 +32,7 @@ pub fn taken(words: usize) -> Reply
     Reply { code: 0, words }
 }
 
-fn refused(number: u32) -> Reply
+pub fn refused(number: u32) -> Reply
     ensures { λ r. ⌜ (r .code ≡ number) × (r .words ≡ 0) ⌝ }
 {
     Reply {
@@ -41,7 +41,7 @@ fn refused(number: u32) -> Reply
     }
 }
 
-fn refused_at(a: &mut Answer, number: u32, index: usize) -> Reply
+pub fn refused_at(a: &mut Answer, number: u32, index: usize) -> Reply
     ensures { λ r. ⌜ Answers (record { number = number; index = some index }) (now (a .entry)) r (now (a .exit)) ⌝ }
 {
     Reply {

@@ -6,10 +6,10 @@ use Rattle.trace.proofs.run.replay.Statement.{statement}
 use Rattle.trace.proofs.run.replay.Tie as tie
 
 abbrev Inv-loop : tie.InvT-loop
-Inv-loop form limit times₀ positions₀ codes₀ places₀ presses₀ words₀ numbers₀ edges₀ lent₀ answer₀ out₀ request₀ s₀ left₀ more₀ times positions codes places presses words numbers edges lent answer out request s left more = left < 0x1_0000_0000_0000_0000
+Inv-loop form limit times₀ positions₀ codes₀ places₀ presses₀ words₀ numbers₀ edges₀ lent₀ image₀ answer₀ out₀ request₀ s₀ left₀ more₀ times positions codes places presses words numbers edges lent image answer out request s left more = left < 0x1_0000_0000_0000_0000
 
 abbrev μ-loop : tie.MeasureT-loop
-μ-loop form limit times₀ positions₀ codes₀ places₀ presses₀ words₀ numbers₀ edges₀ lent₀ answer₀ out₀ request₀ s₀ left₀ more₀ times positions codes places presses words numbers edges lent answer out request s left more = left
+μ-loop form limit times₀ positions₀ codes₀ places₀ presses₀ words₀ numbers₀ edges₀ lent₀ image₀ answer₀ out₀ request₀ s₀ left₀ more₀ times positions codes places presses words numbers edges lent image answer out request s left more = left
 
 start-requires : tie.Need-start-requires Inv-loop μ-loop
 start-requires c κs = search needs
@@ -49,14 +49,14 @@ one-call-requires c κs = search needs
 
 add-left : tie.Need-add-left Inv-loop μ-loop
 add-left c =
-    let e = c .before .before .before .before .before .before .before .before .before .before .before .before .before .before .before .before in
+    let e = c .before .before .before .before .before .before .before .before .before .before .before .before .before .before .before .before .before in
     let h = e .if1 .left in
     let b = e .before .before .before .loop .inv in
     omega arith
 
 sub-left : tie.Need-sub-left Inv-loop μ-loop
 sub-left c =
-    let e = c .before .before .before .before .before .before .before .before .before .before .before .before .before .before .before .before in
+    let e = c .before .before .before .before .before .before .before .before .before .before .before .before .before .before .before .before .before in
     let h = e .if1 .left in
     let b = e .before .before .before .loop .inv in
     omega arith
@@ -66,14 +66,14 @@ is-read-requires-3 c κs = search needs
 
 loop-less : tie.Need-loop-less Inv-loop μ-loop
 loop-less c =
-    let e = c .before .before .before .before .before .before .before .before .before .before .before .before .before .before .before .before .before .before in
+    let e = c .before .before .before .before .before .before .before .before .before .before .before .before .before .before .before .before .before .before .before in
     let h = e .if1 .left in
     let b = e .before .before .before .loop .inv in
     omega arith
 
 loop-again : tie.Need-loop-again Inv-loop μ-loop
 loop-again c =
-    let e = c .before .before .before .before .before .before .before .before .before .before .before .before .before .before .before .before .before .before in
+    let e = c .before .before .before .before .before .before .before .before .before .before .before .before .before .before .before .before .before .before .before in
     let h = e .if1 .left in
     let b = e .before .before .before .loop .inv in
     omega arith
