@@ -63,8 +63,14 @@ impl Maker {
 
     /// A panel that no parking wrote is unknown to egui: on to one that is known.
     pub(crate) fn leave_foreign(&mut self) {
-        if self.s.stream.foreign.is_some() {
+        if self.s.stream.foreign.is_none() {
+            return;
+        }
+        if self.rng().once_in(6) {
             self.record(RESET, &[]);
+        } else {
+            let own = parking::image(&self.s.stream.panel);
+            self.record(RESTORE, &own);
         }
     }
 

@@ -249,17 +249,7 @@ pub fn call(
         RESET => reset(m, presses, w),
         PASS => pass(m, times, positions, codes, places, presses, a, w),
         PARK => park(m, times, positions, codes, places, presses, image, a, w),
-        RESTORE_LAST => restore_last(
-            m,
-            times,
-            positions,
-            codes,
-            places,
-            presses,
-            image,
-            a,
-            w,
-        ),
+        RESTORE_LAST => restore_last(m, times, positions, codes, places, presses, image, a, w),
         RESTORE => restore(m, times, positions, codes, places, presses, a, w),
         _ => {
             let c = change(

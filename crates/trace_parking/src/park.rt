@@ -115,15 +115,6 @@ pub fn park(
     }
     let p = m.panel;
     let room = places_of(w);
-    let done = park_in(
-        p,
-        times,
-        positions,
-        codes,
-        places,
-        presses,
-        image,
-        room,
-    );
+    let done = park_in(p, times, positions, codes, places, presses, image, room);
     parked(m, image, a, done)
 }

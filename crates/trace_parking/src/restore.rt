@@ -60,15 +60,7 @@ pub fn restore(
         (lent (now (times .exit)) (now (positions .exit)) (now (codes .exit)) (now (places .exit)) (now (presses .exit))) r ⌝ }
 {
     let p = m.panel;
-    let read = parking::restore::restore(
-        p,
-        times,
-        positions,
-        codes,
-        places,
-        presses,
-        w,
-    );
+    let read = parking::restore::restore(p, times, positions, codes, places, presses, w);
     restored(m, a, read)
 }
 
@@ -99,14 +91,5 @@ pub fn restore_last(
         return refused(m);
     }
     let all: &[u32] = image;
-    restore(
-        m,
-        times,
-        positions,
-        codes,
-        places,
-        presses,
-        a,
-        &all[0..n],
-    )
+    restore(m, times, positions, codes, places, presses, a, &all[0..n])
 }

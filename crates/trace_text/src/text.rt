@@ -113,7 +113,11 @@ fn meaning_from_6(out: &mut Buffer, n: usize, code: u32) -> usize {
         12 => bytes(out, n, b"a slot outside 0 to 9"),
         13 => bytes(out, n, b"an exponent over 1 in size, or not a number"),
         14 => bytes(out, n, b"the first word is missing, or no image's"),
-        15 => bytes(out, n, b"a word out of its range or order, missing or left over"),
+        15 => bytes(
+            out,
+            n,
+            b"a word out of its range or order, missing or left over",
+        ),
         _ => bytes(out, n, b"no such call, or its words do not fit it; skipped"),
     }
 }
@@ -264,15 +268,7 @@ fn alone(out: &mut Buffer, n: usize, kind: u32) -> usize {
     }
 }
 
-fn taken(
-    out: &mut Buffer,
-    n: usize,
-    a: &[u32],
-    r: Reply,
-    kind: u32,
-    w: &[u32],
-    t: Tally,
-) -> usize {
+fn taken(out: &mut Buffer, n: usize, a: &[u32], r: Reply, kind: u32, w: &[u32], t: Tally) -> usize {
     match kind {
         PASS => {
             let m = name(out, n, kind);

@@ -95,10 +95,10 @@ returns-6 c =
     let other = d .before .before .before .before .before .before .before .before .before .before .before .match .rest in
     record {
       refused = λ is-not. (when-refused _ _ _ _ e is-not, same-rest (d .change .ensures .refused (λ z. is-not (same-code _ _ _ _ e ∙ z))));
-      reset = λ kind. absurd (other .0 .1 kind);
-      pass = λ kind. absurd (other .1 .0 .1 kind);
-      park = λ kind. absurd (other .1 .1 kind);
-      restore-last = λ kind. absurd (other .1 kind);
+      reset = λ kind. absurd (other .0 .0 .0 .0 .1 kind);
+      pass = λ kind. absurd (other .0 .0 .0 .1 kind);
+      park = λ kind. absurd (other .0 .0 .1 kind);
+      restore-last = λ kind. absurd (other .0 .1 kind);
       restore = λ kind. absurd (other .1 kind);
     }
 
