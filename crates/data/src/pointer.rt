@@ -28,13 +28,14 @@ impl PointerButton {
     }
 }
 
-// Which buttons are down.
+// Which buttons are down, and how many.
 pub struct ButtonsDown {
     pub primary: bool,
     pub secondary: bool,
     pub middle: bool,
     pub extra1: bool,
     pub extra2: bool,
+    pub count: u8,
 }
 
 // `count` is 1, 2 (double click) or 3 (triple click).

@@ -1,13 +1,13 @@
 -- Groups 3 and 4: what stands for a record gives it back, and every value in range stands for one. Assumes nothing.
 use Prim.Native.Nat.{ℕ}
-use mathlib.Core.Path.{_≡_, refl, ap, _∙_}
+use mathlib.Core.Path.{_≡_, refl, sym, ap, _∙_}
 use mathlib.Core.Bool.{Bool}
 use mathlib.Core.List.{List}
 use lib.Dec.{T, leb→le}
 use Rattle.emath.specs.History.{Sample}
 use Rattle.data.specs.Modifiers.{modifiers-number, modifiers-of}
 use Rattle.model.specs.Types.{ButtonsDown, Modifiers, PointerEvent, MaybeF64}
-use Rattle.model.specs.Pointer.{Place, Press}
+use Rattle.model.specs.Pointer.{Place, Press, buttons, flags-down, CountTrue}
 use Rattle.image.specs.Codes.{El, In}
 use Rattle.image_words.specs.Leaves.{upto}
 use Rattle.image_options.specs.Options.{five-bits}
@@ -20,18 +20,21 @@ abbrev as-modifiers : ButtonsDown → Modifiers
 as-modifiers d = record { alt = d .primary; ctrl = d .secondary; shift = d .middle; «mac_cmd» = d .extra1; command = d .extra2 }
 
 abbrev as-buttons : Modifiers → ButtonsDown
-as-buttons m = record { primary = m .alt; secondary = m .ctrl; middle = m .shift; extra1 = m .«mac_cmd»; extra2 = m .command }
+as-buttons m = buttons (m .alt) (m .ctrl) (m .shift) (m .«mac_cmd») (m .command)
 
 pub buttons-in : (d : ButtonsDown) → T (upto five-bits (buttons-number d))
 unfolding buttons-number modifiers-number
 buttons-in d = modifiers-in (as-modifiers d)
 
-pub buttons-back : (d : ButtonsDown) → buttons-of (buttons-number d) ≡ d
-unfolding buttons-number buttons-of modifiers-number modifiers-of
-buttons-back d = ap as-buttons (modifiers-again (as-modifiers d))
+-- the number worked out is the number that was there
+pub buttons-back : (d : ButtonsDown) → CountTrue d → buttons-of (buttons-number d) ≡ d
+unfolding buttons-number buttons-of modifiers-number modifiers-of buttons flags-down
+buttons-back d h =
+    ap as-buttons (modifiers-again (as-modifiers d))
+    ∙ (λ j. record { primary = d .primary; secondary = d .secondary; middle = d .middle; extra1 = d .extra1; extra2 = d .extra2; count = sym h j })
 
 pub buttons-forth : (w : ℕ) → T (upto five-bits w) → buttons-number (buttons-of w) ≡ w
-unfolding buttons-number buttons-of modifiers-number modifiers-of
+unfolding buttons-number buttons-of buttons modifiers-number modifiers-of
 buttons-forth w h = modifiers-forth w h
 
 -- ---- where the pointer is
@@ -42,10 +45,10 @@ pub place-forth : (v : El place-code) (samples : List Sample) → place-el (plac
 place-forth v samples = rw (pos-forth (v .0), pos-forth (v .1 .0), vec-forth (v .1 .1 .1 .0))
 
 -- ---- presses and clicks
-pub press-back : (p : Press) (started : Bool) (moved : MaybeF64) → press-of (press-el p started moved) (p .held .pointer-events) ≡ p
-press-back p started moved =
+pub press-back : (p : Press) (started : Bool) (moved : MaybeF64) → CountTrue (p .held .down) → press-of (press-el p started moved) (p .held .pointer-events) ≡ p
+press-back p started moved h =
     rw (
-      buttons-back (p .held .down),
+      buttons-back (p .held .down) h,
       pos-back (p .held .press-origin),
       time-back (p .held .press-start-time),
       boolean-back (p .past .has-moved-too-much-for-a-click),

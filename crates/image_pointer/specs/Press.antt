@@ -4,7 +4,7 @@ use mathlib.Core.Bool.{Bool}
 use mathlib.Core.List.{List}
 use Rattle.data.specs.Bits.{bit-number, bit-of}
 use Rattle.model.specs.Types.{ButtonsDown, PointerEvent, MaybeF64}
-use Rattle.model.specs.Pointer.{Press}
+use Rattle.model.specs.Pointer.{Press, buttons}
 use Rattle.image.specs.Codes.{Code, double, both, group, El}
 use Rattle.image_words.specs.Leaves.{any}
 use Rattle.image_options.specs.Options.{boolean, boolean-of, flags, maybe-pair, maybe-time, maybe-pos-el, maybe-pos-of, maybe-time-el, maybe-time-of}
@@ -18,8 +18,9 @@ unfoldable pub buttons-number : ButtonsDown → ℕ
 buttons-number d =
     bit-number (d .primary) + 2 * bit-number (d .secondary) + 4 * bit-number (d .middle) + 8 * bit-number (d .extra1) + 16 * bit-number (d .extra2)
 
+-- 02 A.7: their number is not among the words
 unfoldable pub buttons-of : ℕ → ButtonsDown
-buttons-of w = record { primary = bit-of 1 w; secondary = bit-of 2 w; middle = bit-of 4 w; extra1 = bit-of 8 w; extra2 = bit-of 16 w }
+buttons-of w = buttons (bit-of 1 w) (bit-of 2 w) (bit-of 4 w) (bit-of 8 w) (bit-of 16 w)
 
 -- down, press_origin, press_start_time; has_moved_too_much_for_a_click, last_click_pos, last_click_time, last_last_click_time;
 -- started_decidedly_dragging; 02 A.4: last_move_time. Before the first click its time is an infinity

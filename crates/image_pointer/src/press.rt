@@ -21,6 +21,7 @@ use image_words::word_at;
 use image_words::word_bad;
 use pointer_clicks::ClickPast;
 use pointer_clicks::Held;
+use pointer_clicks::buttons;
 use pointer_state::press::Press;
 ghost use mathlib.Core.Path.{_≡_};
 ghost use mathlib.Core.List.{List};
@@ -70,16 +71,16 @@ fn buttons_number(d: ButtonsDown) -> u32
     primary + 2 * secondary + 4 * middle + 8 * extra1 + 16 * extra2
 }
 
-fn buttons(w: u32) -> ButtonsDown
+// Their number is worked out.
+fn buttons_of(w: u32) -> ButtonsDown
     ensures { λ r. ⌜ r ≡ buttons-of w ⌝ }
 {
-    ButtonsDown {
-        primary: w / 1 % 2 == 1,
-        secondary: w / 2 % 2 == 1,
-        middle: w / 4 % 2 == 1,
-        extra1: w / 8 % 2 == 1,
-        extra2: w / 16 % 2 == 1,
-    }
+    let primary = w / 1 % 2 == 1;
+    let secondary = w / 2 % 2 == 1;
+    let middle = w / 4 % 2 == 1;
+    let extra1 = w / 8 % 2 == 1;
+    let extra2 = w / 16 % 2 == 1;
+    buttons(primary, secondary, middle, extra1, extra2)
 }
 
 pub fn press_words(p: Press, started: bool, moved: MaybeF64) -> [u32; 20]
@@ -143,7 +144,7 @@ pub fn press_bad(words: &[u32]) -> MaybeIndex
 pub fn press_at(words: &[u32], event_count: usize) -> Press
     ensures { λ r. ⌜ ((codes : List ℕ) (places : List Float) → press codes places r ≡ press-of (value-at press-code (now (words .entry)) press-place) (events codes places «event_count»)) ⌝ }
 {
-    let down = buttons(word_at(words, DOWN));
+    let down = buttons_of(word_at(words, DOWN));
     let press_origin = maybe_pos_at(words, PRESS_ORIGIN);
     let press_start_time = maybe_time_at(words, PRESS_START_TIME);
     let last_click_pos = maybe_pos_at(words, LAST_CLICK_POS);

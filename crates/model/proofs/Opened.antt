@@ -97,7 +97,7 @@ unfolding model-Pass.no-keys model-Pass.no-presses model-Pass.no-interaction mod
 model-pass = Type 0
 
 unfoldable pub model-pointer : Type 1
-unfolding model-Pointer.unwrap-or-default model-Pointer.zero-motion model-Pointer.add-motion model-Pointer.with-place model-Pointer.place-event model-Pointer.place-events model-Pointer.clear-history-after model-Pointer.start-place model-Pointer.delta-of model-Pointer.add-latest model-Pointer.velocity-of model-Pointer.finish-place model-Pointer.end-place model-Pointer.place-pass model-Pointer.no-buttons model-Pointer.set-down model-Pointer.button-down model-Pointer.any-down model-Pointer.is-press model-Pointer.is-release model-Pointer.is-click model-Pointer.is-move model-Pointer.any model-Pointer.move-time model-Pointer.press-too-long model-Pointer.could-any-button-be-click model-Pointer.is-decidedly-dragging model-Pointer.is-long-press model-Pointer.near model-Pointer.count-of model-Pointer.click-count model-Pointer.too-far model-Pointer.add-event model-Pointer.press-button model-Pointer.release-button model-Pointer.with-moved model-Pointer.remember-click model-Pointer.click-of model-Pointer.release model-Pointer.press-event model-Pointer.press-events model-Pointer.clear-events model-Pointer.press-pass
+unfolding model-Pointer.unwrap-or-default model-Pointer.zero-motion model-Pointer.add-motion model-Pointer.with-place model-Pointer.place-event model-Pointer.place-events model-Pointer.clear-history-after model-Pointer.start-place model-Pointer.delta-of model-Pointer.add-latest model-Pointer.velocity-of model-Pointer.finish-place model-Pointer.end-place model-Pointer.place-pass model-Pointer.no-buttons model-Pointer.recount model-Pointer.set-down model-Pointer.button-down model-Pointer.any-down model-Pointer.any-flag model-Pointer.flags-down model-Pointer.buttons model-Pointer.is-press model-Pointer.is-release model-Pointer.is-click model-Pointer.is-move model-Pointer.any model-Pointer.move-time model-Pointer.press-too-long model-Pointer.could-any-button-be-click model-Pointer.is-decidedly-dragging model-Pointer.is-long-press model-Pointer.near model-Pointer.count-of model-Pointer.click-count model-Pointer.too-far model-Pointer.add-event model-Pointer.press-button model-Pointer.release-button model-Pointer.with-moved model-Pointer.remember-click model-Pointer.click-of model-Pointer.release model-Pointer.press-event model-Pointer.press-events model-Pointer.clear-events model-Pointer.press-pass
 model-pointer = Type 0
 
 unfoldable pub model-questions : Type 1

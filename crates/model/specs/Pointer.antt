@@ -1,11 +1,14 @@
 -- PointerState of input_state/mod.rs, in three records: where the pointer is (`Place`), which buttons are down and what happened in the pass (`Held`),
 -- and what presses and clicks leave behind (`ClickPast`). Definitions only.
-use Prim.Native.Nat.{ℕ, suc}
+use Prim.Native.Nat.{ℕ, suc, _+_, _-_}
+use mathlib.Core.Path.{_≡_}
 use mathlib.Core.Bool.{Bool, true, false, not, _&&_, _||_, cond}
 use mathlib.Core.List.{List, [], _∷_, _++_}
-use lib.Dec.{leb, eqb}
+use lib.Dec.{leb, ltb, eqb}
 use lib.ListN.{length}
 use lib.Ieee.{Float, binary32, binary64, sub, mul, lt}
+use Rattle.data.specs.Bits.{bit-number}
+use Rattle.data.specs.Limits.{button-count}
 use Rattle.emath.specs.Vec.{vec-zero, vec-add, pos-sub, vec-ne, distance, distance-sq, normalized}
 use Rattle.emath.specs.History.{Sample, flush, add, duration, velocity}
 use Rattle.model.specs.Numbers.{+0, hundredth}
@@ -135,15 +138,22 @@ pub record Press : Type 0 where
   pub past : ClickPast
 
 unfoldable pub no-buttons : ButtonsDown
-no-buttons = record { primary = false; secondary = false; middle = false; extra1 = false; extra2 = false }
+no-buttons = record { primary = false; secondary = false; middle = false; extra1 = false; extra2 = false; count = 0 }
+
+-- 02 A.7: the number of buttons down after one that `was` down or up is set to v. At 5 or over a press leaves it, and at 0 a release
+unfoldable pub recount : Bool → Bool → ℕ → ℕ
+recount false true n = cond (ltb n button-count) (suc n) n
+recount true false n = n - 1
+recount true true n = n
+recount false false n = n
 
 -- `down[button] = pressed`
 unfoldable pub set-down : PointerButton → Bool → ButtonsDown → ButtonsDown
-set-down Primary v d = record { primary = v; secondary = d .secondary; middle = d .middle; extra1 = d .extra1; extra2 = d .extra2 }
-set-down Secondary v d = record { primary = d .primary; secondary = v; middle = d .middle; extra1 = d .extra1; extra2 = d .extra2 }
-set-down Middle v d = record { primary = d .primary; secondary = d .secondary; middle = v; extra1 = d .extra1; extra2 = d .extra2 }
-set-down Extra1 v d = record { primary = d .primary; secondary = d .secondary; middle = d .middle; extra1 = v; extra2 = d .extra2 }
-set-down Extra2 v d = record { primary = d .primary; secondary = d .secondary; middle = d .middle; extra1 = d .extra1; extra2 = v }
+set-down Primary v d = record { primary = v; secondary = d .secondary; middle = d .middle; extra1 = d .extra1; extra2 = d .extra2; count = recount (d .primary) v (d .count) }
+set-down Secondary v d = record { primary = d .primary; secondary = v; middle = d .middle; extra1 = d .extra1; extra2 = d .extra2; count = recount (d .secondary) v (d .count) }
+set-down Middle v d = record { primary = d .primary; secondary = d .secondary; middle = v; extra1 = d .extra1; extra2 = d .extra2; count = recount (d .middle) v (d .count) }
+set-down Extra1 v d = record { primary = d .primary; secondary = d .secondary; middle = d .middle; extra1 = v; extra2 = d .extra2; count = recount (d .extra1) v (d .count) }
+set-down Extra2 v d = record { primary = d .primary; secondary = d .secondary; middle = d .middle; extra1 = d .extra1; extra2 = v; count = recount (d .extra2) v (d .count) }
 
 -- `button_down`
 unfoldable pub button-down : PointerButton → ButtonsDown → Bool
@@ -153,9 +163,28 @@ button-down Middle d = d .middle
 button-down Extra1 d = d .extra1
 button-down Extra2 d = d .extra2
 
--- `any_down`
+-- `any_down`. 02 A.7: "a release event shall scan no flags to ask whether any button is down"
 unfoldable pub any-down : ButtonsDown → Bool
-any-down d = d .primary || d .secondary || d .middle || d .extra1 || d .extra2
+any-down d = ltb 0 (d .count)
+
+-- egui's own: `self.down.iter().any(|&down| down)`
+unfoldable pub any-flag : ButtonsDown → Bool
+any-flag d = d .primary || d .secondary || d .middle || d .extra1 || d .extra2
+
+-- how many of five flags are set
+abbrev pub how-many : Bool → Bool → Bool → Bool → Bool → ℕ
+how-many a b c d e = bit-number a + bit-number b + bit-number c + bit-number d + bit-number e
+
+unfoldable pub flags-down : ButtonsDown → ℕ
+flags-down d = how-many (d .primary) (d .secondary) (d .middle) (d .extra1) (d .extra2)
+
+-- the number is that of the flags
+abbrev pub CountTrue : ButtonsDown → Type 0
+CountTrue d = d .count ≡ flags-down d
+
+-- 02 A.7: "The image doesn't hold it; reading works it out"
+unfoldable pub buttons : Bool → Bool → Bool → Bool → Bool → ButtonsDown
+buttons a b c d e = record { primary = a; secondary = b; middle = c; extra1 = d; extra2 = e; count = how-many a b c d e }
 
 -- `is_press`, `is_release`, `is_click`, and `PointerEvent::Moved`
 unfoldable pub is-press : PointerEvent → Bool

@@ -1,4 +1,6 @@
 // Which buttons are down, what presses and clicks leave behind, and what is judged by them: clicks and drags.
+use data::bits::bit_number;
+use data::limits::BUTTON_COUNT;
 use data::modifiers::Modifiers;
 use data::options::InputOptions;
 use data::pointer::ButtonsDown;
@@ -18,7 +20,7 @@ ghost use mathlib.Core.List.{List};
 ghost use Prim.Native.Nat.{ℕ};
 ghost use lib.Ieee.{Float, lt};
 ghost use Rattle.emath.specs.Vec.{length};
-ghost use Rattle.model.specs.Pointer.{set-down, button-down, any-down, press-too-long, near, click-count, too-far, click-of, remember-click};
+ghost use Rattle.model.specs.Pointer.{recount, set-down, button-down, any-down, buttons, press-too-long, near, click-count, too-far, click-of, remember-click};
 ghost use Rattle.model.specs.Pointer.{could-any-button-be-click, is-decidedly-dragging, clear-events, move-time};
 ghost use Rattle.pointer_clicks.specs.View.{held, past};
 
@@ -37,10 +39,31 @@ pub struct ClickPast {
     pub last_last_click_time: f64,
 }
 
+// How many buttons are down after one that was down or up is set. A number that no operation gave can be wrong; it doesn't wrap.
+fn recount(count: u8, was: bool, pressed: bool) -> u8
+    ensures { λ r. ⌜ r ≡ recount was pressed count ⌝ }
+{
+    if pressed {
+        if !was {
+            if (count as u32) < BUTTON_COUNT {
+                return count + 1;
+            }
+        }
+        return count;
+    }
+    if was {
+        if 0 < count {
+            return count - 1;
+        }
+    }
+    count
+}
+
 pub fn set_down(down: ButtonsDown, button: PointerButton, pressed: bool) -> ButtonsDown
     ensures { λ r. ⌜ r ≡ set-down button pressed down ⌝ }
 {
     let mut d = down;
+    d.count = recount(down.count, button_down(down, button), pressed);
     match button {
         PointerButton::Primary => {
             d.primary = pressed;
@@ -80,7 +103,29 @@ pub fn button_down(down: ButtonsDown, button: PointerButton) -> bool
 pub fn any_down(down: ButtonsDown) -> bool
     ensures { λ r. ⌜ r ≡ any-down down ⌝ }
 {
-    down.primary | down.secondary | down.middle | down.extra1 | down.extra2
+    0 < down.count
+}
+
+// Five flags with their number.
+pub fn buttons(
+    primary: bool,
+    secondary: bool,
+    middle: bool,
+    extra1: bool,
+    extra2: bool,
+) -> ButtonsDown
+    ensures { λ r. ⌜ r ≡ buttons primary secondary middle extra1 extra2 ⌝ }
+{
+    let left = bit_number(primary) + bit_number(secondary) + bit_number(middle);
+    let count = left + bit_number(extra1) + bit_number(extra2);
+    ButtonsDown {
+        primary,
+        secondary,
+        middle,
+        extra1,
+        extra2,
+        count: count as u8,
+    }
 }
 
 // Is the press older than max_click_duration.

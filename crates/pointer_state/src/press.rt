@@ -43,6 +43,7 @@ impl Press {
             middle: false,
             extra1: false,
             extra2: false,
+            count: 0,
         };
         let held = Held {
             down,

@@ -146,7 +146,7 @@ module _ (c : PassInput) (tc : Float) (rect : Rect) (r : Rest) where
         record {
           own = with-tally (tally-after s (p₁ .tally)) w;
           is =
-              interacted p₁ p₂ w (p .interaction) x s (t .is ∙ pass-clears p c tc rect es r gives-time gives-rect feed)
+              interacted p₁ p₂ w (p .interaction) x s (t .is ∙ pass-clears p c tc rect es r gives-time gives-rect feed (reached .count-true))
               (nothing-left (seen (cleared-panel c tc rect r w (p .interaction))) x (p .interaction) ends) i;
           no-press = ap (any is-press) events-of-releases ∙ releases-no-press (c .options) now r (p .press);
           last-click = subst (λ (z : Float). NotAfter z (w .past .last-click-time)) time-is (subst (λ (z : Panel). NotAfter (z .clock .time) (z .press .past .last-click-time)) (t .is) (reached₁ .last-click));

@@ -13,7 +13,7 @@ use Rattle.data.specs.Modifiers.{no-modifiers}
 use Rattle.model.specs.Numbers.{+0, one}
 use Rattle.model.specs.Types.{Vec2, Rect, InputOptions, MaybePos2, no-pos, some-pos, MaybeVec2, no-vec, some-vec, MaybeF64, no-time, PointerEvent, WheelState, End, ActiveTouch, Event, WindowFocused}
 use Rattle.model.specs.Pointer.{Place, unwrap-or-default, zero-motion, add-motion, with-place, place-event, place-events, clear-history-after, start-place, delta-of, finish-place, end-place, place-pass}
-use Rattle.model.specs.Pointer.{ClickPast, Press, no-buttons, set-down, release-button, release, press-event, press-events, clear-events, press-pass}
+use Rattle.model.specs.Pointer.{CountTrue, ClickPast, Press, no-buttons, release-button, release, press-event, press-events, clear-events, press-pass}
 use Rattle.model.specs.Touch.{TouchState, remove-touch, on-touch, new-device, touch-device, at-device, some-touch, calc-dynamic-state, update-gesture, forget-previous-if, touch-event, touch-events, end-device, end-touches, touch-pass}
 use Rattle.model.specs.Wheel.{on-phase, on-wheel-event, wheel-event, wheel-events, stopped-wheel, after-events, clear-smooth, wheel-pass}
 use Rattle.model.specs.Pass.{Panel, PassInput, Keys, Interaction, Tally, fresh, pass-events, key-event, key-events, is-empty, keys-pass, zoom-event, zoom-of, rotation-event, rotation-of, sums-of, time-or, time-of, rect-or, clock-pass, screen-pass, begin-pass}
@@ -21,6 +21,7 @@ use Rattle.theorems.specs.Clearing.{TouchEnd, end-event, is-ended, EndsT
 use Rattle.model.proofs.Ids.{eqb-no, eqb-yes, less, equal, more, order, above-down}
 use Rattle.model.specs.Touch.{device-id-of}
 use Rattle.model.proofs.InOrder.{Ascend, AboveAll, at-less, at-same, at-more, event-ascending}
+use Rattle.theorems.proofs.Counts.{all-up-is}
 use Rattle.theorems.proofs.Devices.{has-gesture, is-live, live, live-no}
 
 -- ---- the Ends change nothing but touches
@@ -153,19 +154,21 @@ place-clears time es r l =
     rw (history-ends es (rest-events r), place-ends es (rest-events r)) in
     e ∙ place-rest time r l ∙ ap (λ (z : Place). cleared-place r (z .velocity)) (sym e)
 
-press-rest : (o : InputOptions) (time : Float) (r : Rest) (s : Press)
+press-rest : (o : InputOptions) (time : Float) (r : Rest) (s : Press) → CountTrue (s .held .down)
     → press-events o time (rest-events r) s ≡ cleared-press (press-events o time (rest-events r) s .held .pointer-events) (press-events o time (rest-events r) s .past)
-unfolding press-events press-event release release-button set-down no-buttons
-press-rest o time r s = refl
+unfolding press-events press-event release release-button
+press-rest o time r s h =
+    let z = press-events o time (rest-events r) s in
+    λ j. record { held = record { down = all-up-is (s .held .down) h j; press-origin = no-pos; press-start-time = no-time; pointer-events = z .held .pointer-events }; past = z .past }
 
-press-clears : (o : InputOptions) (time : Float) (es : List TouchEnd) (r : Rest) (s : Press)
+press-clears : (o : InputOptions) (time : Float) (es : List TouchEnd) (r : Rest) (s : Press) → CountTrue (s .held .down)
     → press-pass o time (ends-then es (rest-events r)) s
     ≡ cleared-press (press-pass o time (ends-then es (rest-events r)) s .held .pointer-events) (press-pass o time (ends-then es (rest-events r)) s .past)
-unfolding press-pass
-press-clears o time es r s =
+unfolding press-pass clear-events
+press-clears o time es r s h =
     let u : Press = record { held = clear-events (s .held); past = s .past } in
     let e : press-pass o time (ends-then es (rest-events r)) s ≡ press-events o time (rest-events r) u = press-ends o time es (rest-events r) u in
-    e ∙ press-rest o time r u ∙ ap (λ (z : Press). cleared-press (z .held .pointer-events) (z .past)) (sym e)
+    e ∙ press-rest o time r u h ∙ ap (λ (z : Press). cleared-press (z .held .pointer-events) (z .past)) (sym e)
 
 wheel-clears : (c : PassInput) (rect : Rect) (time : Float) (es : List TouchEnd) (r : Rest) (w : WheelState)
     → wheel-pass rect (c .options) time (c .smoothing-factor) (ends-then es (rest-events r)) w ≡ cleared-wheel c time r
@@ -218,9 +221,9 @@ module _ (p : Panel) (c : PassInput) (tc : Float) (rect : Rect) (es : List Touch
   unfolding begin-pass
   place-cleared = rw feed (place-clears (time-of c (p .clock .time)) es r (p .place))
 
-  press-cleared : begin-pass p c .press ≡ cleared-press (begin-pass p c .press .held .pointer-events) (begin-pass p c .press .past)
+  press-cleared : CountTrue (p .press .held .down) → begin-pass p c .press ≡ cleared-press (begin-pass p c .press .held .pointer-events) (begin-pass p c .press .past)
   unfolding begin-pass
-  press-cleared = rw feed (press-clears (c .options) (time-of c (p .clock .time)) es r (p .press))
+  press-cleared h = rw feed (press-clears (c .options) (time-of c (p .clock .time)) es r (p .press) h)
 
   wheel-cleared : begin-pass p c .wheel ≡ cleared-wheel c tc r
   unfolding begin-pass
@@ -234,14 +237,14 @@ module _ (p : Panel) (c : PassInput) (tc : Float) (rect : Rect) (es : List Touch
   unfolding begin-pass
   sums-cleared = ap (λ (z : WheelState). sums-of (c .options) (pass-events c) z) wheel-cleared ∙ rw feed (sums-clear (c .options) es r (cleared-wheel c tc r))
 
-  pub pass-clears : begin-pass p c ≡ cleared-panel c tc rect r (undecided-of (begin-pass p c)) (p .interaction)
+  pub pass-clears : CountTrue (p .press .held .down) → begin-pass p c ≡ cleared-panel c tc rect r (undecided-of (begin-pass p c)) (p .interaction)
   unfolding cleared-panel undecided-of begin-pass clock-pass screen-pass
-  pass-clears = λ j.
+  pass-clears h = λ j.
       record {
         clock = record { time = time-is j; pointer-time = time-is j; unstable-dt = begin-pass p c .clock .unstable-dt; stable-dt = begin-pass p c .clock .stable-dt; predicted-dt = c .predicted-dt };
         screen = record { viewport-rect = rect-is j; pixels-per-point = c .pixels-per-point; focused = c .focused; options = c .options };
         place = place-cleared j;
-        press = press-cleared j;
+        press = press-cleared h j;
         started-decidedly-dragging = begin-pass p c .started-decidedly-dragging;
         last-move-time = begin-pass p c .last-move-time;
         touch-states = begin-pass p c .touch-states;

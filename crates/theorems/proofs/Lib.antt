@@ -5,6 +5,7 @@ mod TouchLimits
 mod Taken
 mod Times
 mod Pointer
+pub mod Counts
 pub mod Reach
 mod Trace
 mod Agreeing

@@ -1,6 +1,6 @@
 -- What holds of every panel reached: an invariant of each call. Assumes nothing.
 use Prim.Native.Nat.{_+_}
-use mathlib.Core.Path.{_≡_, refl, sym, subst}
+use mathlib.Core.Path.{_≡_, refl, sym, ap, subst}
 use mathlib.Core.Bool.{Bool, true, false, _&&_, _||_, cond}
 use mathlib.Core.List.{List, [], _∷_}
 use lib.Dec.{T, not-T}
@@ -16,13 +16,14 @@ use Rattle.data.specs.Limits.{max-events, zero32, one32, within32, time-ok, uni
 use Rattle.feed.specs.Decode.{items}
 use Rattle.model.specs.Numbers.{+0}
 use Rattle.model.specs.Types.{Pos2, InputOptions, Event, MaybeF64, some-time}
-use Rattle.model.specs.Pointer.{ClickPast, Press, any, is-move, move-time, could-any-button-be-click, with-moved, remember-click, release, press-event, press-events, clear-events, press-pass}
+use Rattle.model.specs.Pointer.{no-buttons, flags-down, ClickPast, Press, any, is-move, move-time, could-any-button-be-click, with-moved, remember-click, release, press-event, press-events, clear-events, press-pass}
 use Rattle.model.specs.Pass.{Panel, Clock, PassInput, fresh, fresh-press, begin-pass, clock-pass, pass-events, time-or, time-of}
 use Rattle.model.specs.Interact.{InteractInput, InteractionSnapshot, with-interaction}
 use Rattle.model.specs.Calls.{Call, Outcome, call, after, run}
-use Rattle.model.specs.Questions.{maybe-number, since, ask}
-use Rattle.theorems.specs.Reach.{NotAfter, never, by, LastMove, no-move, move-by, Reached, Reach, FromZero, no-seconds, seconds, RestedFromZero, TimeNeverFalls, AbsentTimeNeverBelow}
+use Rattle.model.specs.Questions.{bool, maybe-number, since, ask, reply, shown}
+use Rattle.theorems.specs.Reach.{NotAfter, never, by, LastMove, no-move, move-by, Reached, Reach, FromZero, no-seconds, seconds, RestedFromZero, AnyDownIsEguis, TimeNeverFalls, AbsentTimeNeverBelow}
 use Rattle.theorems.proofs.Pointer.{PointerView, a-move, a-press, a-release, nothing, pointer-view}
+use Rattle.theorems.proofs.Counts.{count-laws, events-count}
 use Rattle.theorems.proofs.Times.{time-in-range, +0-time-ok, not-after-later}
 use Rattle.model.proofs.InOrder.{none-in-order}
 use Rattle.theorems.proofs.TouchLimits.{touch-pass-in-order}
@@ -60,7 +61,7 @@ pub pass-later : (p : Panel) (i : PassInput) (q : Panel) → Reached p → Taken
 pass-later p i q r t = not-lt-le (time-of i (p .clock .time)) (p .clock .time) (time-in-range (time-of i (p .clock .time)) (t .in-domain) .is-finite) (r .time-finite) (t .not-before)
 
 pub pass-reaches : (p : Panel) (i : PassInput) (q : Panel) → Reached p → Taken p i q → Reached q
-unfolding begin-pass clock-pass press-pass pass-events move-time
+unfolding begin-pass clock-pass press-pass pass-events clear-events move-time
 pass-reaches p i q r t =
     let now = time-of i (p .clock .time) in
     let es = pass-events i in
@@ -71,6 +72,7 @@ pass-reaches p i q r t =
       time-in-domain = t .in-domain;
       last-click = events-not-after (i .options) now es (record { held = clear-events (p .press .held); past = p .press .past }) (by f (le-refl now f)) (not-after-later (p .clock .time) now (p .press .past .last-click-time) (pass-later p i q r t) (r .last-click));
       last-move = pass-moved (p .clock) (clock-pass i now (p .clock)) (any is-move (begin-pass p i .press .held .pointer-events) || vec-ne (begin-pass p i .place .velocity) vec-zero) (p .last-move-time) (t .in-domain) refl (pass-later p i q r t) (r .last-move);
+      count-true = events-count (i .options) now es (record { held = clear-events (p .press .held); past = p .press .past }) (r .count-true);
       devices = touch-pass-in-order now (p .place .interact-pos) max-events (items (i .feed)) (p .touch-states) (r .devices) (t .surveyed);
     } in
     subst (λ (x : Panel). Reached x) (sym (t .is)) z
@@ -79,7 +81,7 @@ pub interact-reaches : (p : Panel) (x : InteractInput) (s : InteractionSnapshot)
 unfolding with-interaction
 interact-reaches p x s q r t =
     subst (λ (z : Panel). Reached z) (sym (t .is))
-    (record { time-finite = r .time-finite; time-in-domain = r .time-in-domain; last-click = r .last-click; last-move = r .last-move; devices = r .devices })
+    (record { time-finite = r .time-finite; time-in-domain = r .time-in-domain; last-click = r .last-click; last-move = r .last-move; count-true = r .count-true; devices = r .devices })
 
 call-reaches : (p : Panel) (c : Call) → Reached p → Reached (after p (call p c))
 unfolding after
@@ -98,8 +100,8 @@ run-reaches p [] r = r
 run-reaches p (c ∷ cs) r = run-reaches (after p (call p c)) cs (call-reaches p c r)
 
 pub reach : Reach
-unfolding fresh fresh-press
-reach cs = run-reaches fresh cs (record { time-finite = tt; time-in-domain = +0-time-ok; last-click = never refl; last-move = no-move; devices = none-in-order })
+unfolding fresh fresh-press no-buttons flags-down
+reach cs = run-reaches fresh cs (record { time-finite = tt; time-in-domain = +0-time-ok; last-click = never refl; last-move = no-move; count-true = refl; devices = none-in-order })
 
 -- ---- the seconds since the last movement
 +0-fits : T (fits binary32 +0)
@@ -117,6 +119,11 @@ rested c l t (move-by at k h e) =
 pub rested-from-zero : RestedFromZero
 unfolding ask
 rested-from-zero cs = let p = run fresh cs in rested (p .clock) (p .last-move-time) (reach cs .time-in-domain) (reach cs .last-move)
+
+-- ---- any_down
+pub any-down-is-egui's : AnyDownIsEguis
+unfolding ask reply shown
+any-down-is-egui's cs = ap bool (count-laws .scans (run fresh cs .press .held .down) (reach cs .count-true))
 
 -- ---- time never falls
 call-later : (p : Panel) (c : Call) → Reached p → T (le (p .clock .time) (after p (call p c) .clock .time))

@@ -1,6 +1,6 @@
 -- What holds of every panel that a list of calls reaches from the fresh one. Definitions only.
 use mathlib.Core.Path.{_≡_}
-use mathlib.Core.Bool.{not}
+use mathlib.Core.Bool.{Bool, not}
 use mathlib.Core.Option.{none}
 use mathlib.Core.List.{List}
 use lib.Dec.{T}
@@ -8,10 +8,12 @@ use lib.Ieee.{Float, lt, le}
 use lib.Ieee.Scale.{finite}
 use Rattle.data.specs.Limits.{time-ok, unit-interval-ok}
 use Rattle.model.specs.Numbers.{+0, neg-infinity}
-use Rattle.model.specs.Types.{MaybeF64, no-time, some-time, no-number, some-number}
+use Rattle.model.specs.Types.{ButtonsDown, PointerButton, MaybeF64, no-time, some-time, no-number, some-number}
+use Rattle.model.specs.Pointer.{no-buttons, set-down, buttons, any-flag, CountTrue}
+use Rattle.model.specs.Pointer as Pointer
 use Rattle.model.specs.Touch.{InOrder}
 use Rattle.model.specs.Pass.{Panel, Clock, PassInput, fresh, time-of}
-use Rattle.model.specs.Questions.{Reply, maybe-number, time-since-last-movement, ask}
+use Rattle.model.specs.Questions.{Reply, bool, maybe-number, settled, any-down, time-since-last-movement, ask}
 use Rattle.model.specs.Calls.{Call, run}
 
 -- a click's time: never, or not later than now
@@ -24,6 +26,14 @@ pub data LastMove (c : Clock) : MaybeF64 → Type 0 where
   no-move : LastMove c no-time
   move-by : (t : Float) → T (time-ok t) → T (le t (c .time)) → c .pointer-time ≡ c .time → LastMove c (some-time t)
 
+-- 02 A.7: "Press of a button already down and release of one already up must leave it true"; and where it is true, `any_down` is egui's scan of the flags
+pub record CountLaws : Type 0 where
+  pub none-down : CountTrue no-buttons
+  pub kept : (b : PointerButton) (v : Bool) (d : ButtonsDown) → CountTrue d → CountTrue (set-down b v d)
+  pub scans : (d : ButtonsDown) → CountTrue d → Pointer.any-down d ≡ any-flag d
+  -- what reading an image makes
+  pub made : (primary secondary middle extra1 extra2 : Bool) → CountTrue (buttons primary secondary middle extra1 extra2)
+
 pub record Reached (p : Panel) : Type 0 where
   -- InputState's time is finite and in 01's domain: "Time 0 to 4,294,967,296 s"
   pub time-finite : T (finite (p .clock .time))
@@ -32,12 +42,18 @@ pub record Reached (p : Panel) : Type 0 where
   pub last-click : NotAfter (p .clock .time) (p .press .past .last-click-time)
   -- and so the last movement
   pub last-move : LastMove (p .clock) (p .last-move-time)
+  -- the number of buttons down is that of the flags
+  pub count-true : CountTrue (p .press .held .down)
   -- touches and devices go by ascending id and are within 01's limits
   pub devices : InOrder (p .touch-states)
 
 -- for every list of passes and interacts from a fresh panel, refused ones included
 abbrev pub Reach : Type 0
 Reach = (calls : List Call) → Reached (run fresh calls)
+
+-- 02 A.7: so `any_down`, which reads the number, answers as egui's scan of the flags does
+abbrev pub AnyDownIsEguis : Type 0
+AnyDownIsEguis = (calls : List Call) → ask (settled any-down) (run fresh calls) ≡ bool (any-flag (run fresh calls .press .held .down))
 
 -- an answer in seconds: none, or at least 0 and so a number
 pub data FromZero : Reply → Type 0 where

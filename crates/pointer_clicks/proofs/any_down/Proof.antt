@@ -1,4 +1,4 @@
--- Each way to a return is the case of the definition that its tests pick. Assumes nothing.
+-- The number is above 0. Assumes nothing.
 use mathlib.Core.Path.{refl}
 use Rattle.model.specs.Pointer.{any-down}
 use Rattle.pointer_clicks.proofs.any_down.Statement.{statement}
