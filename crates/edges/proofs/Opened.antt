@@ -1,4 +1,5 @@
 -- Written by compare/vectors/opened.py: the definitions that a theorem evaluates. One that says `unfolding opened` computes with all of them.
+use Rattle.edges.specs.ButtonEdges as edges-ButtonEdges
 use Rattle.edges.specs.Cases as edges-Cases
 use Rattle.edges.specs.InteractEdges as edges-InteractEdges
 use Rattle.edges.specs.Needed as edges-Needed
@@ -7,6 +8,10 @@ use Rattle.edges.specs.RimEdges as edges-RimEdges
 use Rattle.edges.specs.Steps as edges-Steps
 use Rattle.edges.specs.Words as edges-Words
 use Rattle.model.proofs.Opened as Model
+
+unfoldable pub edges-buttonedges : Type 1
+unfolding edges-ButtonEdges.pressed edges-ButtonEdges.released edges-ButtonEdges.counts edges-ButtonEdges.again edges-ButtonEdges.never-pressed edges-ButtonEdges.five-cleared edges-ButtonEdges.one-button-64-times edges-ButtonEdges.button-edges
+edges-buttonedges = Type 0
 
 unfoldable pub edges-cases : Type 1
 unfolding edges-Cases.dec edges-Cases.pos edges-Cases.vec edges-Cases.options edges-Cases.click-distance edges-Cases.click-duration edges-Cases.delay edges-Cases.given edges-Cases.pass-at edges-Cases.at edges-Cases.press edges-Cases.release edges-Cases.clicks edges-Cases.click edges-Cases.held edges-Cases.point edges-Cases.finger-starts edges-Cases.finger-moves edges-Cases.moved-by-distance edges-Cases.clicked-by-distance edges-Cases.delay-over edges-Cases.within-delay edges-Cases.within-duration edges-Cases.duration-over edges-Cases.smoothed edges-Cases.smooth-by-itself edges-Cases.finger-rests edges-Cases.finger-gone edges-Cases.smoothing-lasts edges-Cases.smoothing-ends edges-Cases.pinched edges-Cases.proportional edges-Cases.widget edges-Cases.on-it edges-Cases.dragged-on edges-Cases.coincident edges-Cases.lone-release edges-Cases.second-release edges-Cases.moved-to-top edges-Cases.start edges-Cases.cases
@@ -37,5 +42,5 @@ unfolding edges-Words.same edges-Words.float-words edges-Words.present edges-Wor
 edges-words = Type 0
 
 unfoldable pub opened : Type 1
-unfolding edges-cases edges-interactedges edges-needed edges-passedges edges-rimedges edges-steps edges-words Model.opened
+unfolding edges-buttonedges edges-cases edges-interactedges edges-needed edges-passedges edges-rimedges edges-steps edges-words Model.opened
 opened = Type 0

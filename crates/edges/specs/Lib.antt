@@ -4,5 +4,6 @@ pub mod Cases
 pub mod PassEdges
 pub mod RimEdges
 pub mod InteractEdges
-pub mod Table
 pub mod Needed
+pub mod ButtonEdges
+pub mod Table

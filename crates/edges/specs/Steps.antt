@@ -35,6 +35,8 @@ pub data Step : Type 0 where
   replies : Question → Reply → Step
   -- the wheel's unprocessed delta, which no question shows
   unprocessed : Vec2 → Step
+  -- how many buttons are down, which no question shows
+  are-down : ℕ → Step
   -- an interact that is taken, and what it answers of drags; and the whole of its answer
   interacts : InteractInput → Drags → Step
   snapshots : InteractInput → InteractionSnapshot → Step
@@ -122,6 +124,7 @@ step s (refuses-pass i r) = if-pass-refused s r (pass (s .panel) i)
 step s (answers q r) = kept-if (is-reply (settled q) r (s .panel)) s
 step s (replies q r) = kept-if (is-reply q r (s .panel)) s
 step s (unprocessed v) = kept-if (same (vec-words (s .panel .wheel .«unprocessed_wheel_delta»)) (vec-words v)) s
+step s (are-down n) = kept-if (eqb n (s .panel .press .held .down .count)) s
 step s (interacts x d) = if-drags s d (interact (s .panel) x)
 step s (snapshots x a) = if-answered s a (interact (s .panel) x)
 step s (refuses-interact x r) = if-interact-refused s r (interact (s .panel) x)
