@@ -6,15 +6,16 @@ use Rattle.model.specs.Types.{PointerEvent}
 use Rattle.model.specs.Pass.{Panel, fresh}
 use Rattle.model.specs.Calls.{run}
 use Rattle.model.specs.Questions as Q
-use Rattle.model.specs.Questions.{Question, settled, Reply, events, ask, reply, shown}
+use Rattle.model.specs.Questions.{Question, settled, Reply, bool, events, ask, reply, shown}
 use Rattle.pointer_events.specs.Events.{event-or-none}
 use Rattle.theorems.specs.Reach.{FromZero}
+use Rattle.theorems.proofs.Counts.{count-laws}
 use Rattle.theorems.proofs.Reach.{rested-from-zero}
 use Rattle.histories.specs.History.{Running, shows}
 use Rattle.histories.specs.Asked.{Reads, by-clock, by-screen, by-sums, by-wheel, by-devices, by-interaction, by-keys, by-presses, by-place, by-events, by-press}
 use Rattle.histories.specs.Asked.{by-wheel-at, by-click-past, by-last-move, by-gesture, by-gesture-by-axis, by-place-and-press, by-pressing, by-long-press, by-long-touch, by-waiting, by-tally, by-event-list}
-use Rattle.histories.specs.Asked.{reads, ReadsEvents, ensured, EveryAnswerIsTheModels, HistoriesAnswer, HistoriesRested}
-use Rattle.histories.proofs.History.{run-from-fresh}
+use Rattle.histories.specs.Asked.{reads, ReadsEvents, ensured, EveryAnswerIsTheModels, HistoriesAnswer, HistoriesRested, HistoriesAnyDown}
+use Rattle.histories.proofs.History.{run-from-fresh, histories-reach}
 
 -- two lists of events with the same event, or none, at each place
 same-list : (l m : List PointerEvent) → ((i : ℕ) → event-or-none l i ≡ event-or-none m i) → l ≡ m
@@ -63,3 +64,9 @@ histories-answer x y calls answers start history q a h =
 pub histories-rested : HistoriesRested
 histories-rested x y calls answers start history a h =
     subst (λ (r : Reply). FromZero r) (histories-answer x y calls answers start history Q.time-since-last-movement a h) (rested-from-zero calls)
+
+pub histories-any-down : HistoriesAnyDown
+unfolding ask reply shown
+histories-any-down x y calls answers start history a h =
+    let d = y .panel .input .pointer .press .held .down in
+    sym (every-answer-is-the-models y (settled Q.any-down) a h) ∙ ap bool (count-laws .scans d (histories-reach x y calls answers start history .count-true))

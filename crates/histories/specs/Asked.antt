@@ -5,10 +5,11 @@ use mathlib.Core.Path.{_≡_}
 use mathlib.Core.List.{List}
 use lib.ListN.{length}
 use Rattle.model.specs.Types.{PointerEvent}
+use Rattle.model.specs.Pointer.{any-flag}
 use Rattle.model.specs.Pass.{fresh}
 use Rattle.model.specs.Calls.{Call, Outcome, run}
 use Rattle.model.specs.Questions as ask
-use Rattle.model.specs.Questions.{Settled, Question, settled, Reply, events, ask}
+use Rattle.model.specs.Questions.{Settled, Question, settled, Reply, bool, events, ask}
 use Rattle.pointer_events.specs.Events.{event-or-none}
 use Rattle.panel.specs.Answers.{of-clock, of-screen, of-sums, of-wheel, of-devices, of-interaction, of-keys, of-presses, of-place, of-events, of-press, of-event-count, of-event-at}
 use Rattle.panel.specs.Answers.{of-wheel-at, of-click-past, of-last-move, of-gesture, of-gesture-by-axis, of-place-and-press, of-pressing, of-long-press, of-long-touch, of-waiting, of-tally}
@@ -145,3 +146,9 @@ abbrev pub HistoriesRested : Type 0
 HistoriesRested =
     (x y : Running) (calls : List Call) (answers : List Outcome) → Starts x → History x calls answers y
     → (a : Reply) → Answers y ask.time-since-last-movement a → FromZero a
+
+-- 02 A.7: and `any_down` answers egui's scan of the running panel's flags
+abbrev pub HistoriesAnyDown : Type 0
+HistoriesAnyDown =
+    (x y : Running) (calls : List Call) (answers : List Outcome) → Starts x → History x calls answers y
+    → (a : Reply) → Answers y (settled ask.any-down) a → a ≡ bool (any-flag (y .panel .input .pointer .press .held .down))
