@@ -33,6 +33,11 @@ buttons-back d h =
     ap as-buttons (modifiers-again (as-modifiers d))
     ∙ (λ j. record { primary = d .primary; secondary = d .secondary; middle = d .middle; extra1 = d .extra1; extra2 = d .extra2; count = sym h j })
 
+-- and it is true whatever the word says
+pub buttons-true : (w : ℕ) → CountTrue (buttons-of w)
+unfolding buttons-of buttons flags-down
+buttons-true w = refl
+
 pub buttons-forth : (w : ℕ) → T (upto five-bits w) → buttons-number (buttons-of w) ≡ w
 unfolding buttons-number buttons-of buttons modifiers-number modifiers-of
 buttons-forth w h = modifiers-forth w h

@@ -16,12 +16,12 @@ use Rattle.data.specs.Limits.{max-events, zero32, one32, within32, time-ok, uni
 use Rattle.feed.specs.Decode.{items}
 use Rattle.model.specs.Numbers.{+0}
 use Rattle.model.specs.Types.{Pos2, InputOptions, Event, MaybeF64, some-time}
-use Rattle.model.specs.Pointer.{no-buttons, flags-down, ClickPast, Press, any, is-move, move-time, could-any-button-be-click, with-moved, remember-click, release, press-event, press-events, clear-events, press-pass}
+use Rattle.model.specs.Pointer.{no-buttons, flags-down, CountTrue, ClickPast, Press, any, is-move, move-time, could-any-button-be-click, with-moved, remember-click, release, press-event, press-events, clear-events, press-pass}
 use Rattle.model.specs.Pass.{Panel, Clock, PassInput, fresh, fresh-press, begin-pass, clock-pass, pass-events, time-or, time-of}
 use Rattle.model.specs.Interact.{InteractInput, InteractionSnapshot, with-interaction}
 use Rattle.model.specs.Calls.{Call, Outcome, call, after, run}
 use Rattle.model.specs.Questions.{bool, maybe-number, since, ask, reply, shown}
-use Rattle.theorems.specs.Reach.{NotAfter, never, by, LastMove, no-move, move-by, Reached, Reach, FromZero, no-seconds, seconds, RestedFromZero, AnyDownIsEguis, TimeNeverFalls, AbsentTimeNeverBelow}
+use Rattle.theorems.specs.Reach.{NotAfter, never, by, LastMove, no-move, move-by, Reached, Reach, FromZero, no-seconds, seconds, RestedFromZero, AnyDownIsEguis, RunsKeepCount, TimeNeverFalls, AbsentTimeNeverBelow}
 use Rattle.theorems.proofs.Pointer.{PointerView, a-move, a-press, a-release, nothing, pointer-view}
 use Rattle.theorems.proofs.Counts.{count-laws, events-count}
 use Rattle.theorems.proofs.Times.{time-in-range, +0-time-ok, not-after-later}
@@ -56,12 +56,17 @@ pass-moved c d true l t e h m = move-by (d .time) t (le-refl (d .time) (time-in-
 pass-moved c d false l t e h no-move = no-move
 pass-moved c d false l t e h (move-by at k le-at f) = move-by at k (le-trans at (c .time) (d .time) le-at h) e
 
+-- ---- the number of buttons down
+pass-count : (p : Panel) (i : PassInput) → CountTrue (p .press .held .down) → CountTrue (begin-pass p i .press .held .down)
+unfolding begin-pass press-pass clear-events
+pass-count p i h = events-count (i .options) (time-of i (p .clock .time)) (pass-events i) (record { held = clear-events (p .press .held); past = p .press .past }) h
+
 -- ---- a call
 pub pass-later : (p : Panel) (i : PassInput) (q : Panel) → Reached p → Taken p i q → T (le (p .clock .time) (time-of i (p .clock .time)))
 pass-later p i q r t = not-lt-le (time-of i (p .clock .time)) (p .clock .time) (time-in-range (time-of i (p .clock .time)) (t .in-domain) .is-finite) (r .time-finite) (t .not-before)
 
 pub pass-reaches : (p : Panel) (i : PassInput) (q : Panel) → Reached p → Taken p i q → Reached q
-unfolding begin-pass clock-pass press-pass pass-events clear-events move-time
+unfolding begin-pass clock-pass press-pass pass-events move-time
 pass-reaches p i q r t =
     let now = time-of i (p .clock .time) in
     let es = pass-events i in
@@ -72,7 +77,7 @@ pass-reaches p i q r t =
       time-in-domain = t .in-domain;
       last-click = events-not-after (i .options) now es (record { held = clear-events (p .press .held); past = p .press .past }) (by f (le-refl now f)) (not-after-later (p .clock .time) now (p .press .past .last-click-time) (pass-later p i q r t) (r .last-click));
       last-move = pass-moved (p .clock) (clock-pass i now (p .clock)) (any is-move (begin-pass p i .press .held .pointer-events) || vec-ne (begin-pass p i .place .velocity) vec-zero) (p .last-move-time) (t .in-domain) refl (pass-later p i q r t) (r .last-move);
-      count-true = events-count (i .options) now es (record { held = clear-events (p .press .held); past = p .press .past }) (r .count-true);
+      count-true = pass-count p i (r .count-true);
       devices = touch-pass-in-order now (p .place .interact-pos) max-events (items (i .feed)) (p .touch-states) (r .devices) (t .surveyed);
     } in
     subst (λ (x : Panel). Reached x) (sym (t .is)) z
@@ -124,6 +129,22 @@ rested-from-zero cs = let p = run fresh cs in rested (p .clock) (p .last-move-ti
 pub any-down-is-egui's : AnyDownIsEguis
 unfolding ask reply shown
 any-down-is-egui's cs = ap bool (count-laws .scans (run fresh cs .press .held .down) (reach cs .count-true))
+
+call-count : (p : Panel) (c : Call) → CountTrue (p .press .held .down) → CountTrue (after p (call p c) .press .held .down)
+unfolding after with-interaction
+call-count p c h = go (call-view p c)
+  where
+    go : {c : Call} {o : Outcome} → CallView p c o → CountTrue (after p o .press .held .down)
+    go (pass-refused i e k) = h
+    go (pass-taken i q t) = subst (λ (z : Panel). CountTrue (z .press .held .down)) (sym (t .is)) (pass-count p i h)
+    go (interact-refused x e k) = h
+    go (interact-full x e k l) = h
+    go (interact-taken x s q t) = subst (λ (z : Panel). CountTrue (z .press .held .down)) (sym (t .is)) h
+
+pub runs-keep-count : RunsKeepCount
+unfolding run
+runs-keep-count p h [] = h
+runs-keep-count p h (c ∷ cs) = runs-keep-count (after p (call p c)) (call-count p c h) cs
 
 -- ---- time never falls
 call-later : (p : Panel) (c : Call) → Reached p → T (le (p .clock .time) (after p (call p c) .clock .time))

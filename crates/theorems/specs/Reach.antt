@@ -55,6 +55,10 @@ Reach = (calls : List Call) → Reached (run fresh calls)
 abbrev pub AnyDownIsEguis : Type 0
 AnyDownIsEguis = (calls : List Call) → ask (settled any-down) (run fresh calls) ≡ bool (any-flag (run fresh calls .press .held .down))
 
+-- and calls, refused ones included, leave a number that is true so, from whatever panel they go on
+abbrev pub RunsKeepCount : Type 0
+RunsKeepCount = (p : Panel) → CountTrue (p .press .held .down) → (calls : List Call) → CountTrue (run p calls .press .held .down)
+
 -- an answer in seconds: none, or at least 0 and so a number
 pub data FromZero : Reply → Type 0 where
   no-seconds : FromZero (maybe-number no-number)
