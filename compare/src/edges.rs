@@ -28,6 +28,7 @@ pub fn script() -> Script {
     if words::exists(EXP, LEVEL) {
         exponents(&mut s);
     }
+    buttons(&mut s);
     s.end();
     s
 }
@@ -724,4 +725,35 @@ fn exponents(s: &mut Script) {
         s.record(ASK, &[]);
         s.record(DUMP, &[]);
     }
+}
+
+/// A button's press or release at (0, 0).
+fn set(button: u32, pressed: bool) -> Vec<u32> {
+    event(5, button << 5 | u32::from(pressed) << 8, &[0.0, 0.0])
+}
+
+/// A pass after which a button is down or none, and the counts of its clicks.
+fn down(s: &mut Script, time: f64, feed: &[u32], any: bool, clicks: &[u32]) {
+    s.taken(time, feed);
+    assert_eq!(s.stream.panel.input.pointer.any_down(), any, "{:?}", s.shown.last());
+    assert_eq!(s.clicks(), clicks, "{:?}", s.shown.last());
+}
+
+fn buttons(s: &mut Script) {
+    s.show("A.7: presses of 0, 0, 1, releases of 0, 0, 2, 1: a button is down until the last; then a release is no click");
+    for (time, button) in [(1.0, 0), (1.0625, 0), (1.125, 1)] {
+        down(s, time, &set(button, true), true, &[]);
+    }
+    for (time, button, any, count) in [(1.1875, 0, true, 1), (1.25, 0, true, 2), (1.3125, 2, true, 3), (1.375, 1, false, 3), (1.4375, 1, false, 0)] {
+        down(s, time, &set(button, false), any, &[count]);
+    }
+    s.show("A.7: the release of a button never pressed");
+    down(s, 1.0, &set(4, false), false, &[0]);
+    s.show("A.7: all five down, then a clearing pass");
+    let five: Vec<u32> = (0..5).flat_map(|b| set(b, true)).collect();
+    down(s, 1.0, &five, true, &[]);
+    down(s, 2.0, &clearing_feed(&[], Pos2::new(0.0, 0.0)), false, &[0, 1, 2, 3, 3]);
+    s.show("A.7: 64 presses of one button, and its release");
+    down(s, 1.0, &set(2, true).repeat(64), true, &[]);
+    down(s, 1.0625, &set(2, false), false, &[1]);
 }
