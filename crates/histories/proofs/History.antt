@@ -8,13 +8,14 @@ use native.Mathlib.Omega.{arith}
 use Rattle.data.specs.Limits.{max-tally}
 use Rattle.model.specs.Types.{PassRefusal}
 use Rattle.model.specs.Touch.{InOrder}
+use Rattle.model.specs.Pointer.{CountTrue}
 use Rattle.model.specs.Pass.{Panel, PassInput, fresh}
 use Rattle.model.specs.Interact.{InteractInput, InteractionSnapshot, with-interaction}
 use Rattle.model.specs.Calls.{Call, passes, interacts, Outcome, passed, answered, of-pass, of-interact, call, after, run, outcomes}
 use Rattle.theorems.specs.Balance as Model
 use Rattle.theorems.specs.Clearing.{Clears, Takes, Fair, Since, nothing-since, Alike, twice}
 use Rattle.theorems.specs.Reach.{Reached}
-use Rattle.theorems.proofs.Reach.{reach}
+use Rattle.theorems.proofs.Reach.{reach, runs-keep-count}
 use Rattle.theorems.proofs.Balance.{balance}
 use Rattle.theorems.proofs.Clearing.{clearing}
 use Rattle.survey.specs.Survey.{option}
@@ -141,7 +142,11 @@ stepped-parkable : (x y : Running) (c : Call) (a : Outcome) → Parkable (shows 
 unfolding run
 stepped-parkable x y c a o s =
     let e : shows y ≡ after (shows x) (call (shows x) c) = s .panel ∙ ap (after (shows x)) (s .answer) in
-    record { in-range = subst Ranged (sym e) (runs-stay-in-range (shows x) (o .in-range) (c ∷ [])); in-order = s .in-order }
+    record {
+      in-range = subst Ranged (sym e) (runs-stay-in-range (shows x) (o .in-range) (c ∷ []));
+      in-order = s .in-order;
+      count-true = subst (λ (q : Panel). CountTrue (q .press .held .down)) (sym e) (runs-keep-count (shows x) (o .count-true) (c ∷ []));
+    }
 
 record Followed (x : Running) (calls : List Call) (answers : List Outcome) (y : Running) : Type 0 where
   is-run : IsRun x calls answers y
@@ -177,7 +182,7 @@ follows {x} o (then-parked words other r l p h e rest) =
 follows {x} o (then-refused words r l h n rest) = let s = refused-shows x words r l h n in shown-again s (follows (subst Parkable (sym s) o) rest)
 
 pub every-run-is-parkable : EveryRunIsParkable
-every-run-is-parkable calls = record { in-range = every-run-is-in-range calls; in-order = reach calls .devices }
+every-run-is-parkable calls = record { in-range = every-run-is-in-range calls; in-order = reach calls .devices; count-true = reach calls .count-true }
 
 module _ (x : Running) (start : Starts x) where
   shows-fresh : shows x ≡ fresh

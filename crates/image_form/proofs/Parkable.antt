@@ -7,6 +7,7 @@ use Rattle.data.specs.Limits.{coordinate-ok, length-ok, unit-interval-ok, durat
 use Rattle.image.specs.Codes.{El, In}
 use Rattle.image.specs.Places.{value-at}
 use Rattle.image_screen.specs.Screen.{rect-code, rect-of, options-code, options-of}
+use Rattle.image_pointer.proofs.Trip.{buttons-true}
 use Rattle.image_devices.proofs.Back.{devices-in-order}
 use Rattle.image_form.specs.Form.{panel-code, panel-of, Parkable, TakenIsParkable}
 use Rattle.image_form.specs.Placed.{groups-place}
@@ -36,6 +37,7 @@ value-parkable v h =
     record {
       in-range = ((c .0 .1, c .1 .1 .1 .1 .1), (rect-in (v .0 .1 .0 .0) (s .0), s .1 .0 .1, options-in (v .0 .1 .0 .1 .1 .1) (s .1 .1 .1)));
       in-order = devices-in-order (v .1 .1 .1) (h .1 .1 .1);
+      count-true = buttons-true (v .0 .1 .1 .1 .0 .0);
     }
 
 pub taken-is-parkable : TakenIsParkable

@@ -1,5 +1,6 @@
 -- A panel from the value that stands for it, and every value in range stands for a panel. Assumes nothing.
 use mathlib.Core.Path.{_≡_, ap, _∙_}
+use Rattle.model.specs.Pointer.{CountTrue}
 use Rattle.model.specs.Pass.{Panel}
 use Rattle.image.specs.Codes.{El, In}
 use Rattle.image_clock.proofs.Trip.{clock-back, clock-forth}
@@ -18,15 +19,15 @@ use Rattle.image_events.proofs.Back.{events-back, events-forth}
 use Rattle.image_devices.proofs.Back.{devices-back, devices-forth}
 use Rattle.image_form.specs.Form.{panel-code, fixed-el, el, panel-of}
 
-pub panel-back : (p : Panel) → NoKeyBeyond (p .keys) → panel-of (el p) ≡ p
-panel-back p h i =
+pub panel-back : (p : Panel) → NoKeyBeyond (p .keys) → CountTrue (p .press .held .down) → panel-of (el p) ≡ p
+panel-back p h n i =
     let started = p .started-decidedly-dragging in
     let moved = p .last-move-time in
     record {
       clock = clock-back (p .clock) i;
       screen = screen-back (p .screen) i;
       place = (ap (place-of (place-el (p .place))) (history-back (p .place .pos-history)) ∙ place-back (p .place)) i;
-      press = (ap (press-of (press-el (p .press) started moved)) (events-back (p .press .held .pointer-events)) ∙ press-back (p .press) started moved) i;
+      press = (ap (press-of (press-el (p .press) started moved)) (events-back (p .press .held .pointer-events)) ∙ press-back (p .press) started moved n) i;
       started-decidedly-dragging = started-back (p .press) started moved i;
       last-move-time = moved-back (p .press) started moved i;
       touch-states = devices-back (p .touch-states) i;

@@ -73,8 +73,8 @@ reads-image (w ∷ ws) =
 -- ---- what was written is read back
 pub image-reads-back : ImageReadsBack
 unfolding read-image image ended
-image-reads-back p h k =
-    ap ended (ap (read panel-code 1) (sym (append-nil (write panel-code (el p)))) ∙ reads-back panel-code (el p) h 1 []) ∙ ap taken (panel-back p k)
+image-reads-back p h k n =
+    ap ended (ap (read panel-code 1) (sym (append-nil (write panel-code (el p)))) ∙ reads-back panel-code (el p) h 1 []) ∙ ap taken (panel-back p k n)
 
 -- ---- a panel that was taken is that of the value there, whose words are all there are
 pub record Taken (ws : List ℕ) (p : Panel) : Type 0 where

@@ -8,6 +8,7 @@ use lib.Dec.{eqb}
 use Rattle.data.specs.Limits.{max-events, max-devices, max-touches}
 use Rattle.data.specs.Numbers.{Row}
 use Rattle.model.specs.Pass.{Panel}
+use Rattle.model.specs.Pointer.{CountTrue}
 use Rattle.model.specs.Touch.{InOrder}
 use Rattle.image.specs.Codes.{Code, both, El, header, write, Read, bad, good, read, In, Words}
 use Rattle.image_clock.specs.Clock.{clock-el, clock-of}
@@ -100,14 +101,17 @@ image-row (wrong i) = some (record { number = 15; index = some i })
 abbrev pub short-row : Row
 short-row = record { number = 8; index = none }
 
--- what is known of every panel that the operations gave: its numbers are in the fields' ranges, its devices and their touches go by ascending id
+-- what is known of every panel that the operations gave: its numbers are in the fields' ranges, its devices and their touches go by ascending id,
+-- and the number of buttons down is that of the flags
 pub record Parkable (p : Panel) : Type 0 where
   pub in-range : Ranged p
   pub in-order : InOrder (p .touch-states)
+  -- 02 A.7: the number of buttons down, which the image doesn't hold
+  pub count-true : CountTrue (p .press .held .down)
 
 -- "Reading back what was written of a panel that the operations gave yields that state": of a panel whose values are in the fields' ranges
 abbrev pub ImageReadsBack : Type 0
-ImageReadsBack = (p : Panel) → In panel-code (el p) → NoKeyBeyond (p .keys) → read-image (image p) ≡ taken p
+ImageReadsBack = (p : Panel) → In panel-code (el p) → NoKeyBeyond (p .keys) → CountTrue (p .press .held .down) → read-image (image p) ≡ taken p
 
 -- "and every accepted image is the one that writing its state would produce"
 abbrev pub ImageIsWritten : Type 0

@@ -35,7 +35,7 @@ returns-2 c =
     let e = c .before .before .image-put .ensures in
     let h = c .before .before .before .before .if1 .left in
     let f = front (a .out .now) _ (image p) _ (e .0) n h in
-    (n, f, behind (a .out .now) _ (image p) _ (e .0) n h, λ k. ap read-image f ∙ image-reads-back p (e .1 k) (no-key-beyond l (a .panel)))
+    (n, f, behind (a .out .now) _ (image p) _ (e .0) n h, λ k. ap read-image f ∙ image-reads-back p (e .1 k) (no-key-beyond l (a .panel)) (k .count-true))
 
 pub park-spec : {M : Type 1} → statement M
 park-spec = tie.close (tie.spec words-of-requires returns image-put-requires same-length returns-2)
