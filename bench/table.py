@@ -70,6 +70,8 @@ row('pass, 8 events', 2.0, 1000, lambda n: request(PASS, n, words=mixed(8)))
 row('pass, 64 events', 1.0, 300, lambda n: request(PASS, n, words=mixed(64)))
 pressed = KINDS['press'](0) + sum((KINDS['moved'](i) for i in range(63)), [])
 row('pass, press and 63 moves', None, 300, lambda n: request(PASS, n, words=pressed))
+released = KINDS['press'](0) + sum((KINDS['release'](i) for i in range(63)), [])
+row('pass, press and 63 releases', None, 300, lambda n: request(PASS, n, words=released))
 for w, l in ((16, 1), (128, 1), (128, 4), (1024, 1), (1024, 32)):
     for c, what in enumerate(('new', 'known', 'moved to top')):
         row(f'insertion, {w} widgets in {l}, {what}', 2.0, max(1, 256 // w), lambda n, w=w, l=l, c=c: request(INSERT, n * w, w, l, c), w,
