@@ -165,7 +165,7 @@ pub mod containers {
 }
 
 /// The requests of 02 that are landed: A.1 to A.LEVEL. Each landing raises it by one.
-pub const LEVEL: u32 = 6;
+pub const LEVEL: u32 = 7;
 
 // ---------------------------------------------------------------------------
 // The driver, with 02's requests, and the requests that are made:
