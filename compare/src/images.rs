@@ -181,6 +181,10 @@ impl Maker {
 
     fn damage_field(&mut self, w: &mut [u32], kind: Field) {
         let places = Self::fields_of(w, kind);
+        // a panel may have every value
+        if places.is_empty() {
+            return self.damage_leading(w);
+        }
         let at = self.rng().pick(&places);
         w[at] = self.some_word();
     }
