@@ -9,6 +9,8 @@ pub struct Beside {
     /// After an image of foreign words was taken the panel is not known, until RESET or RESTORE_LAST.
     unknown: bool,
     parked_unknown: bool,
+    /// Calls have gone on from an image that no parking wrote: its words are no longer the panel's, until it is one that egui knows.
+    strayed: bool,
     /// records that are not compared for that reason
     pub skipped: usize,
     /// the last request but for questions
@@ -28,10 +30,11 @@ impl Beside {
         if call != words::ASK && call != words::DUMP {
             self.last = words::record(call, w);
         }
+        self.strayed = self.stream.foreign.is_some() && (self.strayed || matches!(call, words::PASS | words::INTERACT | words::EXTRA | words::SET_TALLY));
         self.known(call, want[0] >> 24 == 0);
         let foreign = self.stream.foreign.is_some() && !matches!(call, words::PARK | words::RESTORE | words::RESTORE_LAST);
         let of_panel = !matches!(call, words::KERNEL | words::EXP | words::BOX);
-        let wrong = if (self.unknown || foreign) && of_panel {
+        let wrong = if (self.unknown || self.strayed || foreign) && of_panel {
             self.skipped += 1;
             None
         } else if words::judge(level, call, w, &want, got) {
@@ -43,10 +46,15 @@ impl Beside {
         wrong
     }
 
+    /// egui has the panel that the program has.
+    pub fn is_known(&self) -> bool {
+        !self.unknown && self.stream.foreign.is_none()
+    }
+
     fn known(&mut self, call: u32, taken: bool) {
         match call {
             words::RESET if taken => self.unknown = false,
-            words::PARK if taken => self.parked_unknown = self.unknown,
+            words::PARK if taken => self.parked_unknown = self.unknown || self.strayed,
             words::RESTORE_LAST if taken => self.unknown = self.parked_unknown,
             _ => {}
         }

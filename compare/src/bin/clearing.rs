@@ -7,6 +7,7 @@
 //! * from A.4 on: some pairs must differ in the seconds since the last movement before the first later one, and one written by hand does;
 //! * along random lists each drag stop follows a start of the same id, at most one is open, the tally counts the starts.
 use fivvarul_compare::LEVEL;
+use fivvarul_compare::beside::Beside;
 use fivvarul_compare::lists::{Balance, Since, agree, rested_apart, two_panels};
 use fivvarul_compare::maker::{LIMIT, Maker};
 use fivvarul_compare::words::{self, INTERACT, PASS, RESET, record_at};
@@ -61,24 +62,50 @@ fn pair(seed: u64, condition: bool, program: &[String], sum: &mut Sum) -> Option
     if program.is_empty() || !condition {
         return None;
     }
-    // past A, the common part; a fresh panel; past B, the common part
-    let mut trace = Vec::new();
-    let mut want = Vec::new();
-    for (m, later) in two.past.iter().zip([&two.later.answers, &t.answers_b]) {
-        trace.extend(words::record(RESET, &[]));
-        want.push(0);
+    // past A and the common part; past B and the common part
+    let mut later = Vec::new();
+    for m in &two.past {
+        let mut trace = words::record(RESET, &[]);
         trace.extend(&m.requests);
-        want.extend(&m.answers);
+        let past = trace.len();
         trace.extend(&two.later.requests);
-        want.extend(later);
+        let got = answers_of(program, &trace);
+        match life(&trace, past, &got) {
+            Life::Wrong(why) => return Some(why),
+            Life::Unknown => return None,
+            Life::Later(at) => later.push(got[at..].to_vec()),
+        }
     }
-    let got = answers_of(program, &trace);
-    if got != want {
-        return Some("the program's answers are not egui's: the runner names the field".into());
+    later_agrees(&two.later.requests, &later[0], &later[1])
+}
+
+/// What the program answered to one panel's calls.
+enum Life {
+    Wrong(String),
+    /// The past ends with an image that no parking wrote: 02 says nothing of it.
+    Unknown,
+    /// Where the answers to the later list begin.
+    Later(usize),
+}
+
+fn life(trace: &[u32], past: usize, got: &[u32]) -> Life {
+    let mut beside = Beside::default();
+    let (mut i, mut j, mut later) = (0, 0, 0);
+    while i < trace.len() {
+        if i == past {
+            if !beside.is_known() {
+                return Life::Unknown;
+            }
+            later = j;
+        }
+        let (request, have) = (record_at(trace, i), record_at(got, j));
+        i += request.len();
+        j += have.len();
+        if let Some(wrong) = beside.record(request[0] >> 24, &request[1..], have) {
+            return Life::Wrong(format!("the program: {wrong}"));
+        }
     }
-    let first = 1 + two.past[0].answers.len();
-    let second = want.len() - t.answers_b.len();
-    later_agrees(&two.later.requests, &got[first..], &got[second..])
+    Life::Later(later)
 }
 
 /// The two later parts of the program's own answers.
