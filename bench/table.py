@@ -10,6 +10,7 @@ An insertion's lent slots go through the program by value: a run that only copie
 pass of 8 events, which is taken off too. Of both the time would say nothing: what is taken off is far more than what is left.
 Beside a root egui's column is the processor's own instruction.
 Beside the factor of an exponent egui's column is Rust's `f32::exp`, and the number is how many factors lie above 1.
+Beside parking and restoring egui's column is a plain copy of as many words. A full panel has 1,000 samples, 64 pointer events and 40 touches.
 """
 import shlex, struct, subprocess, sys, time
 
@@ -56,7 +57,7 @@ def hits(n):
         words += [(i + 1) * 0x9E3779B1 % 2**32, 1 if i % 4 == 1 else 0]
     return words
 
-PASS, INSERT, INTERACT, ASK, ROOT32, ROOT64, EXPONENT = range(7)
+PASS, INSERT, INTERACT, ASK, ROOT32, ROOT64, EXPONENT, PARK = range(8)
 def request(kind, n, a=0, b=0, c=0, words=()):
     return struct.pack(f'<{6 + len(words)}I', kind, n, a, b, c, len(words), *words)
 
@@ -81,6 +82,11 @@ row('interact, 64 hits', 1.0, 300, lambda n: request(INTERACT, n, 6, 2, 96, hits
 row('root of an f32', None, 20000, lambda n: request(ROOT32, n))
 row('root of an f64', None, 20000, lambda n: request(ROOT64, n))
 row('factor of an exponent', None, 20000, lambda n: request(EXPONENT, n))
+touched = sum(([0x90000000, device, 0, touch, 0, f(5 + touch), f(5)] for device in range(1, 5) for touch in range(10)), [])
+moved = sum((KINDS['moved'](i) for i in range(64)), [])
+for b, what in enumerate(('park', 'restore')):
+    row(f'{what} a fresh panel, 246 words', None, 1000, lambda n, b=b: request(PARK, n, 0, b, 246))
+    row(f'{what} a full panel, 4,974 words', None, 100, lambda n, b=b: request(PARK, n, len(touched), b, 4974, touched + moved))
 row('30 questions', 2.0, 1000, lambda n: request(ASK, n, words=mixed(8)), 1, lambda n: request(PASS, n, words=mixed(8)))
 
 def answer(cmd, data):

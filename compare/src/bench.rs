@@ -40,6 +40,7 @@ pub fn run(words: &[u32], checked: bool) -> u64 {
         4 => roots32(n),
         5 => roots64(n),
         6 => exponents(n),
+        7 => copies(n, c),
         _ => passes(n, given, checked, true),
     }
 }
@@ -167,6 +168,17 @@ fn exponents(n: u32) -> u64 {
         above += u64::from(black_box(e).exp() > 1.0);
     }
     above
+}
+
+// ---------------------------------------------------------------- parkings: a plain copy of as many words, since egui parks nothing
+
+fn copies(n: u32, words: u32) -> u64 {
+    let from = vec![1u32; words as usize];
+    let mut to = vec![0u32; words as usize];
+    for _ in 0..n {
+        black_box(&mut to).copy_from_slice(black_box(&from));
+    }
+    u64::from(n) * u64::from(words)
 }
 
 // ---------------------------------------------------------------- insertions

@@ -4,6 +4,7 @@ mod asks;
 mod exponents;
 mod inserts;
 mod interacts;
+mod parkings;
 mod passes;
 mod roots;
 mod sums;
@@ -73,6 +74,7 @@ fn run(q: Request, words: &[u32]) -> u64 {
         4 => roots::run32(q.times),
         5 => roots::run64(q.times),
         6 => exponents::run(q.times),
+        7 => parkings::run(q.times, words, q.a, q.b),
         _ => asks::run(q.times, words),
     }
 }
