@@ -1,4 +1,4 @@
-// A panel parked and restored again and again: a fresh one, or one after a pass with a first feed and sixteen with a second.
+// A panel parked and restored again and again: a fresh one, or one after a pass with a first feed and a thousand with a second.
 use crate::WORDS;
 use crate::passes::input;
 use data::pointer::MaybeF64;
@@ -20,7 +20,8 @@ use pointer_events::PLACES;
 // docs/IMAGE.md: the longest image.
 const IMAGE_PLACES: usize = 4974;
 
-const PASSES: u32 = 16;
+// A pass adds one sample to the history.
+const PASSES: u32 = 1000;
 
 // At one time, so that the history keeps all samples.
 fn given() -> PassInput {
