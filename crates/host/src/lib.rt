@@ -1,0 +1,3 @@
+// The library that Rust or C links.
+pub mod fresh;
+pub mod passes;
