@@ -4,7 +4,8 @@ use kernel_values::magnitude;
 ghost use mathlib.Core.Path.{_≡_};
 ghost use Rattle.kernel_touch.specs.Slots.{fresh, chosen-finger, put-finger, with-x, with-y, with-id, choose, skips, settled};
 
-// A tracking id, -1 for no finger, and the last position.
+// A tracking id, -1 for no finger, and the last position. `repr(C)` here and below: a host keeps the slots from call to call.
+#[repr(C)]
 pub struct Finger {
     pub id: i32,
     pub x: i32,
@@ -12,12 +13,14 @@ pub struct Finger {
 }
 
 // A slot's finger now, and at the last report end acted on.
+#[repr(C)]
 pub struct Slot {
     pub now: Finger,
     pub acted: Finger,
 }
 
 // `skipping`: after 'dropped', through the next report end.
+#[repr(C)]
 pub struct KernelTouches {
     pub slots: [Slot; MAX_SLOTS],
     pub chosen: usize,
