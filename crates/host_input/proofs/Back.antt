@@ -1,17 +1,31 @@
 -- An input state read back from what was written of it is the state. Assumes nothing.
 use Prim.Native.Nat.{ℕ}
-use mathlib.Core.Path.{_≡_, refl}
+use mathlib.Core.Path.{_≡_, refl, sym}
 use mathlib.Core.Bool.{Bool}
 use mathlib.Core.List.{List, [], _∷_}
+use lib.Ieee.{Float}
+use Rattle.model.specs.Types.{ButtonsDown}
+use Rattle.model.specs.Pointer.{buttons, flags-down, CountTrue}
 use Rattle.host_values.specs.Values.{pos-given, vec-given, time-given, is-smoothing, is-in-touch, is-wheel, is-trackpad, is-momentum}
 use Rattle.input_state.specs.declared.state.InputState.{InputState}
 use Rattle.host_values.proofs.Back.{pos-back, vec-back, time-back, status-back, source-back}
 use Rattle.host_input.specs.Held.{input-of}
 use Rattle.host_input.specs.Kept.{seconds-of, floats-of, counts-of, flags-of, keys-of}
 
-pub input-back : (s : InputState) (n : ℕ) → input-of (seconds-of s) (floats-of s) (counts-of s n) (flags-of s) (keys-of s) ≡ s
-input-back s n =
+-- the number of buttons down is worked out: where it was that of the flags, the record is the one that was written
+buttons-back : (d : ButtonsDown) → CountTrue d → buttons (d .primary) (d .secondary) (d .middle) (d .extra1) (d .extra2) ≡ d
+unfolding buttons flags-down
+buttons-back d h i = record { primary = d .primary; secondary = d .secondary; middle = d .middle; extra1 = d .extra1; extra2 = d .extra2; count = sym h i }
+
+-- and whatever the memory holds, it is
+pub held-true : (ts fs : List Float) (ns : List ℕ) (bs : List Bool) (ks : List ℕ) → CountTrue (input-of ts fs ns bs ks .pointer .press .held .down)
+unfolding buttons flags-down
+held-true ts fs ns bs ks = refl
+
+pub input-back : (s : InputState) (n : ℕ) → CountTrue (s .pointer .press .held .down) → input-of (seconds-of s) (floats-of s) (counts-of s n) (flags-of s) (keys-of s) ≡ s
+input-back s n h =
     rw (
+      buttons-back (s .pointer .press .held .down) h,
       pos-back (s .pointer .place .«latest_pos»),
       pos-back (s .pointer .place .«interact_pos»),
       vec-back (s .pointer .place .motion),

@@ -6,6 +6,7 @@ use mathlib.Core.List.{List}
 use lib.ListN.{getD}
 use lib.Ieee.{Float, nan}
 use Rattle.model.specs.Types.{Pos2, MaybePos2, Vec2, Rect, Modifiers, InputOptions, ButtonsDown, WheelState}
+use Rattle.model.specs.Pointer.{buttons}
 use Rattle.emath_history.specs.declared.history.History.{History}
 use Rattle.pointer_place.specs.declared.Place.{Place}
 use Rattle.pointer_clicks.specs.declared.Held.{Held}
@@ -42,16 +43,9 @@ modifiers-at bs i =
       command = getD bs (i + 4) false;
     }
 
--- by their numbers
+-- by their numbers; 02 A.7: how many are down is worked out
 abbrev pub buttons-at : List Bool → ℕ → ButtonsDown
-buttons-at bs i =
-    record {
-      primary = getD bs i false;
-      secondary = getD bs (i + 1) false;
-      middle = getD bs (i + 2) false;
-      extra1 = getD bs (i + 3) false;
-      extra2 = getD bs (i + 4) false;
-    }
+buttons-at bs i = buttons (getD bs i false) (getD bs (i + 1) false) (getD bs (i + 2) false) (getD bs (i + 3) false) (getD bs (i + 4) false)
 
 -- ---- the records
 abbrev pub clock-of : List Float → List Float → Clock

@@ -28,6 +28,7 @@ use key_state::bits::Set256;
 use key_state::keys::Keys;
 use pointer_clicks::ClickPast;
 use pointer_clicks::Held;
+use pointer_clicks::buttons;
 use pointer_place::Place;
 use pointer_state::press::Press;
 ghost use mathlib.Core.Path.{_≡_};
@@ -81,13 +82,13 @@ fn buttons_at(flags: &[bool; FLAGS], at: usize) -> ButtonsDown
     requires { ⌜ at + 4 < flag-count ⌝ }
     ensures { λ r. ⌜ r ≡ buttons-at (now (flags .entry)) at ⌝ }
 {
-    ButtonsDown {
-        primary: flags[at],
-        secondary: flags[at + 1],
-        middle: flags[at + 2],
-        extra1: flags[at + 3],
-        extra2: flags[at + 4],
-    }
+    buttons(
+        flags[at],
+        flags[at + 1],
+        flags[at + 2],
+        flags[at + 3],
+        flags[at + 4],
+    )
 }
 
 // ---- records

@@ -24,7 +24,9 @@ use Rattle.host_touch.specs.All.{known-of}
 use Rattle.host_input.specs.Places as at
 use Rattle.host_input.specs.Held.{input-of}
 use Rattle.host_input.specs.Kept.{seconds-of, floats-of, counts-of, flags-of, keys-of}
-use Rattle.host_input.proofs.Back.{input-back}
+use Rattle.model.specs.Pointer.{CountTrue, clear-events, press-pass}
+use Rattle.theorems.proofs.Counts.{events-count}
+use Rattle.host_input.proofs.Back.{input-back, held-true}
 use Rattle.host_pass.specs.declared.HostPass.{HostPass}
 use Rattle.host_pass.specs.declared.HostRefusal.{HostRefusal}
 use Rattle.host_pass.specs.Given as Given
@@ -41,14 +43,15 @@ some-none q e = no (sym (ap is-some e))
 
 -- the state that was written is held
 pub written : (s : InputState) (n : ℕ) (ts fs : List Float) (ns : List ℕ) (bs : List Bool) (ks : List ℕ)
+    → CountTrue (s .pointer .press .held .down)
     → ts ≡ seconds-of s → fs ≡ floats-of s → ns ≡ counts-of s n → bs ≡ flags-of s → ks ≡ keys-of s → input-of ts fs ns bs ks ≡ s
-written s n ts fs ns bs ks a b c d e =
+written s n ts fs ns bs ks h a b c d e =
     ap (λ ts. input-of ts fs ns bs ks) a
     ∙ ap (λ fs. input-of (seconds-of s) fs ns bs ks) b
     ∙ ap (λ ns. input-of (seconds-of s) (floats-of s) ns bs ks) c
     ∙ ap (λ bs. input-of (seconds-of s) (floats-of s) (counts-of s n) bs ks) d
     ∙ ap (λ ks. input-of (seconds-of s) (floats-of s) (counts-of s n) (flags-of s) ks) e
-    ∙ input-back s n
+    ∙ input-back s n h
 
 module _ (g : HostPass) (ws : List ℕ) (l l' : Lent) (m : Memory) (s : InputState) (ds : Devices) (i : PassInput) (b : declared.Begun)
     (es : s ≡ state m) (ed : view ds ≡ devices m) (ei : i ≡ given-of g) (begun : Begun i ws l s ds l' b) where
@@ -109,11 +112,25 @@ module _ (g : HostPass) (ws : List ℕ) (l l' : Lent) (m : Memory) (s : InputSta
         in-order = λ o. subst InOrder (sym e-devices) (passed .in-order (in-order-before o));
       }
 
+  -- a pass keeps the number of buttons down true
+  still-true : refusal g ws m ≡ none → CountTrue (b .state .pointer .press .held .down)
+  unfolding begin-by press-pass clear-events
+  still-true e =
+      let p = panel l (state m) (view ds) Model.no-interaction 0 in
+      let i = input ws (given-of g) in
+      let k : panel l' (b .state) (view (b .devices)) Model.no-interaction 0 .press .held .down
+          ≡ begin-by (Model.pass-events i) (fits-events (Model.pass-events i) (view ds)) p i .press .held .down
+          = ap (λ (q : Model.Panel). q .press .held .down) (passed .taken (same-refusal ∙ e) Model.no-interaction 0) in
+      subst CountTrue (sym k)
+      (events-count (i .options) (Model.time-of i (p .clock .time)) (Model.pass-events i) (record { held = clear-events (p .press .held); past = p .press .past })
+      (held-true (m .seconds) (m .floats) (m .counts) (m .flags) (m .keys-down)))
+
   pub when-kept : (m' : Memory) (r : HostRefusal) (n : ℕ) → b .refusal ≡ taken → r ≡ answer-of none
       → m' .seconds ≡ seconds-of (b .state) → m' .floats ≡ floats-of (b .state) → m' .counts ≡ counts-of (b .state) n
       → m' .flags ≡ flags-of (b .state) → m' .keys-down ≡ keys-of (b .state)
       → known-of n (m' .starts) (m' .ids0) (m' .floats0) (m' .flags0) (m' .ids1) (m' .floats1) (m' .flags1) (m' .ids2) (m' .floats2) (m' .flags2) (m' .ids3) (m' .floats3) (m' .flags3) ≡ view (b .devices)
       → Passes g ws l m l' m' r
+  unfolding option
   when-kept m' r n e-refusal e-told e1 e2 e3 e4 e5 e6 =
-      when-taken m' r e-refusal e-told (written (b .state) n (m' .seconds) (m' .floats) (m' .counts) (m' .flags) (m' .keys-down) e1 e2 e3 e4 e5)
+      when-taken m' r e-refusal e-told (written (b .state) n (m' .seconds) (m' .floats) (m' .counts) (m' .flags) (m' .keys-down) (still-true (sym told-is ∙ ap option e-refusal)) e1 e2 e3 e4 e5)
       (ap (λ ns. known-of (getD ns at.devices 0) (m' .starts) (m' .ids0) (m' .floats0) (m' .flags0) (m' .ids1) (m' .floats1) (m' .flags1) (m' .ids2) (m' .floats2) (m' .flags2) (m' .ids3) (m' .floats3) (m' .flags3)) e3 ∙ e6)

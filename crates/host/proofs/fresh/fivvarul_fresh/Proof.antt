@@ -3,7 +3,7 @@ use mathlib.Core.Path.{refl, ap}
 use Rattle.interaction_state.specs.View.{interaction-of}
 use Rattle.host_pass.proofs.Passing.{written}
 use Rattle.host_interact.proofs.Back.{written as interaction-written}
-use Rattle.host.proofs.Starting.{starts}
+use Rattle.host.proofs.Starting.{starts, no-button-down}
 use borrow.Author.Needs.{needs}
 use Rattle.host.proofs.fresh.fivvarul_fresh.Statement.{statement}
 use Rattle.host.proofs.fresh.fivvarul_fresh.Tie as tie
@@ -35,7 +35,7 @@ flags-requires-2 c κs = search needs
 returns : tie.Need-returns
 returns c =
     starts _ _ (c .before .before .before .before .before .before .before .before .before .before .fresh .ensures) _ _ _ _ _ _ _
-    (written _ 0 _ _ _ _ _ (c .before .before .before .before .before .before .before .seconds .ensures) (c .before .before .before .before .before .before .floats .ensures) (c .before .before .before .before .before .counts .ensures) (c .before .before .before .before .flags .ensures) (c .before .before .before .keys-down .ensures))
+    (written _ 0 _ _ _ _ _ (no-button-down _ _ (c .before .before .before .before .before .before .before .before .before .before .fresh .ensures)) (c .before .before .before .before .before .before .before .seconds .ensures) (c .before .before .before .before .before .before .floats .ensures) (c .before .before .before .before .before .counts .ensures) (c .before .before .before .before .flags .ensures) (c .before .before .before .keys-down .ensures))
     (c .before .before .before .before .before .counts .ensures) (ap interaction-of (interaction-written _ _ _ (c .before .before .ids .ensures) (c .before .flags2 .ensures))) refl
 
 pub fivvarul-fresh-spec : {M : Type 1} → statement M
