@@ -9,8 +9,12 @@ read-records-requires c κs = search needs
 crossing-requires : tie.Need-crossing-requires
 crossing-requires c κs = search needs
 
+same-length : tie.Need-same-length
+same-length c = search needs
+
 returns : tie.Need-returns
-returns c = record { read = _; reads = c .before .read-records .ensures; crosses = c .crossing .ensures }
+returns c = record { read = c .before .before .before .read-records .result; reads = c .before .before .before .read-records .ensures; crosses = c .crossing .ensures }
 
 pub fivvarul-read-records-spec : {M : Type 1} → statement M
-fivvarul-read-records-spec = tie.close (tie.spec read-records-requires crossing-requires returns)
+fivvarul-read-records-spec =
+    tie.close (tie.spec read-records-requires crossing-requires same-length returns)
