@@ -1,4 +1,5 @@
-// The library that Rust or C links: `rt staticlib host`. What crosses are numbers, arrays of numbers, slices of numbers and `repr(C)` records of numbers.
+// The library that Rust or C links: `rt staticlib host` has the operations, `rt staticlib host_questions` the questions; each archive has all that it uses.
+// What crosses are numbers, arrays of numbers, slices of numbers and `repr(C)` records of numbers.
 // The host keeps a panel in the arrays below and lends them; it need not look into them. Any contents mean some panel, so no function asks anything of
 // them. `fivvarul_fresh` makes a fresh panel. A refused call leaves every place as before.
 //
@@ -16,24 +17,11 @@
 // `all` are the id buffers of an interact, 66 places each. `button` is its number in the feed, and over 4 it is Extra2; `key` is its place in egui's Key;
 // `device_id` is a touch device's; `i` counts from 0.
 //
-// Each function of `panel` is exported as fivvarul_ and its name, but for these:
-//   primary_pressed, secondary_pressed .. middle_down   fivvarul_button_pressed, _released, _clicked, _down, with button 0, 1, 2
-//   after_pass, after_interact                          fivvarul_pass and fivvarul_interact write the memory
-// Beside it: fivvarul_zoom_factor (02 A.5); fivvarul_kernel_fresh and fivvarul_read_records (02 A.1).
-pub mod buttons;
-pub mod clock;
-pub mod dragging;
-pub mod events;
+// Each function of `panel` is exported as fivvarul_ and its name; after_pass and after_interact are none, since fivvarul_pass and fivvarul_interact
+// write the memory. Beside them: fivvarul_zoom_factor (02 A.5); fivvarul_kernel_fresh and fivvarul_read_records (02 A.1).
 pub mod factor;
 pub mod fresh;
 pub mod inserts;
 pub mod interacts;
 pub mod kernel;
-pub mod keys;
 pub mod passes;
-pub mod pointer;
-pub mod repaint;
-pub mod scrolling;
-pub mod touching;
-pub mod widgets;
-pub mod zoom;
