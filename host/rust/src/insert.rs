@@ -68,27 +68,62 @@ impl Panel {
     }
 }
 
+/// A checksum of what the last insertion left in each layer's slice: a replay keeps the same.
+#[derive(Clone, Default)]
+pub(crate) struct Left {
+    layers: [(LayerId, u64); Left::LAYERS],
+    len: usize,
+}
+
+impl Left {
+    /// The layers that a set can have.
+    const LAYERS: usize = 32;
+
+    fn contains(&self, layer: LayerId, sum: u64) -> bool {
+        self.layers[..self.len].contains(&(layer, sum))
+    }
+
+    fn set(&mut self, layer: LayerId, sum: u64) {
+        let at = self.layers[..self.len].iter().position(|(l, _)| *l == layer).unwrap_or(self.len);
+        if let Some(place) = self.layers.get_mut(at) {
+            *place = (layer, sum);
+            self.len = self.len.max(at + 1);
+        }
+    }
+}
+
+/// FNV-1a of the records' words.
+fn checksum(widgets: &[WidgetRect]) -> u64 {
+    let words = widgets.iter().flat_map(|w| record_words(w, false));
+    words.fold(0xcbf2_9ce4_8422_2325, |sum, word| (sum ^ u64::from(word)).wrapping_mul(0x0100_0000_01b3))
+}
+
 const INSERT: u32 = 2;
 const CLEAR_WIDGETS: u32 = 3;
 /// The words of a widget's record.
 const RECORD: usize = 17;
 
 impl<S: FnMut(&[u32])> Recorder<S> {
-    /// [`Panel::insert`]. The trace has what is lent, as far as the set counts widgets in that layer.
+    /// [`Panel::insert`]. The trace has what is lent where it is not what the last insertion into that layer left.
     pub fn insert(&mut self, layer: &mut [WidgetRect], widget: WidgetRect, move_to_top: bool) -> Result<Inserted, Refusal> {
-        let count = self.panel.layer_count(widget.layer_id).min(layer.len());
-        self.head(INSERT, 1 + RECORD + RECORD * count);
+        let id = widget.layer_id;
+        let count = self.panel.layer_count(id).min(layer.len());
+        let written = if self.left.contains(id, checksum(&layer[..count])) { 0 } else { count };
+        self.head(INSERT, 1 + RECORD + RECORD * written);
         (self.sink)(&record_words(&widget, move_to_top));
         (self.sink)(&[u32::try_from(layer.len()).unwrap_or(u32::MAX)]);
-        for lent in &layer[..count] {
+        for lent in &layer[..written] {
             (self.sink)(&record_words(lent, false));
         }
-        self.panel.insert(layer, widget, move_to_top)
+        let inserted = self.panel.insert(layer, widget, move_to_top)?;
+        self.left.set(id, checksum(&layer[..inserted.count]));
+        Ok(inserted)
     }
 
     /// [`Panel::clear_widgets`].
     pub fn clear_widgets(&mut self) {
         self.head(CLEAR_WIDGETS, 0);
+        self.left = Left::default();
         self.panel.clear_widgets();
     }
 }

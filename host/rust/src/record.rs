@@ -1,4 +1,5 @@
 //! A recorder: a panel that writes every call as a trace.
+use crate::insert::Left;
 use crate::{Hit, Hits, InteractionSnapshot, Modifiers, Panel, RawInput, Rect, Refusal};
 use core::ops::Deref;
 
@@ -26,12 +27,13 @@ const ASK: u32 = 5;
 pub struct Recorder<S> {
     pub(crate) panel: Panel,
     pub(crate) sink: S,
+    pub(crate) left: Left,
 }
 
 impl<S: FnMut(&[u32])> Recorder<S> {
     /// A fresh panel, recorded from its start.
     pub fn new(sink: S) -> Recorder<S> {
-        let mut r = Recorder { panel: Panel::new(), sink };
+        let mut r = Recorder { panel: Panel::new(), sink, left: Left::default() };
         r.head(RESET, 0);
         r
     }
