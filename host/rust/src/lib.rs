@@ -29,6 +29,8 @@ mod event;
 #[allow(unsafe_code, missing_docs)]
 #[rustfmt::skip]
 mod ffi;
+#[cfg(test)]
+mod garbage;
 mod input;
 mod insert;
 mod math;
