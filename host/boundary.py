@@ -91,14 +91,20 @@ def sized(module, name):
     return name
 
 
+def part(module, t):
+    """a field's type and, where it is an array, its length"""
+    m = re.fullmatch(r'\[(\w+); (\w+)\]', t)
+    element, length = m.groups() if m else (t, None)
+    return element if element in SCALARS else record(module, element), length and sized(module, length)
+
+
 def record(module, name):
     at, there = found(module, name, 'structs')
     if there not in records:
         text, fields = at.structs[there]
-        for _, t in fields:
-            if t not in SCALARS:
-                record(at, t)
-        records[there] = (text, fields)
+        records[there] = (text, [(n, *part(at, t)) for n, t in fields])
+        # the records that it holds come first
+        records[there] = records.pop(there)
     return there
 
 
@@ -143,9 +149,9 @@ memory = dict(sorted(memory.items(), key=lambda f: -SCALARS[f[1][0]][0]))
 def layout(name):
     """size and alignment of a record, as C lays it out"""
     at, most = 0, 1
-    for _, t in records[name][1]:
+    for _, t, length in records[name][1]:
         size, align = (SCALARS[t][0],) * 2 if t in SCALARS else layout(t)
-        at = -(-at // align) * align + size
+        at = -(-at // align) * align + size * (places(length) if length else 1)
         most = max(most, align)
     return -(-at // most) * most, most
 
@@ -154,8 +160,12 @@ def changes(given):
     return any(w for _, k, _, _, w in given if k == 'array')
 
 
+def places(length):
+    return lengths[length] if length in lengths else int(length)
+
+
 def bytes_of_memory():
-    return sum(SCALARS[t][0] * (lengths[n] if n in lengths else int(n)) for t, n in memory.values())
+    return sum(SCALARS[t][0] * places(n) for t, n in memory.values())
 
 
 # ---- Rust
@@ -209,7 +219,7 @@ const _: () = assert!(core::mem::size_of::<usize>() == 8, "the archive is for 64
         out.append(f'pub const {n}: usize = {lengths[n]};\n')
     for name, (text, fields) in records.items():
         out.append('\n' + (f'/// {text}\n' if text else '') + f'#[repr(C)]\n#[derive(Clone, Copy, Debug, Default, PartialEq)]\npub struct {name} {{\n')
-        out += [f'    pub {n}: {t},\n' for n, t in fields]
+        out += [f'    pub {n}: {f"[{t}; {length}]" if length else t},\n' for n, t, length in fields]
         out.append(f'}}\n\nconst _: () = assert!(core::mem::size_of::<{name}>() == {layout(name)[0]});\n')
     out.append(f'\n/// A panel\'s memory, {bytes_of_memory():,} bytes. Any contents mean a panel; `fresh` makes them a fresh one.\n#[derive(Clone)]\npub struct Memory {{\n')
     out += [f'    pub {n}: [{t}; {l}],\n' for n, (t, l) in memory.items()]
@@ -279,7 +289,7 @@ extern "C" {
         out.append(f'#define FIVVARUL_{n} {lengths[n]}\n')
     for name, (text, fields) in records.items():
         out.append('\n' + (f'/* {text} */\n' if text else '') + f'typedef struct {{\n')
-        out += [f'    {c_name(t)} {n};\n' for n, t in fields]
+        out += [f'    {c_name(t)} {n}{f"[{c_length(length)}]" if length else ""};\n' for n, t, length in fields]
         out.append(f'}} {c_name(name)};\n')
     out.append('\n#ifndef __cplusplus\n')
     out += [f'_Static_assert(sizeof({c_name(name)}) == {layout(name)[0]}, "{c_name(name)}");\n' for name in records]

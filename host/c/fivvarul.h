@@ -26,6 +26,7 @@ extern "C" {
 #define FIVVARUL_KEYS 4
 #define FIVVARUL_MAX_DEVICES 4
 #define FIVVARUL_MAX_LEN 1000
+#define FIVVARUL_MAX_SLOTS 10
 #define FIVVARUL_NUMBERS 5184
 #define FIVVARUL_PARTS 2000
 #define FIVVARUL_PLACES 128
@@ -131,6 +132,34 @@ typedef struct {
     size_t hovered;
     size_t contains_pointer;
 } FivvarulSnapshot;
+
+/* A tracking id, -1 for no finger, and the last position. `repr(C)` here and below: a host keeps the slots from call to call. */
+typedef struct {
+    int32_t id;
+    int32_t x;
+    int32_t y;
+} FivvarulFinger;
+
+/* A slot's finger now, and at the last report end acted on. */
+typedef struct {
+    FivvarulFinger now;
+    FivvarulFinger acted;
+} FivvarulSlot;
+
+/* `skipping`: after 'dropped', through the next report end. */
+typedef struct {
+    FivvarulSlot slots[FIVVARUL_MAX_SLOTS];
+    size_t chosen;
+    bool skipping;
+} FivvarulKernelTouches;
+
+/* `number` 0: the words written to the feed, and whether the records held a 'dropped'. Else 02's number of the refusal; `kernel` is as before then. */
+typedef struct {
+    FivvarulKernelTouches kernel;
+    uint32_t number;
+    size_t words;
+    bool dropped;
+} FivvarulKernelRead;
 
 /* RawInput and the options. A time and a rectangle count where they are given. Modifiers are 01's five bits: alt, ctrl, shift, mac_cmd, command. */
 typedef struct {
@@ -259,6 +288,10 @@ _Static_assert(sizeof(FivvarulWidgetRect) == 72, "FivvarulWidgetRect");
 _Static_assert(sizeof(FivvarulInserted) == 24, "FivvarulInserted");
 _Static_assert(sizeof(FivvarulInsertion) == 128, "FivvarulInsertion");
 _Static_assert(sizeof(FivvarulSnapshot) == 112, "FivvarulSnapshot");
+_Static_assert(sizeof(FivvarulFinger) == 12, "FivvarulFinger");
+_Static_assert(sizeof(FivvarulSlot) == 24, "FivvarulSlot");
+_Static_assert(sizeof(FivvarulKernelTouches) == 256, "FivvarulKernelTouches");
+_Static_assert(sizeof(FivvarulKernelRead) == 280, "FivvarulKernelRead");
 _Static_assert(sizeof(FivvarulPass) == 80, "FivvarulPass");
 _Static_assert(sizeof(FivvarulRefusal) == 16, "FivvarulRefusal");
 _Static_assert(sizeof(FivvarulVector) == 8, "FivvarulVector");
@@ -306,15 +339,17 @@ float fivvarul_aim_radius(const double seconds[FIVVARUL_SECONDS], const float fl
 FivvarulId fivvarul_dragged(const uint64_t held_ids[FIVVARUL_HELD], const bool held_flags[FIVVARUL_HELD]);
 FivvarulId fivvarul_potential_click_id(const uint64_t held_ids[FIVVARUL_HELD], const bool held_flags[FIVVARUL_HELD]);
 FivvarulId fivvarul_potential_drag_id(const uint64_t held_ids[FIVVARUL_HELD], const bool held_flags[FIVVARUL_HELD]);
+uint32_t fivvarul_tally(const uint32_t tally[1]);
 size_t fivvarul_pointer_event_count(const double seconds[FIVVARUL_SECONDS], const float floats[FIVVARUL_FLOATS], const size_t counts[FIVVARUL_COUNTS], const bool flags[FIVVARUL_FLAGS]);
 FivvarulPointerEvent fivvarul_pointer_event(const double seconds[FIVVARUL_SECONDS], const float floats[FIVVARUL_FLOATS], const size_t counts[FIVVARUL_COUNTS], const bool flags[FIVVARUL_FLAGS], const uint32_t codes[FIVVARUL_CODES], const float places[FIVVARUL_PLACES], size_t i);
 FivvarulFactor fivvarul_zoom_factor(float exponent);
-uint32_t fivvarul_modifiers(const bool flags[FIVVARUL_FLAGS], const uint64_t keys_down[FIVVARUL_KEYS]);
-uint32_t fivvarul_tally(const uint32_t tally[1]);
+FivvarulKernelTouches fivvarul_kernel_fresh(void);
+FivvarulKernelRead fivvarul_read_records(FivvarulKernelTouches kernel, uint64_t device, const uint8_t *bytes, size_t bytes_len, uint32_t *feed, size_t feed_len);
 bool fivvarul_key_down(const bool flags[FIVVARUL_FLAGS], const uint64_t keys_down[FIVVARUL_KEYS], uint32_t key);
 bool fivvarul_key_pressed(const uint8_t presses[FIVVARUL_PRESSES], uint32_t key);
 uint8_t fivvarul_num_presses(const uint8_t presses[FIVVARUL_PRESSES], uint32_t key);
 bool fivvarul_feed_was_empty(const bool flags[FIVVARUL_FLAGS], const uint64_t keys_down[FIVVARUL_KEYS]);
+uint32_t fivvarul_modifiers(const bool flags[FIVVARUL_FLAGS], const uint64_t keys_down[FIVVARUL_KEYS]);
 FivvarulVector fivvarul_delta(const float floats[FIVVARUL_FLOATS], const size_t counts[FIVVARUL_COUNTS], const bool flags[FIVVARUL_FLAGS]);
 FivvarulMaybeVector fivvarul_motion(const float floats[FIVVARUL_FLOATS], const size_t counts[FIVVARUL_COUNTS], const bool flags[FIVVARUL_FLAGS]);
 FivvarulVector fivvarul_velocity(const float floats[FIVVARUL_FLOATS], const size_t counts[FIVVARUL_COUNTS], const bool flags[FIVVARUL_FLAGS]);
@@ -515,6 +550,11 @@ static inline FivvarulId fivvarul_panel_potential_drag_id(const FivvarulPanel *p
     return fivvarul_potential_drag_id(p->held_ids, p->held_flags);
 }
 
+/* How many drags were started. */
+static inline uint32_t fivvarul_panel_tally(const FivvarulPanel *p) {
+    return fivvarul_tally(p->tally);
+}
+
 /* How many there were. */
 static inline size_t fivvarul_panel_pointer_event_count(const FivvarulPanel *p) {
     return fivvarul_pointer_event_count(p->seconds, p->floats, p->counts, p->flags);
@@ -523,16 +563,6 @@ static inline size_t fivvarul_panel_pointer_event_count(const FivvarulPanel *p) 
 /* Event `i`, if there were so many. */
 static inline FivvarulPointerEvent fivvarul_panel_pointer_event(const FivvarulPanel *p, size_t i) {
     return fivvarul_pointer_event(p->seconds, p->floats, p->counts, p->flags, p->codes, p->places, i);
-}
-
-/* 01's five bits: alt, ctrl, shift, mac_cmd, command. */
-static inline uint32_t fivvarul_panel_modifiers(const FivvarulPanel *p) {
-    return fivvarul_modifiers(p->flags, p->keys_down);
-}
-
-/* How many drags were started. */
-static inline uint32_t fivvarul_panel_tally(const FivvarulPanel *p) {
-    return fivvarul_tally(p->tally);
 }
 
 static inline bool fivvarul_panel_key_down(const FivvarulPanel *p, uint32_t key) {
@@ -549,6 +579,11 @@ static inline uint8_t fivvarul_panel_num_presses(const FivvarulPanel *p, uint32_
 
 static inline bool fivvarul_panel_feed_was_empty(const FivvarulPanel *p) {
     return fivvarul_feed_was_empty(p->flags, p->keys_down);
+}
+
+/* 01's five bits: alt, ctrl, shift, mac_cmd, command. */
+static inline uint32_t fivvarul_panel_modifiers(const FivvarulPanel *p) {
+    return fivvarul_modifiers(p->flags, p->keys_down);
 }
 
 static inline FivvarulVector fivvarul_panel_delta(const FivvarulPanel *p) {

@@ -1,6 +1,6 @@
 //! The linked library behind compare/FORMAT.md: a request's words in, the answer's words out.
 use fivvarul::{
-    Hit, Hits, InputOptions, LayerId, Modifiers, MultiTouchInfo, Panel, PointerButton, PointerEvent, RawInput, Rect, Refusal, Rotation, WidgetRect, pos2, zoom_factor,
+    Hit, Hits, InputOptions, KernelTouches, LayerId, Modifiers, MultiTouchInfo, Panel, PointerButton, PointerEvent, RawInput, Rect, Refusal, Rotation, WidgetRect, pos2, zoom_factor,
 };
 use fivvarul_compare::words::{self, Out, u64_of};
 use fivvarul_compare::{Pos2, Vec2};
@@ -9,6 +9,7 @@ use std::collections::{BTreeSet, HashMap};
 const WIDGET: usize = 17;
 /// Room beyond what any call needs, and what it is filled with.
 const MOST_PLACES: usize = 1100;
+const MOST_FEED: usize = 40_000;
 const FILL: u64 = 0x5A5A_5A5A_5A5A_5A5A;
 
 #[derive(Default)]
@@ -17,6 +18,7 @@ pub struct Machine {
     /// What the last insertion left in each layer's slice.
     lent: HashMap<(u32, u64), Vec<WidgetRect>>,
     devices: BTreeSet<u64>,
+    kernel: KernelTouches,
 }
 
 fn f(w: u32) -> f32 {
@@ -99,6 +101,7 @@ impl Machine {
                 o.opt(self.panel.pointer().time_since_last_movement(), 1, |o, v| o.f(v));
                 Ok(())
             }
+            words::KERNEL => self.kernel(w, &mut o)?,
             words::EXP if w.len() == 1 => zoom_factor(f(w[0])).map(|v| o.f(v)),
             _ => return None,
         };
@@ -200,6 +203,20 @@ impl Machine {
             }
             assert_eq!(s.dragged, self.panel.dragged());
             o.u(self.panel.tally());
+        }))
+    }
+
+    fn kernel(&mut self, w: &[u32], o: &mut Out) -> Option<Result<(), Refusal>> {
+        let (head, w) = w.split_at_checked(4)?;
+        let bytes = words::read_bytes(head[3], w)?;
+        let mut feed = vec![FILL as u32; (head[2] as usize).min(MOST_FEED)];
+        let done = self.kernel.read_records(u64_of(head), &bytes, &mut feed);
+        let written = done.map_or(0, |r| r.words);
+        assert!(feed[written..].iter().all(|w| *w == FILL as u32), "a place beyond the feed's words was written");
+        Some(done.map(|r| {
+            o.b(r.dropped);
+            o.u(r.words as u32);
+            feed[..written].iter().for_each(|w| o.u(*w));
         }))
     }
 

@@ -19,6 +19,7 @@ pub const IDS: usize = 12;
 pub const KEYS: usize = 4;
 pub const MAX_DEVICES: usize = 4;
 pub const MAX_LEN: usize = 1000;
+pub const MAX_SLOTS: usize = 10;
 pub const NUMBERS: usize = 5184;
 pub const PARTS: usize = 2000;
 pub const PLACES: usize = 128;
@@ -176,6 +177,50 @@ pub struct HostSnapshot {
 }
 
 const _: () = assert!(core::mem::size_of::<HostSnapshot>() == 112);
+
+/// A tracking id, -1 for no finger, and the last position. `repr(C)` here and below: a host keeps the slots from call to call.
+#[repr(C)]
+#[derive(Clone, Copy, Debug, Default, PartialEq)]
+pub struct Finger {
+    pub id: i32,
+    pub x: i32,
+    pub y: i32,
+}
+
+const _: () = assert!(core::mem::size_of::<Finger>() == 12);
+
+/// A slot's finger now, and at the last report end acted on.
+#[repr(C)]
+#[derive(Clone, Copy, Debug, Default, PartialEq)]
+pub struct Slot {
+    pub now: Finger,
+    pub acted: Finger,
+}
+
+const _: () = assert!(core::mem::size_of::<Slot>() == 24);
+
+/// `skipping`: after 'dropped', through the next report end.
+#[repr(C)]
+#[derive(Clone, Copy, Debug, Default, PartialEq)]
+pub struct KernelTouches {
+    pub slots: [Slot; MAX_SLOTS],
+    pub chosen: usize,
+    pub skipping: bool,
+}
+
+const _: () = assert!(core::mem::size_of::<KernelTouches>() == 256);
+
+/// `number` 0: the words written to the feed, and whether the records held a 'dropped'. Else 02's number of the refusal; `kernel` is as before then.
+#[repr(C)]
+#[derive(Clone, Copy, Debug, Default, PartialEq)]
+pub struct HostKernelRead {
+    pub kernel: KernelTouches,
+    pub number: u32,
+    pub words: usize,
+    pub dropped: bool,
+}
+
+const _: () = assert!(core::mem::size_of::<HostKernelRead>() == 280);
 
 /// RawInput and the options. A time and a rectangle count where they are given. Modifiers are 01's five bits: alt, ctrl, shift, mac_cmd, command.
 #[repr(C)]
@@ -443,15 +488,17 @@ unsafe extern "C" {
     pub safe fn fivvarul_dragged(held_ids: &[u64; HELD], held_flags: &[bool; HELD]) -> HostId;
     pub safe fn fivvarul_potential_click_id(held_ids: &[u64; HELD], held_flags: &[bool; HELD]) -> HostId;
     pub safe fn fivvarul_potential_drag_id(held_ids: &[u64; HELD], held_flags: &[bool; HELD]) -> HostId;
+    pub safe fn fivvarul_tally(tally: &[u32; 1]) -> u32;
     pub safe fn fivvarul_pointer_event_count(seconds: &[f64; SECONDS], floats: &[f32; FLOATS], counts: &[usize; COUNTS], flags: &[bool; FLAGS]) -> usize;
     pub safe fn fivvarul_pointer_event(seconds: &[f64; SECONDS], floats: &[f32; FLOATS], counts: &[usize; COUNTS], flags: &[bool; FLAGS], codes: &[u32; CODES], places: &[f32; PLACES], i: usize) -> HostPointerEvent;
     pub safe fn fivvarul_zoom_factor(exponent: f32) -> HostFactor;
-    pub safe fn fivvarul_modifiers(flags: &[bool; FLAGS], keys_down: &[u64; KEYS]) -> u32;
-    pub safe fn fivvarul_tally(tally: &[u32; 1]) -> u32;
+    pub safe fn fivvarul_kernel_fresh() -> KernelTouches;
+    pub fn fivvarul_read_records(kernel: KernelTouches, device: u64, bytes: *const u8, bytes_len: usize, feed: *mut u32, feed_len: usize) -> HostKernelRead;
     pub safe fn fivvarul_key_down(flags: &[bool; FLAGS], keys_down: &[u64; KEYS], key: u32) -> bool;
     pub safe fn fivvarul_key_pressed(presses: &[u8; PRESSES], key: u32) -> bool;
     pub safe fn fivvarul_num_presses(presses: &[u8; PRESSES], key: u32) -> u8;
     pub safe fn fivvarul_feed_was_empty(flags: &[bool; FLAGS], keys_down: &[u64; KEYS]) -> bool;
+    pub safe fn fivvarul_modifiers(flags: &[bool; FLAGS], keys_down: &[u64; KEYS]) -> u32;
     pub safe fn fivvarul_delta(floats: &[f32; FLOATS], counts: &[usize; COUNTS], flags: &[bool; FLAGS]) -> HostVector;
     pub safe fn fivvarul_motion(floats: &[f32; FLOATS], counts: &[usize; COUNTS], flags: &[bool; FLAGS]) -> HostMaybeVector;
     pub safe fn fivvarul_velocity(floats: &[f32; FLOATS], counts: &[usize; COUNTS], flags: &[bool; FLAGS]) -> HostVector;
@@ -626,6 +673,11 @@ impl Memory {
         fivvarul_potential_drag_id(&self.held_ids, &self.held_flags)
     }
 
+    /// How many drags were started.
+    pub fn tally(&self) -> u32 {
+        fivvarul_tally(&self.tally)
+    }
+
     /// How many there were.
     pub fn pointer_event_count(&self) -> usize {
         fivvarul_pointer_event_count(&self.seconds, &self.floats, &self.counts, &self.flags)
@@ -641,14 +693,14 @@ impl Memory {
         fivvarul_zoom_factor(exponent)
     }
 
-    /// 01's five bits: alt, ctrl, shift, mac_cmd, command.
-    pub fn modifiers(&self) -> u32 {
-        fivvarul_modifiers(&self.flags, &self.keys_down)
+    /// No finger in any slot.
+    pub fn kernel_fresh() -> KernelTouches {
+        fivvarul_kernel_fresh()
     }
 
-    /// How many drags were started.
-    pub fn tally(&self) -> u32 {
-        fivvarul_tally(&self.tally)
+    /// The bytes of a call become events of `device` in the feed buffer. Refused, every place of the buffer is as before.
+    pub fn read_records(kernel: KernelTouches, device: u64, bytes: &[u8], feed: &mut [u32]) -> HostKernelRead {
+        unsafe { fivvarul_read_records(kernel, device, bytes.as_ptr(), bytes.len(), feed.as_mut_ptr(), feed.len()) }
     }
 
     pub fn key_down(&self, key: u32) -> bool {
@@ -665,6 +717,11 @@ impl Memory {
 
     pub fn feed_was_empty(&self) -> bool {
         fivvarul_feed_was_empty(&self.flags, &self.keys_down)
+    }
+
+    /// 01's five bits: alt, ctrl, shift, mac_cmd, command.
+    pub fn modifiers(&self) -> u32 {
+        fivvarul_modifiers(&self.flags, &self.keys_down)
     }
 
     pub fn delta(&self) -> HostVector {

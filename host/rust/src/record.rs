@@ -1,6 +1,6 @@
 //! A recorder: a panel that writes every call as a trace.
 use crate::insert::Left;
-use crate::{Hit, Hits, InteractionSnapshot, Modifiers, Panel, RawInput, Rect, Refusal};
+use crate::{Hit, Hits, InteractionSnapshot, KernelTouches, Modifiers, Panel, RawInput, Rect, Refusal};
 use core::ops::Deref;
 
 // The calls of compare/FORMAT.md.
@@ -28,12 +28,13 @@ pub struct Recorder<S> {
     pub(crate) panel: Panel,
     pub(crate) sink: S,
     pub(crate) left: Left,
+    pub(crate) kernel: KernelTouches,
 }
 
 impl<S: FnMut(&[u32])> Recorder<S> {
     /// A fresh panel, recorded from its start.
     pub fn new(sink: S) -> Recorder<S> {
-        let mut r = Recorder { panel: Panel::new(), sink, left: Left::default() };
+        let mut r = Recorder { panel: Panel::new(), sink, left: Left::default(), kernel: KernelTouches::new() };
         r.head(RESET, 0);
         r
     }

@@ -9,7 +9,7 @@ pub struct Refusal {
 }
 
 impl Refusal {
-    /// The refusal's number, 1 to 10.
+    /// The refusal's number: 1 to 10 of a panel's calls, 11 to 13 of the kernel's records and of a zoom exponent.
     pub const fn number(self) -> u32 {
         self.number
     }
@@ -29,9 +29,11 @@ impl Refusal {
             5 => "a fifth device, or the start of an eleventh touch",
             6 => "a new widget at 1,024, or a new layer at 32",
             7 => "a known widget on another layer",
-            8 => "an id buffer under 66 places, or a lent slice too short for the layer",
+            8 => "an id buffer under 66 places, a lent slice too short for the layer, or a feed buffer too short",
             9 => "an id of 0",
             10 => "a drag start with the tally at its end",
+            11 => "bytes that are not whole records of the kernel",
+            12 => "a slot outside 0 to 9",
             13 => "an exponent beyond 1 in size",
             _ => "a number of no listed meaning",
         }
