@@ -1,10 +1,12 @@
 //! The linked library behind compare/FORMAT.md: a request's words in, the answer's words out.
 use fivvarul::{
-    Hit, Hits, InputOptions, KernelTouches, LayerId, Modifiers, MultiTouchInfo, Panel, PointerButton, PointerEvent, RawInput, Rect, Refusal, Rotation, WidgetRect, pos2, zoom_factor,
+    Hit, Hits, InputOptions, LayerId, Modifiers, MultiTouchInfo, PointerButton, PointerEvent, RawInput, Recorder, Rect, Refusal, Rotation, WidgetRect, pos2, zoom_factor,
 };
 use fivvarul_compare::words::{self, Out, u64_of};
 use fivvarul_compare::{Pos2, Vec2};
+use std::cell::RefCell;
 use std::collections::{BTreeSet, HashMap};
+use std::rc::Rc;
 
 const WIDGET: usize = 17;
 /// Room beyond what any call needs, and what it is filled with.
@@ -12,13 +14,22 @@ const MOST_PLACES: usize = 1100;
 const MOST_FEED: usize = 40_000;
 const FILL: u64 = 0x5A5A_5A5A_5A5A_5A5A;
 
-#[derive(Default)]
+type Sink = Box<dyn FnMut(&[u32])>;
+
 pub struct Machine {
-    panel: Box<Panel>,
+    panel: Box<Recorder<Sink>>,
+    /// The recorder's trace, and the answers to its calls.
+    pub tape: Rc<RefCell<Vec<u32>>>,
+    pub answers: Vec<Vec<u32>>,
     /// What the last insertion left in each layer's slice.
     lent: HashMap<(u32, u64), Vec<WidgetRect>>,
     devices: BTreeSet<u64>,
-    kernel: KernelTouches,
+}
+
+impl Default for Machine {
+    fn default() -> Self {
+        Machine::on(Rc::default(), Vec::new())
+    }
 }
 
 fn f(w: u32) -> f32 {
@@ -78,12 +89,28 @@ fn devices(feed: &[u32]) -> Vec<u64> {
 }
 
 impl Machine {
+    /// A fresh panel, recorded after what the tape holds.
+    fn on(tape: Rc<RefCell<Vec<u32>>>, mut answers: Vec<Vec<u32>>) -> Machine {
+        let end = tape.clone();
+        let sink: Sink = Box::new(move |words| end.borrow_mut().extend_from_slice(words));
+        answers.push(vec![0]);
+        Machine { panel: Box::new(Recorder::new(sink)), tape, answers, lent: HashMap::new(), devices: BTreeSet::new() }
+    }
+
     /// The answer's record, or none where the library has no such call.
     pub fn answer(&mut self, call: u32, w: &[u32]) -> Option<Vec<u32>> {
+        let answer = self.answered(call, w)?;
+        if matches!(call, words::PASS | words::INSERT | words::CLEAR | words::INTERACT | words::KERNEL) {
+            self.answers.push(answer.clone());
+        }
+        Some(answer)
+    }
+
+    fn answered(&mut self, call: u32, w: &[u32]) -> Option<Vec<u32>> {
         let mut o = Out(vec![0], None);
         let done = match call {
             words::RESET if w.is_empty() => {
-                *self = Machine::default();
+                *self = Machine::on(self.tape.clone(), core::mem::take(&mut self.answers));
                 Ok(())
             }
             words::PASS => self.pass(w)?,
@@ -210,7 +237,7 @@ impl Machine {
         let (head, w) = w.split_at_checked(4)?;
         let bytes = words::read_bytes(head[3], w)?;
         let mut feed = vec![FILL as u32; (head[2] as usize).min(MOST_FEED)];
-        let done = self.kernel.read_records(u64_of(head), &bytes, &mut feed);
+        let done = self.panel.read_records(u64_of(head), &bytes, &mut feed);
         let written = done.map_or(0, |r| r.words);
         assert!(feed[written..].iter().all(|w| *w == FILL as u32), "a place beyond the feed's words was written");
         Some(done.map(|r| {

@@ -1,6 +1,7 @@
 //! linked [calls=N] [seed=K]
 //! egui and the linked library in one process on the same aimed requests, every answer compared: those of `run`, but for the calls that the library
-//! has not (DUMP, EXTRA, SET_TALLY and what is not landed), which neither side gets. Ends with 1 at the first difference.
+//! has not (DUMP, EXTRA, SET_TALLY and what is not landed), which neither side gets. The calls go through a recorder, whose
+//! trace egui answers once more. Ends with 1 at the first difference.
 mod machine;
 
 use fivvarul_compare::beside::Beside;
@@ -9,6 +10,21 @@ use fivvarul_compare::words::{call_name, record_at};
 use machine::Machine;
 use std::collections::BTreeMap;
 use std::process::ExitCode;
+
+/// The recorder's trace, answered by egui: what is answered otherwise than the library did, if anything is.
+fn recorded(library: &Machine) -> Option<String> {
+    let tape = library.tape.borrow();
+    let mut egui = Beside::default();
+    let mut at = 0;
+    for answer in &library.answers {
+        let request = record_at(&tape, at);
+        at += request.len();
+        if let Some(wrong) = egui.record(request[0] >> 24, &request[1..], answer) {
+            return Some(format!("word {} {wrong}", at - request.len()));
+        }
+    }
+    (at != tape.len()).then(|| format!("{} words left over", tape.len() - at))
+}
 
 fn main() -> ExitCode {
     let (mut calls, mut seed) = (1_000_000u64, 1u64);
@@ -38,6 +54,10 @@ fn main() -> ExitCode {
             }
             counts.entry(call).or_default()[usize::from(got[0] >> 24 != 0)] += 1;
             done += 1;
+        }
+        if let Some(wrong) = recorded(&library) {
+            println!("linked: seed {seed}, the recorder's trace: {wrong}");
+            return ExitCode::from(1);
         }
         seed += 1;
     }

@@ -137,7 +137,10 @@ fn main() -> Result<(), Box<dyn std::error::Error>> {
     }
     let Slots { reserved, filled, given_back } = shop.slots;
     println!("{DRAGS} drags, {lost} releases lost on the cable");
-    println!("slots: {reserved} reserved, {filled} filled, {given_back} given back: {}", if reserved == filled + given_back { "they balance" } else { "THEY DON'T BALANCE" });
+    println!(
+        "slots: {reserved} reserved, {filled} filled, {given_back} given back: {}",
+        if reserved == filled + given_back { "they balance" } else { "THEY DON'T BALANCE" }
+    );
     println!("drag starts counted by the panel: {}", shop.panel.tally());
     drop(shop);
     if let Some(path) = std::env::args().nth(1) {

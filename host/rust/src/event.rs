@@ -14,8 +14,7 @@ pub enum PointerButton {
 
 impl PointerButton {
     /// All five, by number.
-    pub const ALL: [PointerButton; 5] =
-        [PointerButton::Primary, PointerButton::Secondary, PointerButton::Middle, PointerButton::Extra1, PointerButton::Extra2];
+    pub const ALL: [PointerButton; 5] = [PointerButton::Primary, PointerButton::Secondary, PointerButton::Middle, PointerButton::Extra1, PointerButton::Extra2];
 }
 
 /// What a touch or a wheel does.
@@ -63,19 +62,39 @@ impl MouseWheelSource {
 #[allow(missing_docs)]
 pub enum Event {
     /// `key` is its place in egui's `Key`, 0 to 144.
-    Key { key: u8, pressed: bool },
+    Key {
+        key: u8,
+        pressed: bool,
+    },
     ModifiersChanged(Modifiers),
     PointerMoved(Pos2),
     MouseMoved(Vec2),
-    PointerButton { pos: Pos2, button: PointerButton, pressed: bool, modifiers: Modifiers },
+    PointerButton {
+        pos: Pos2,
+        button: PointerButton,
+        pressed: bool,
+        modifiers: Modifiers,
+    },
     PointerGone,
     /// A factor above 0, at most 1,024.
     Zoom(f32),
     /// Radians, at most 64 in size.
     Rotate(f32),
     /// `force` is 0 to 1.
-    Touch { device_id: u64, id: u64, phase: TouchPhase, pos: Pos2, force: Option<f32> },
-    MouseWheel { unit: MouseWheelUnit, delta: Vec2, phase: TouchPhase, source: MouseWheelSource, modifiers: Modifiers },
+    Touch {
+        device_id: u64,
+        id: u64,
+        phase: TouchPhase,
+        pos: Pos2,
+        force: Option<f32>,
+    },
+    MouseWheel {
+        unit: MouseWheelUnit,
+        delta: Vec2,
+        phase: TouchPhase,
+        source: MouseWheelSource,
+        modifiers: Modifiers,
+    },
     WindowFocused(bool),
     /// Any other event: it only keeps the feed from being empty.
     Other,

@@ -197,17 +197,43 @@ fn ask(p: &Panel, r: &mut Random) -> u64 {
     let layer = LayerId { order: r.below(6) as u32, id };
     let mut text = std::format!(
         "{:?}",
-        (p.time(), p.unstable_dt(), p.predicted_dt(), p.stable_dt(), p.focused(), p.viewport_rect(), p.pixels_per_point(), p.physical_pixel_size(), p.aim_radius(), p.modifiers())
+        (
+            p.time(),
+            p.unstable_dt(),
+            p.predicted_dt(),
+            p.stable_dt(),
+            p.focused(),
+            p.viewport_rect(),
+            p.pixels_per_point(),
+            p.physical_pixel_size(),
+            p.aim_radius(),
+            p.modifiers()
+        )
     );
-    text += &std::format!("{:?}", (p.smooth_scroll_delta(), p.zoom_delta(), p.zoom_delta_2d(), p.rotation_delta(), p.translation_delta(), p.is_scrolling(), p.scroll_source()));
-    text += &std::format!("{:?}", (p.time_since_last_scroll(), p.wants_repaint_after(), p.key_down(key), p.key_pressed(key), p.num_presses(key), p.feed_was_empty()));
+    text += &std::format!(
+        "{:?}",
+        (p.smooth_scroll_delta(), p.zoom_delta(), p.zoom_delta_2d(), p.rotation_delta(), p.translation_delta(), p.is_scrolling(), p.scroll_source())
+    );
+    text += &std::format!(
+        "{:?}",
+        (p.time_since_last_scroll(), p.wants_repaint_after(), p.key_down(key), p.key_pressed(key), p.num_presses(key), p.feed_was_empty())
+    );
     text += &std::format!("{:?}", (p.any_touches(), p.has_touch_screen(), p.multi_touch(), p.info(id), p.any_touches_of(id), p.is_long_touch(), p.tally()));
     text += &std::format!("{:?}", (p.dragged(), p.potential_click_id(), p.potential_drag_id(), p.contains(id), p.get(id), p.order(id), p.layer_count(layer)));
-    text += &std::format!("{:?}", (q.delta(), q.motion(), q.velocity(), q.direction(), q.latest_pos(), q.hover_pos(), q.interact_pos(), q.has_pointer(), q.is_still(), q.is_moving()));
-    text += &std::format!("{:?}", (q.time_since_last_movement(), q.press_origin(), q.total_drag_delta(), q.press_start_time(), q.any_down(), q.any_pressed(), q.any_released()));
+    text += &std::format!(
+        "{:?}",
+        (q.delta(), q.motion(), q.velocity(), q.direction(), q.latest_pos(), q.hover_pos(), q.interact_pos(), q.has_pointer(), q.is_still(), q.is_moving())
+    );
+    text += &std::format!(
+        "{:?}",
+        (q.time_since_last_movement(), q.press_origin(), q.total_drag_delta(), q.press_start_time(), q.any_down(), q.any_pressed(), q.any_released())
+    );
     text += &std::format!("{:?}", (q.any_click(), q.time_since_last_click(), q.could_any_button_be_click(), q.is_decidedly_dragging(), q.is_long_press()));
     for b in PointerButton::ALL {
-        text += &std::format!("{:?}", (q.button_down(b), q.button_pressed(b), q.button_released(b), q.button_clicked(b), q.button_double_clicked(b), q.button_triple_clicked(b)));
+        text += &std::format!(
+            "{:?}",
+            (q.button_down(b), q.button_pressed(b), q.button_released(b), q.button_clicked(b), q.button_double_clicked(b), q.button_triple_clicked(b))
+        );
     }
     text += &std::format!("{:?} {:?}", q.events().collect::<Vec<_>>(), p.layer_ids().collect::<Vec<_>>());
     let mut sum = DefaultHasher::new();

@@ -50,4 +50,4 @@ pub use panel::Panel;
 pub use pointer::PointerState;
 pub use record::Recorder;
 pub use refusal::Refusal;
-pub use widgets::{Hit, Hits, IdSet, Inserted, InteractionSnapshot, Interacted, LayerId, Sense, WidgetRect};
+pub use widgets::{Hit, Hits, IdSet, Inserted, Interacted, InteractionSnapshot, LayerId, Sense, WidgetRect};

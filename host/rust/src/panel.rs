@@ -2,8 +2,8 @@
 use crate::answers::{gesture, id, rotation, seconds, vector};
 use crate::ffi::{words_of, HostSet, Memory};
 use crate::{
-    vec2, Feed, Hits, IdSet, Interacted, InteractionSnapshot, Modifiers, MouseWheelSource, MultiTouchInfo, PointerState, RawInput, Rect, Refusal, Rotation, Vec2, Zoom,
-    Zoom2d,
+    vec2, Feed, Hits, IdSet, Interacted, InteractionSnapshot, Modifiers, MouseWheelSource, MultiTouchInfo, PointerState, RawInput, Rect, Refusal, Rotation,
+    Vec2, Zoom, Zoom2d,
 };
 
 /// The state of one panel: plain memory, without a pointer in it. It may be moved, cloned, sent to another thread and kept in a `static`.

@@ -1,6 +1,6 @@
 //! A recorder: a panel that writes every call as a trace.
 use crate::insert::Left;
-use crate::{Hit, Hits, InteractionSnapshot, KernelTouches, Modifiers, Panel, RawInput, Rect, Refusal};
+use crate::{Hit, Hits, Interacted, InteractionSnapshot, KernelTouches, Modifiers, Panel, RawInput, Rect, Refusal};
 use core::ops::Deref;
 
 // The calls of compare/FORMAT.md.
@@ -66,6 +66,12 @@ impl<S: FnMut(&[u32])> Recorder<S> {
         self.panel.interact(hits)
     }
 
+    /// [`Panel::interact_into`].
+    pub fn interact_into(&mut self, hits: &Hits, hovered: &mut [u64], contains_pointer: &mut [u64]) -> Result<Interacted, Refusal> {
+        self.hits(hits, hovered.len(), contains_pointer.len());
+        self.panel.interact_into(hits, hovered, contains_pointer)
+    }
+
     /// Has a replay answer every question here.
     pub fn ask(&mut self) {
         self.head(ASK, 0);
@@ -82,7 +88,9 @@ impl<S: FnMut(&[u32])> Recorder<S> {
         let given = hits.click.iter().len() + hits.drag.iter().len();
         self.head(INTERACT, 5 + 3 * (close + within + given));
         let bits = u32::from(hits.click.is_some()) | u32::from(hits.drag.is_some()) << 1;
-        (self.sink)(&[hovered as u32, contains_pointer as u32, close as u32, within as u32, bits]);
+        // Places beyond those that an interact needs say nothing more.
+        let places = |n: usize| n.min(crate::IdSet::PLACES) as u32;
+        (self.sink)(&[places(hovered), places(contains_pointer), close as u32, within as u32, bits]);
         let entries = hits.close[..close].iter().chain(&hits.contains_pointer[..within]);
         for hit in entries.chain(&hits.click).chain(&hits.drag) {
             (self.sink)(&[low(hit.id), high(hit.id), sense(hit.sense)]);

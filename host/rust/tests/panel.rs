@@ -1,7 +1,7 @@
 //! The panel through the linked library: clicks, drags, a lost release and the clearing pass, refusals that change nothing.
 use fivvarul::{
-    pos2, Event, Feed, Hit, Hits, InteractionSnapshot, LayerId, Modifiers, Panel, PointerButton, PointerEvent, Pos2, RawInput, Recorder, Rect, Sense, TouchPhase,
-    WidgetRect,
+    pos2, Event, Feed, Hit, Hits, InteractionSnapshot, LayerId, Modifiers, Panel, PointerButton, PointerEvent, Pos2, RawInput, Recorder, Rect, Sense,
+    TouchPhase, WidgetRect,
 };
 
 const SCREEN: Rect = Rect::from_min_max(pos2(0.0, 0.0), pos2(800.0, 480.0));
@@ -92,7 +92,9 @@ fn two_panels_with_two_pasts_answer_alike() {
         p.begin_pass_words(&at(2.0, &[]), Feed::clearing(&[(7, 3)], pos2(1.0, 1.0)).words()).unwrap();
         p.interact(&Hits::default()).unwrap();
     }
-    for (time, events) in [(3.0, vec![button(pos2(1.0, 1.0), true)]), (3.1, vec![Event::PointerMoved(pos2(40.0, 1.0))]), (3.2, vec![button(pos2(40.0, 1.0), false)])] {
+    for (time, events) in
+        [(3.0, vec![button(pos2(1.0, 1.0), true)]), (3.1, vec![Event::PointerMoved(pos2(40.0, 1.0))]), (3.2, vec![button(pos2(40.0, 1.0), false)])]
+    {
         for p in [&mut a, &mut b] {
             p.begin_pass(&at(time, &events)).unwrap();
         }
