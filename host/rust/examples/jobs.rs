@@ -3,7 +3,9 @@
 //!
 //!     cargo run --example jobs            prints what happens
 //!     cargo run --example jobs TRACE      also writes every call to TRACE, for ./run TRACE
-use fivvarul::{pos2, Event, Feed, Hit, Hits, LayerId, Modifiers, PointerButton, Pos2, RawInput, Recorder, Rect, Refusal, Sense, WidgetRect};
+use fivvarul::{
+    pos2, Event, Feed, Hit, Hits, InteractionSnapshot, LayerId, Modifiers, PointerButton, Pos2, RawInput, Recorder, Rect, Refusal, Sense, WidgetRect,
+};
 use std::{fs, io::Write};
 
 const LISTS: u64 = 4;
@@ -78,13 +80,20 @@ impl<S: FnMut(&[u32])> Shop<S> {
         let under: Vec<Hit> = self.widgets.iter().filter(|w| at.is_some_and(|p| w.interact_rect.contains(p))).map(Hit::from).collect();
         let drag = under.iter().copied().find(|h| h.sense & u64::from(Sense::DRAG) != 0);
         let snapshot = self.panel.interact(&Hits { close: &under, contains_pointer: &under, click: None, drag })?;
+        let over_queue = under.iter().any(|h| h.id == QUEUE);
+        self.settle(&snapshot, over_queue && !clearing, clearing);
+        Ok(())
+    }
+
+    /// Reserves a slot for a drag that started, fills it or gives it back for one that stopped.
+    fn settle(&mut self, snapshot: &InteractionSnapshot, queued: bool, clearing: bool) {
         if let Some(job) = snapshot.drag_started {
             self.slots.reserved += 1;
             println!("{:7.3}  job {job}: drag starts, a slot is reserved", self.time);
         }
         if let Some(job) = snapshot.drag_stopped {
             // A job that the clearing pass lets go is not queued: nobody released it.
-            if !clearing && under.iter().any(|h| h.id == QUEUE) {
+            if queued {
                 self.slots.filled += 1;
                 println!("{:7.3}  job {job}: dropped on the queue, the slot is filled", self.time);
             } else {
@@ -93,9 +102,8 @@ impl<S: FnMut(&[u32])> Shop<S> {
                 println!("{:7.3}  job {job}: {why}, the slot is given back", self.time);
             }
         }
-        let dragged = u32::from(self.panel.dragged().is_some());
+        let dragged = u32::from(snapshot.dragged.is_some());
         assert_eq!(self.slots.reserved, self.slots.filled + self.slots.given_back + dragged);
-        Ok(())
     }
 
     fn events(&mut self, events: &[Event]) -> Result<(), Refusal> {
