@@ -2,10 +2,10 @@
 //! GARBAGE=N runs N rounds of some 100,000 bytes each; for valgrind, or for an hour.
 extern crate std;
 
-use crate::ffi::Memory;
+use crate::ffi::{Finger, Memory};
 use crate::{
-    Event, Feed, Hit, Hits, InputOptions, LayerId, Modifiers, MouseWheelSource, MouseWheelUnit, Panel, PointerButton, Pos2, RawInput, Rect, TouchPhase, Vec2,
-    WidgetRect,
+    Event, Feed, Hit, Hits, InputOptions, KernelTouches, LayerId, Modifiers, MouseWheelSource, MouseWheelUnit, Panel, PointerButton, Pos2, RawInput, Rect,
+    TouchPhase, Vec2, WidgetRect,
 };
 use std::{boxed::Box, env, vec::Vec};
 
@@ -190,6 +190,33 @@ impl Random {
     }
 }
 
+/// The kernel's records through slots of any contents: whole records and others, of every type and code.
+fn records(r: &mut Random) {
+    let mut kernel = KernelTouches::new();
+    if r.below(2) == 0 {
+        for slot in &mut kernel.0.slots {
+            for finger in [&mut slot.now, &mut slot.acted] {
+                *finger = Finger { id: r.word() as i32, x: r.word() as i32, y: r.word() as i32 };
+            }
+        }
+        (kernel.0.chosen, kernel.0.skipping) = (r.count(), r.below(2) == 0);
+    }
+    let mut bytes = Vec::new();
+    for _ in 0..r.below(60) {
+        bytes.extend([0; 16]);
+        let (kind, code) = [(3, 0x2f), (3, 0x35), (3, 0x36), (3, 0x39), (0, 0), (0, 3), (r.word() as u16, r.word() as u16)][r.below(7)];
+        let value = if r.below(40) == 0 { r.word() as i32 } else { r.below(10) as i32 - 1 };
+        bytes.extend(kind.to_le_bytes().into_iter().chain(code.to_le_bytes()).chain(value.to_le_bytes()));
+    }
+    bytes.truncate(bytes.len() - if r.below(20) == 0 { bytes.len().min(1) } else { 0 });
+    let mut feed = std::vec![7; r.below(200)];
+    let before = kernel.clone();
+    match kernel.read_records(r.id(), &bytes, &mut feed) {
+        Ok(read) => assert!(feed[read.words..].iter().all(|w| *w == 7)),
+        Err(_) => assert!(kernel == before && feed.iter().all(|w| *w == 7)),
+    }
+}
+
 /// Every question, and a checksum of their answers.
 fn ask(p: &Panel, r: &mut Random) -> u64 {
     use std::hash::{DefaultHasher, Hash, Hasher};
@@ -270,6 +297,7 @@ fn round(p: &mut Panel, r: &mut Random, counts: &mut [[u32; 2]; 3]) {
             count[usize::from(!taken)] += 1;
         }
         let _ = crate::zoom_factor(r.float());
+        records(r);
     }
 }
 

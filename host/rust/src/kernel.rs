@@ -27,7 +27,7 @@ use crate::Refusal;
 /// # Ok::<(), fivvarul::Refusal>(())
 /// ```
 #[derive(Clone, Debug, PartialEq)]
-pub struct KernelTouches(ffi::KernelTouches);
+pub struct KernelTouches(pub(crate) ffi::KernelTouches);
 
 /// What the records of a call gave.
 #[derive(Clone, Copy, Debug, PartialEq, Eq)]
