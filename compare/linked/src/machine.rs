@@ -100,7 +100,7 @@ impl Machine {
     /// The answer's record, or none where the library has no such call.
     pub fn answer(&mut self, call: u32, w: &[u32]) -> Option<Vec<u32>> {
         let answer = self.answered(call, w)?;
-        if matches!(call, words::PASS | words::INSERT | words::CLEAR | words::INTERACT | words::KERNEL) {
+        if matches!(call, words::PASS | words::INSERT | words::CLEAR | words::INTERACT | words::ASK | words::KERNEL) {
             self.answers.push(answer.clone());
         }
         Some(answer)
@@ -121,6 +121,7 @@ impl Machine {
             }
             words::INTERACT => self.interact(w, &mut o)?,
             words::ASK if w.is_empty() => {
+                self.panel.ask();
                 self.ask(&mut o);
                 Ok(())
             }
