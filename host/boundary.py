@@ -1,5 +1,5 @@
 #!/usr/bin/env python3
-"""Writes host/rust/src/ffi.rs and host/c/fivvarul.h from the exported functions of crates/host.
+"""Writes host/rust/src/ffi.rs and host/c/fivvarul.h from the exported functions of crates/host and crates/host_questions.
 
     host/boundary.py            writes both files
     host/boundary.py --check    says which of the two isn't what it would write, and ends with 1
@@ -11,7 +11,8 @@ function, so both files have a record of all of them, and each function once mor
 import glob, os, re, sys
 
 os.chdir(os.path.dirname(os.path.dirname(os.path.abspath(__file__))))
-EXPORTS = 'host'
+# the operations, and the questions
+EXPORTS = ('host', 'host_questions')
 PREFIX = 'fivvarul_'
 # size, name in C; a type of Rattle has the same name in Rust
 SCALARS = {'bool': (1, 'bool'), 'u8': (1, 'uint8_t'), 'i32': (4, 'int32_t'), 'u32': (4, 'uint32_t'), 'u64': (8, 'uint64_t'), 'usize': (8, 'size_t'),
@@ -128,13 +129,13 @@ def form(module, t):
 
 exports = []
 for module in modules.values():
-    if module.crate == EXPORTS:
+    if module.crate in EXPORTS:
         for name, text, given, answer in module.exports:
             if not name.startswith(PREFIX):
                 refuse(f'{module.name}: {name} does not start with {PREFIX}')
             exports.append((module, name, text, [(n, *form(module, t)) for n, t in given], answer and form(module, answer)[1]))
 if not exports:
-    refuse(f'crates/{EXPORTS} exports no function')
+    refuse('no function is exported')
 # The calls that change a panel first, then the questions by file.
 exports.sort(key=lambda e: (not any(w for _, k, _, _, w in e[3] if k == 'array'), e[0].name))
 
@@ -205,7 +206,7 @@ def rust_method(name, text, given, answer):
 
 
 def rust():
-    out = ['''//! What crosses to the archive of the Rattle crate `host`. Made by host/boundary.py from crates/host/src, and checked against it by the gate.
+    out = ['''//! What crosses to the archives of the Rattle crates `host` and `host_questions`. Made by host/boundary.py from their sources, and checked against it by the gate.
 //!
 //! Every reference leads to memory that Rust owns, a `&mut` is the only one to its place, a slice is a pointer and its own length, and no exported
 //! function has a precondition: each call is sound if these declarations are those of the sources. A slice of no places has a pointer too, at
@@ -268,7 +269,7 @@ def c_parameters(given, places):
 
 
 def c():
-    out = ['''/* The panel for C. Made by host/boundary.py from crates/host/src, and checked against it by the gate: see docs/HOST.md.
+    out = ['''/* The panel for C. Made by host/boundary.py from crates/host and crates/host_questions, and checked against them by the gate: see docs/HOST.md.
  *
  * A FivvarulPanel is plain memory of the caller's, at any address aligned to 8: it may be copied and moved. fivvarul_panel_fresh makes it a
  * fresh panel; any other contents mean a panel too. A bool must be 0 or 1, a pointer must lead to as many places as its length says (with
@@ -316,7 +317,7 @@ made = {'host/rust/src/ffi.rs': rust(), 'host/c/fivvarul.h': c()}
 other = [path for path, text in made.items() if not os.path.exists(path) or open(path, encoding='utf-8').read() != text]
 if sys.argv[1:] == ['--check']:
     for path in other:
-        print(f'boundary: {path} is not what the sources of crates/{EXPORTS} give: run host/boundary.py')
+        print(f'boundary: {path} is not what the sources of crates/host and crates/host_questions give: run host/boundary.py')
     if other:
         sys.exit(1)
     print(f'boundary: {len(exports)} functions, {len(records)} records, {len(memory)} places: both files are what the sources give')

@@ -1,7 +1,7 @@
 #!/bin/sh
 # The gate's part for the linked library: the boundary's files are what the sources give; the archive is proved and built; the Rust package's tests, both
 # examples and the comparison in process pass. What is not at hand (python3, cargo, a C compiler, egui's sources) is said and left out.
-#   host/run.sh               FIVVARUL_LIB: the folder of libhost.a, if it is built already; CALLS: how many calls are compared, default 1,000,000
+#   host/run.sh               FIVVARUL_LIB: the folder of libhost.a and libhost_questions.a, if they are built already; CALLS: how many calls are compared, default 1,000,000
 # Ends with 1 at the first that fails.
 set -eu
 here=$(cd "$(dirname "$0")" && pwd)
@@ -21,12 +21,14 @@ else
     say "python3 is not at hand, the boundary's files were not checked"
 fi
 if [ -z "${FIVVARUL_LIB:-}" ]; then
-    rt staticlib host >"$work/log" 2>&1 || { cat "$work/log"; exit 1; }
+    for archive in host host_questions; do
+        rt staticlib $archive >"$work/log" 2>&1 || { cat "$work/log"; exit 1; }
+    done
     FIVVARUL_LIB=$PWD/target/staticlib
 fi
 export FIVVARUL_LIB
 if command -v cc >/dev/null; then
-    cc -std=c11 -Wall -Wextra -Werror -O2 -Ihost/c host/c/example.c "$FIVVARUL_LIB/libhost.a" -o "$work/example"
+    cc -std=c11 -Wall -Wextra -Werror -O2 -Ihost/c host/c/example.c "$FIVVARUL_LIB/libhost.a" "$FIVVARUL_LIB/libhost_questions.a" -o "$work/example"
     "$work/example" >"$work/c"
     same "$work/c" host/c/expected.txt
     say "the example in C prints what is stored"

@@ -1,4 +1,4 @@
-/* The panel for C. Made by host/boundary.py from crates/host/src, and checked against it by the gate: see docs/HOST.md.
+/* The panel for C. Made by host/boundary.py from crates/host and crates/host_questions, and checked against them by the gate: see docs/HOST.md.
  *
  * A FivvarulPanel is plain memory of the caller's, at any address aligned to 8: it may be copied and moved. fivvarul_panel_fresh makes it a
  * fresh panel; any other contents mean a panel too. A bool must be 0 or 1, a pointer must lead to as many places as its length says (with
@@ -34,46 +34,6 @@ extern "C" {
 #define FIVVARUL_SECONDS 9
 #define FIVVARUL_WORDS 2080
 
-/* Option<Pos2> */
-typedef struct {
-    float x;
-    float y;
-    bool given;
-} FivvarulPosition;
-
-/* Option<f64>, in seconds */
-typedef struct {
-    double value;
-    bool given;
-} FivvarulSeconds;
-
-/* A position on the screen. `repr(C)` here and in Rect, LayerId and WidgetRect: a host lends its widgets as they stand. */
-typedef struct {
-    float x;
-    float y;
-} FivvarulPos2;
-
-typedef struct {
-    FivvarulPos2 min;
-    FivvarulPos2 max;
-} FivvarulRect;
-
-/* Option<Id> */
-typedef struct {
-    uint64_t id;
-    bool given;
-} FivvarulId;
-
-/* Option<PointerEvent>: `kind` is 0 moved, 1 pressed, 2 released, 3 released with a click, whose count and modifiers follow */
-typedef struct {
-    uint32_t kind;
-    uint32_t button;
-    uint32_t count;
-    uint32_t modifiers;
-    FivvarulPos2 pos;
-    bool given;
-} FivvarulPointerEvent;
-
 /* `number` 0, and the factor; or 02's number of the refusal, and 0. */
 typedef struct {
     float factor;
@@ -91,6 +51,17 @@ typedef struct {
     uint32_t order;
     uint64_t id;
 } FivvarulLayerId;
+
+/* A position on the screen. `repr(C)` here and in Rect, LayerId and WidgetRect: a host lends its widgets as they stand. */
+typedef struct {
+    float x;
+    float y;
+} FivvarulPos2;
+
+typedef struct {
+    FivvarulPos2 min;
+    FivvarulPos2 max;
+} FivvarulRect;
 
 /* `sense` is a plain number of sense.rs's bits, so that an unnamed bit can be given and refused. */
 typedef struct {
@@ -119,6 +90,12 @@ typedef struct {
     size_t to;
     FivvarulWidgetRect widget;
 } FivvarulInsertion;
+
+/* Option<Id> */
+typedef struct {
+    uint64_t id;
+    bool given;
+} FivvarulId;
 
 /* The answer of an interact. `number` 0: taken, and the counts are those of the two id buffers. Else 01's number of the refusal, and the index where 01 returns one, or 0; every other field is 0. */
 typedef struct {
@@ -190,6 +167,29 @@ typedef struct {
     uint32_t number;
     size_t index;
 } FivvarulRefusal;
+
+/* Option<Pos2> */
+typedef struct {
+    float x;
+    float y;
+    bool given;
+} FivvarulPosition;
+
+/* Option<f64>, in seconds */
+typedef struct {
+    double value;
+    bool given;
+} FivvarulSeconds;
+
+/* Option<PointerEvent>: `kind` is 0 moved, 1 pressed, 2 released, 3 released with a click, whose count and modifiers follow */
+typedef struct {
+    uint32_t kind;
+    uint32_t button;
+    uint32_t count;
+    uint32_t modifiers;
+    FivvarulPos2 pos;
+    bool given;
+} FivvarulPointerEvent;
 
 /* Vec2 */
 typedef struct {
@@ -275,18 +275,15 @@ typedef struct {
 } FivvarulRotation;
 
 #ifndef __cplusplus
-_Static_assert(sizeof(FivvarulPosition) == 12, "FivvarulPosition");
-_Static_assert(sizeof(FivvarulSeconds) == 16, "FivvarulSeconds");
-_Static_assert(sizeof(FivvarulPos2) == 8, "FivvarulPos2");
-_Static_assert(sizeof(FivvarulRect) == 16, "FivvarulRect");
-_Static_assert(sizeof(FivvarulId) == 16, "FivvarulId");
-_Static_assert(sizeof(FivvarulPointerEvent) == 28, "FivvarulPointerEvent");
 _Static_assert(sizeof(FivvarulFactor) == 8, "FivvarulFactor");
 _Static_assert(sizeof(FivvarulSet) == 16, "FivvarulSet");
 _Static_assert(sizeof(FivvarulLayerId) == 16, "FivvarulLayerId");
+_Static_assert(sizeof(FivvarulPos2) == 8, "FivvarulPos2");
+_Static_assert(sizeof(FivvarulRect) == 16, "FivvarulRect");
 _Static_assert(sizeof(FivvarulWidgetRect) == 72, "FivvarulWidgetRect");
 _Static_assert(sizeof(FivvarulInserted) == 24, "FivvarulInserted");
 _Static_assert(sizeof(FivvarulInsertion) == 128, "FivvarulInsertion");
+_Static_assert(sizeof(FivvarulId) == 16, "FivvarulId");
 _Static_assert(sizeof(FivvarulSnapshot) == 112, "FivvarulSnapshot");
 _Static_assert(sizeof(FivvarulFinger) == 12, "FivvarulFinger");
 _Static_assert(sizeof(FivvarulSlot) == 24, "FivvarulSlot");
@@ -294,6 +291,9 @@ _Static_assert(sizeof(FivvarulKernelTouches) == 256, "FivvarulKernelTouches");
 _Static_assert(sizeof(FivvarulKernelRead) == 280, "FivvarulKernelRead");
 _Static_assert(sizeof(FivvarulPass) == 80, "FivvarulPass");
 _Static_assert(sizeof(FivvarulRefusal) == 16, "FivvarulRefusal");
+_Static_assert(sizeof(FivvarulPosition) == 12, "FivvarulPosition");
+_Static_assert(sizeof(FivvarulSeconds) == 16, "FivvarulSeconds");
+_Static_assert(sizeof(FivvarulPointerEvent) == 28, "FivvarulPointerEvent");
 _Static_assert(sizeof(FivvarulVector) == 8, "FivvarulVector");
 _Static_assert(sizeof(FivvarulMaybeVector) == 12, "FivvarulMaybeVector");
 _Static_assert(sizeof(FivvarulNumber) == 8, "FivvarulNumber");
@@ -311,6 +311,9 @@ void fivvarul_fresh(double seconds[FIVVARUL_SECONDS], float floats[FIVVARUL_FLOA
 FivvarulInsertion fivvarul_insert(FivvarulSet set, uint64_t words[FIVVARUL_WORDS], uint32_t numbers[FIVVARUL_NUMBERS], float edges[FIVVARUL_EDGES], FivvarulWidgetRect *layer, size_t layer_len, FivvarulWidgetRect widget, bool move_to_top);
 FivvarulSnapshot fivvarul_interact(const double seconds[FIVVARUL_SECONDS], const float floats[FIVVARUL_FLOATS], const size_t counts[FIVVARUL_COUNTS], const bool flags[FIVVARUL_FLAGS], const uint64_t ids0[FIVVARUL_IDS], const float floats0[FIVVARUL_DEVICE_FLOATS], const bool flags0[FIVVARUL_DEVICE_FLAGS], const uint64_t ids1[FIVVARUL_IDS], const float floats1[FIVVARUL_DEVICE_FLOATS], const bool flags1[FIVVARUL_DEVICE_FLAGS], const uint64_t ids2[FIVVARUL_IDS], const float floats2[FIVVARUL_DEVICE_FLOATS], const bool flags2[FIVVARUL_DEVICE_FLAGS], const uint64_t ids3[FIVVARUL_IDS], const float floats3[FIVVARUL_DEVICE_FLOATS], const bool flags3[FIVVARUL_DEVICE_FLAGS], const double starts[FIVVARUL_MAX_DEVICES], const uint32_t codes[FIVVARUL_CODES], const uint8_t presses[FIVVARUL_PRESSES], uint64_t held_ids[FIVVARUL_HELD], bool held_flags[FIVVARUL_HELD], uint32_t tally[1], size_t widgets, size_t layers, const uint64_t words[FIVVARUL_WORDS], const uint32_t numbers[FIVVARUL_NUMBERS], const uint64_t *close, size_t close_len, const uint64_t *within, size_t within_len, bool click_given, uint64_t click_id, uint64_t click_sense, bool drag_given, uint64_t drag_id, uint64_t drag_sense, uint64_t *top, size_t top_len, uint64_t *all, size_t all_len);
 FivvarulRefusal fivvarul_pass(double seconds[FIVVARUL_SECONDS], float floats[FIVVARUL_FLOATS], size_t counts[FIVVARUL_COUNTS], bool flags[FIVVARUL_FLAGS], uint64_t keys_down[FIVVARUL_KEYS], uint64_t ids0[FIVVARUL_IDS], float floats0[FIVVARUL_DEVICE_FLOATS], bool flags0[FIVVARUL_DEVICE_FLAGS], uint64_t ids1[FIVVARUL_IDS], float floats1[FIVVARUL_DEVICE_FLOATS], bool flags1[FIVVARUL_DEVICE_FLAGS], uint64_t ids2[FIVVARUL_IDS], float floats2[FIVVARUL_DEVICE_FLOATS], bool flags2[FIVVARUL_DEVICE_FLAGS], uint64_t ids3[FIVVARUL_IDS], float floats3[FIVVARUL_DEVICE_FLOATS], bool flags3[FIVVARUL_DEVICE_FLAGS], double starts[FIVVARUL_MAX_DEVICES], double times[FIVVARUL_MAX_LEN], float positions[FIVVARUL_PARTS], uint32_t codes[FIVVARUL_CODES], float places[FIVVARUL_PLACES], uint8_t presses[FIVVARUL_PRESSES], FivvarulPass given, const uint32_t *feed, size_t feed_len);
+FivvarulFactor fivvarul_zoom_factor(float exponent);
+FivvarulKernelTouches fivvarul_kernel_fresh(void);
+FivvarulKernelRead fivvarul_read_records(FivvarulKernelTouches kernel, uint64_t device, const uint8_t *bytes, size_t bytes_len, uint32_t *feed, size_t feed_len);
 FivvarulPosition fivvarul_press_origin(const double seconds[FIVVARUL_SECONDS], const float floats[FIVVARUL_FLOATS], const size_t counts[FIVVARUL_COUNTS], const bool flags[FIVVARUL_FLAGS]);
 FivvarulSeconds fivvarul_press_start_time(const double seconds[FIVVARUL_SECONDS], const float floats[FIVVARUL_FLOATS], const size_t counts[FIVVARUL_COUNTS], const bool flags[FIVVARUL_FLAGS]);
 bool fivvarul_any_down(const double seconds[FIVVARUL_SECONDS], const float floats[FIVVARUL_FLOATS], const size_t counts[FIVVARUL_COUNTS], const bool flags[FIVVARUL_FLAGS]);
@@ -342,9 +345,6 @@ FivvarulId fivvarul_potential_drag_id(const uint64_t held_ids[FIVVARUL_HELD], co
 uint32_t fivvarul_tally(const uint32_t tally[1]);
 size_t fivvarul_pointer_event_count(const double seconds[FIVVARUL_SECONDS], const float floats[FIVVARUL_FLOATS], const size_t counts[FIVVARUL_COUNTS], const bool flags[FIVVARUL_FLAGS]);
 FivvarulPointerEvent fivvarul_pointer_event(const double seconds[FIVVARUL_SECONDS], const float floats[FIVVARUL_FLOATS], const size_t counts[FIVVARUL_COUNTS], const bool flags[FIVVARUL_FLAGS], const uint32_t codes[FIVVARUL_CODES], const float places[FIVVARUL_PLACES], size_t i);
-FivvarulFactor fivvarul_zoom_factor(float exponent);
-FivvarulKernelTouches fivvarul_kernel_fresh(void);
-FivvarulKernelRead fivvarul_read_records(FivvarulKernelTouches kernel, uint64_t device, const uint8_t *bytes, size_t bytes_len, uint32_t *feed, size_t feed_len);
 bool fivvarul_key_down(const bool flags[FIVVARUL_FLAGS], const uint64_t keys_down[FIVVARUL_KEYS], uint32_t key);
 bool fivvarul_key_pressed(const uint8_t presses[FIVVARUL_PRESSES], uint32_t key);
 uint8_t fivvarul_num_presses(const uint8_t presses[FIVVARUL_PRESSES], uint32_t key);

@@ -1,4 +1,4 @@
-//! What crosses to the archive of the Rattle crate `host`. Made by host/boundary.py from crates/host/src, and checked against it by the gate.
+//! What crosses to the archives of the Rattle crates `host` and `host_questions`. Made by host/boundary.py from their sources, and checked against it by the gate.
 //!
 //! Every reference leads to memory that Rust owns, a `&mut` is the only one to its place, a slice is a pointer and its own length, and no exported
 //! function has a precondition: each call is sound if these declarations are those of the sources. A slice of no places has a pointer too, at
@@ -26,70 +26,6 @@ pub const PLACES: usize = 128;
 pub const PRESSES: usize = 145;
 pub const SECONDS: usize = 9;
 pub const WORDS: usize = 2080;
-
-/// Option<Pos2>
-#[repr(C)]
-#[derive(Clone, Copy, Debug, Default, PartialEq)]
-pub struct HostPosition {
-    pub x: f32,
-    pub y: f32,
-    pub given: bool,
-}
-
-const _: () = assert!(core::mem::size_of::<HostPosition>() == 12);
-
-/// Option<f64>, in seconds
-#[repr(C)]
-#[derive(Clone, Copy, Debug, Default, PartialEq)]
-pub struct HostSeconds {
-    pub value: f64,
-    pub given: bool,
-}
-
-const _: () = assert!(core::mem::size_of::<HostSeconds>() == 16);
-
-/// A position on the screen. `repr(C)` here and in Rect, LayerId and WidgetRect: a host lends its widgets as they stand.
-#[repr(C)]
-#[derive(Clone, Copy, Debug, Default, PartialEq)]
-pub struct Pos2 {
-    pub x: f32,
-    pub y: f32,
-}
-
-const _: () = assert!(core::mem::size_of::<Pos2>() == 8);
-
-#[repr(C)]
-#[derive(Clone, Copy, Debug, Default, PartialEq)]
-pub struct Rect {
-    pub min: Pos2,
-    pub max: Pos2,
-}
-
-const _: () = assert!(core::mem::size_of::<Rect>() == 16);
-
-/// Option<Id>
-#[repr(C)]
-#[derive(Clone, Copy, Debug, Default, PartialEq)]
-pub struct HostId {
-    pub id: u64,
-    pub given: bool,
-}
-
-const _: () = assert!(core::mem::size_of::<HostId>() == 16);
-
-/// Option<PointerEvent>: `kind` is 0 moved, 1 pressed, 2 released, 3 released with a click, whose count and modifiers follow
-#[repr(C)]
-#[derive(Clone, Copy, Debug, Default, PartialEq)]
-pub struct HostPointerEvent {
-    pub kind: u32,
-    pub button: u32,
-    pub count: u32,
-    pub modifiers: u32,
-    pub pos: Pos2,
-    pub given: bool,
-}
-
-const _: () = assert!(core::mem::size_of::<HostPointerEvent>() == 28);
 
 /// `number` 0, and the factor; or 02's number of the refusal, and 0.
 #[repr(C)]
@@ -120,6 +56,25 @@ pub struct LayerId {
 }
 
 const _: () = assert!(core::mem::size_of::<LayerId>() == 16);
+
+/// A position on the screen. `repr(C)` here and in Rect, LayerId and WidgetRect: a host lends its widgets as they stand.
+#[repr(C)]
+#[derive(Clone, Copy, Debug, Default, PartialEq)]
+pub struct Pos2 {
+    pub x: f32,
+    pub y: f32,
+}
+
+const _: () = assert!(core::mem::size_of::<Pos2>() == 8);
+
+#[repr(C)]
+#[derive(Clone, Copy, Debug, Default, PartialEq)]
+pub struct Rect {
+    pub min: Pos2,
+    pub max: Pos2,
+}
+
+const _: () = assert!(core::mem::size_of::<Rect>() == 16);
 
 /// `sense` is a plain number of sense.rs's bits, so that an unnamed bit can be given and refused.
 #[repr(C)]
@@ -160,6 +115,16 @@ pub struct HostInsertion {
 }
 
 const _: () = assert!(core::mem::size_of::<HostInsertion>() == 128);
+
+/// Option<Id>
+#[repr(C)]
+#[derive(Clone, Copy, Debug, Default, PartialEq)]
+pub struct HostId {
+    pub id: u64,
+    pub given: bool,
+}
+
+const _: () = assert!(core::mem::size_of::<HostId>() == 16);
 
 /// The answer of an interact. `number` 0: taken, and the counts are those of the two id buffers. Else 01's number of the refusal, and the index where 01 returns one, or 0; every other field is 0.
 #[repr(C)]
@@ -259,6 +224,41 @@ pub struct HostRefusal {
 }
 
 const _: () = assert!(core::mem::size_of::<HostRefusal>() == 16);
+
+/// Option<Pos2>
+#[repr(C)]
+#[derive(Clone, Copy, Debug, Default, PartialEq)]
+pub struct HostPosition {
+    pub x: f32,
+    pub y: f32,
+    pub given: bool,
+}
+
+const _: () = assert!(core::mem::size_of::<HostPosition>() == 12);
+
+/// Option<f64>, in seconds
+#[repr(C)]
+#[derive(Clone, Copy, Debug, Default, PartialEq)]
+pub struct HostSeconds {
+    pub value: f64,
+    pub given: bool,
+}
+
+const _: () = assert!(core::mem::size_of::<HostSeconds>() == 16);
+
+/// Option<PointerEvent>: `kind` is 0 moved, 1 pressed, 2 released, 3 released with a click, whose count and modifiers follow
+#[repr(C)]
+#[derive(Clone, Copy, Debug, Default, PartialEq)]
+pub struct HostPointerEvent {
+    pub kind: u32,
+    pub button: u32,
+    pub count: u32,
+    pub modifiers: u32,
+    pub pos: Pos2,
+    pub given: bool,
+}
+
+const _: () = assert!(core::mem::size_of::<HostPointerEvent>() == 28);
 
 /// Vec2
 #[repr(C)]
@@ -460,6 +460,9 @@ unsafe extern "C" {
     pub fn fivvarul_insert(set: HostSet, words: &mut [u64; WORDS], numbers: &mut [u32; NUMBERS], edges: &mut [f32; EDGES], layer: *mut WidgetRect, layer_len: usize, widget: WidgetRect, move_to_top: bool) -> HostInsertion;
     pub fn fivvarul_interact(seconds: &[f64; SECONDS], floats: &[f32; FLOATS], counts: &[usize; COUNTS], flags: &[bool; FLAGS], ids0: &[u64; IDS], floats0: &[f32; DEVICE_FLOATS], flags0: &[bool; DEVICE_FLAGS], ids1: &[u64; IDS], floats1: &[f32; DEVICE_FLOATS], flags1: &[bool; DEVICE_FLAGS], ids2: &[u64; IDS], floats2: &[f32; DEVICE_FLOATS], flags2: &[bool; DEVICE_FLAGS], ids3: &[u64; IDS], floats3: &[f32; DEVICE_FLOATS], flags3: &[bool; DEVICE_FLAGS], starts: &[f64; MAX_DEVICES], codes: &[u32; CODES], presses: &[u8; PRESSES], held_ids: &mut [u64; HELD], held_flags: &mut [bool; HELD], tally: &mut [u32; 1], widgets: usize, layers: usize, words: &[u64; WORDS], numbers: &[u32; NUMBERS], close: *const u64, close_len: usize, within: *const u64, within_len: usize, click_given: bool, click_id: u64, click_sense: u64, drag_given: bool, drag_id: u64, drag_sense: u64, top: *mut u64, top_len: usize, all: *mut u64, all_len: usize) -> HostSnapshot;
     pub fn fivvarul_pass(seconds: &mut [f64; SECONDS], floats: &mut [f32; FLOATS], counts: &mut [usize; COUNTS], flags: &mut [bool; FLAGS], keys_down: &mut [u64; KEYS], ids0: &mut [u64; IDS], floats0: &mut [f32; DEVICE_FLOATS], flags0: &mut [bool; DEVICE_FLAGS], ids1: &mut [u64; IDS], floats1: &mut [f32; DEVICE_FLOATS], flags1: &mut [bool; DEVICE_FLAGS], ids2: &mut [u64; IDS], floats2: &mut [f32; DEVICE_FLOATS], flags2: &mut [bool; DEVICE_FLAGS], ids3: &mut [u64; IDS], floats3: &mut [f32; DEVICE_FLOATS], flags3: &mut [bool; DEVICE_FLAGS], starts: &mut [f64; MAX_DEVICES], times: &mut [f64; MAX_LEN], positions: &mut [f32; PARTS], codes: &mut [u32; CODES], places: &mut [f32; PLACES], presses: &mut [u8; PRESSES], given: HostPass, feed: *const u32, feed_len: usize) -> HostRefusal;
+    pub safe fn fivvarul_zoom_factor(exponent: f32) -> HostFactor;
+    pub safe fn fivvarul_kernel_fresh() -> KernelTouches;
+    pub fn fivvarul_read_records(kernel: KernelTouches, device: u64, bytes: *const u8, bytes_len: usize, feed: *mut u32, feed_len: usize) -> HostKernelRead;
     pub safe fn fivvarul_press_origin(seconds: &[f64; SECONDS], floats: &[f32; FLOATS], counts: &[usize; COUNTS], flags: &[bool; FLAGS]) -> HostPosition;
     pub safe fn fivvarul_press_start_time(seconds: &[f64; SECONDS], floats: &[f32; FLOATS], counts: &[usize; COUNTS], flags: &[bool; FLAGS]) -> HostSeconds;
     pub safe fn fivvarul_any_down(seconds: &[f64; SECONDS], floats: &[f32; FLOATS], counts: &[usize; COUNTS], flags: &[bool; FLAGS]) -> bool;
@@ -491,9 +494,6 @@ unsafe extern "C" {
     pub safe fn fivvarul_tally(tally: &[u32; 1]) -> u32;
     pub safe fn fivvarul_pointer_event_count(seconds: &[f64; SECONDS], floats: &[f32; FLOATS], counts: &[usize; COUNTS], flags: &[bool; FLAGS]) -> usize;
     pub safe fn fivvarul_pointer_event(seconds: &[f64; SECONDS], floats: &[f32; FLOATS], counts: &[usize; COUNTS], flags: &[bool; FLAGS], codes: &[u32; CODES], places: &[f32; PLACES], i: usize) -> HostPointerEvent;
-    pub safe fn fivvarul_zoom_factor(exponent: f32) -> HostFactor;
-    pub safe fn fivvarul_kernel_fresh() -> KernelTouches;
-    pub fn fivvarul_read_records(kernel: KernelTouches, device: u64, bytes: *const u8, bytes_len: usize, feed: *mut u32, feed_len: usize) -> HostKernelRead;
     pub safe fn fivvarul_key_down(flags: &[bool; FLAGS], keys_down: &[u64; KEYS], key: u32) -> bool;
     pub safe fn fivvarul_key_pressed(presses: &[u8; PRESSES], key: u32) -> bool;
     pub safe fn fivvarul_num_presses(presses: &[u8; PRESSES], key: u32) -> u8;
@@ -559,6 +559,21 @@ impl Memory {
     /// Refused, with every place as before; or taken.
     pub fn pass(&mut self, given: HostPass, feed: &[u32]) -> HostRefusal {
         unsafe { fivvarul_pass(&mut self.seconds, &mut self.floats, &mut self.counts, &mut self.flags, &mut self.keys_down, &mut self.ids0, &mut self.floats0, &mut self.flags0, &mut self.ids1, &mut self.floats1, &mut self.flags1, &mut self.ids2, &mut self.floats2, &mut self.flags2, &mut self.ids3, &mut self.floats3, &mut self.flags3, &mut self.starts, &mut self.times, &mut self.positions, &mut self.codes, &mut self.places, &mut self.presses, given, feed.as_ptr(), feed.len()) }
+    }
+
+    /// Of an exponent of size at most 1; a greater one is the host's to split: e^(a + b) = e^a · e^b.
+    pub fn zoom_factor(exponent: f32) -> HostFactor {
+        fivvarul_zoom_factor(exponent)
+    }
+
+    /// No finger in any slot.
+    pub fn kernel_fresh() -> KernelTouches {
+        fivvarul_kernel_fresh()
+    }
+
+    /// The bytes of a call become events of `device` in the feed buffer. Refused, every place of the buffer is as before.
+    pub fn read_records(kernel: KernelTouches, device: u64, bytes: &[u8], feed: &mut [u32]) -> HostKernelRead {
+        unsafe { fivvarul_read_records(kernel, device, bytes.as_ptr(), bytes.len(), feed.as_mut_ptr(), feed.len()) }
     }
 
     pub fn press_origin(&self) -> HostPosition {
@@ -686,21 +701,6 @@ impl Memory {
     /// Event `i`, if there were so many.
     pub fn pointer_event(&self, i: usize) -> HostPointerEvent {
         fivvarul_pointer_event(&self.seconds, &self.floats, &self.counts, &self.flags, &self.codes, &self.places, i)
-    }
-
-    /// Of an exponent of size at most 1; a greater one is the host's to split: e^(a + b) = e^a · e^b.
-    pub fn zoom_factor(exponent: f32) -> HostFactor {
-        fivvarul_zoom_factor(exponent)
-    }
-
-    /// No finger in any slot.
-    pub fn kernel_fresh() -> KernelTouches {
-        fivvarul_kernel_fresh()
-    }
-
-    /// The bytes of a call become events of `device` in the feed buffer. Refused, every place of the buffer is as before.
-    pub fn read_records(kernel: KernelTouches, device: u64, bytes: &[u8], feed: &mut [u32]) -> HostKernelRead {
-        unsafe { fivvarul_read_records(kernel, device, bytes.as_ptr(), bytes.len(), feed.as_mut_ptr(), feed.len()) }
     }
 
     pub fn key_down(&self, key: u32) -> bool {
