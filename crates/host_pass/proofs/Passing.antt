@@ -119,8 +119,8 @@ module _ (g : HostPass) (ws : List ℕ) (l l' : Lent) (m : Memory) (s : InputSta
       let p = panel l (state m) (view ds) Model.no-interaction 0 in
       let i = input ws (given-of g) in
       let k : panel l' (b .state) (view (b .devices)) Model.no-interaction 0 .press .held .down
-          ≡ begin-by (Model.pass-events i) (fits-events (Model.pass-events i) (view ds)) p i .press .held .down
-          = ap (λ (q : Model.Panel). q .press .held .down) (passed .taken (same-refusal ∙ e) Model.no-interaction 0) in
+      ≡ begin-by (Model.pass-events i) (fits-events (Model.pass-events i) (view ds)) p i .press .held .down
+      = ap (λ (q : Model.Panel). q .press .held .down) (passed .taken (same-refusal ∙ e) Model.no-interaction 0) in
       subst CountTrue (sym k)
       (events-count (i .options) (Model.time-of i (p .clock .time)) (Model.pass-events i) (record { held = clear-events (p .press .held); past = p .press .past })
       (held-true (m .seconds) (m .floats) (m .counts) (m .flags) (m .keys-down)))
