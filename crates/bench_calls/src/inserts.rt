@@ -15,7 +15,7 @@ use widget_slices::settled;
 
 const WIDGETS: u32 = MAX_WIDGETS as u32;
 
-#[derive(Drop)]
+#[derive(Clone, Copy)]
 pub struct Step {
     pub set: WidgetRects,
     pub from: usize,

@@ -14,7 +14,7 @@ use widget_index::table::{NUMBERS, Numbers, WORDS, WidgetRects, Words, wide};
 // The words of a list of hits: two for each.
 const HITS: usize = 2 * MAX_HITS;
 
-#[derive(Drop)]
+#[derive(Clone, Copy)]
 pub struct Going {
     pub interaction: Interaction,
     pub tally: u32,

@@ -1,5 +1,6 @@
 // Runs one kind of call many times, for the table that bench/run.sh prints. Standard input is words of 32 bits, the low byte first: which kind, how
 // often, three numbers, how many words follow, and those. compare/src/bench.rs runs the same requests on egui and prints the same number.
+#![tactic(auto)]
 mod asks;
 mod exponents;
 mod inserts;
@@ -18,7 +19,7 @@ use libc::STDOUT_FILENO;
 // The longest feed: an event has at most 8 words.
 const WORDS: usize = 8 * MAX_EVENTS;
 
-#[derive(Drop)]
+#[derive(Clone, Copy)]
 pub struct Request {
     pub kind: u32,
     pub times: u32,

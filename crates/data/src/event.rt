@@ -6,7 +6,7 @@ use crate::touch::{MaybeF32, TouchPhase};
 use emath::pos2::Pos2;
 use emath::vec2::Vec2;
 
-#[derive(Drop)]
+#[derive(Clone, Copy)]
 pub enum Event {
     // place in egui's Key (0 to 144), pressed
     Key(u32, bool),

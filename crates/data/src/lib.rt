@@ -1,4 +1,5 @@
 // egui's input data as plain values. Each Option is an enum of its own.
+#![tactic(auto)]
 pub mod bits;
 pub mod event;
 pub mod kinds;

@@ -5,7 +5,7 @@ ghost use Rattle.data.specs.Modifiers.{no_modifiers, modifiers_or, matches_any, 
 use crate::bits::bit_number;
 
 // State of the modifier keys.
-#[derive(Drop)]
+#[derive(Clone, Copy)]
 pub struct Modifiers {
     pub alt: bool,
     pub ctrl: bool,

@@ -5,7 +5,7 @@ ghost use Rattle.data.specs.Numbers.{unit_number, source_number, status_number};
 use crate::modifiers::Modifiers;
 use emath::vec2::Vec2;
 
-#[derive(Drop)]
+#[derive(Clone, Copy)]
 pub enum MouseWheelUnit {
     Point,
     Line,
@@ -25,7 +25,7 @@ impl MouseWheelUnit {
     }
 }
 
-#[derive(Drop)]
+#[derive(Clone, Copy)]
 pub enum MouseWheelSource {
     Unknown,
     Wheel,
@@ -48,13 +48,13 @@ impl MouseWheelSource {
 }
 
 // Option<MouseWheelSource>
-#[derive(Drop)]
+#[derive(Clone, Copy)]
 pub enum MaybeMouseWheelSource {
     None,
     Some(MouseWheelSource),
 }
 
-#[derive(Drop)]
+#[derive(Clone, Copy)]
 pub enum Status {
     Static,
     Smoothing,
@@ -74,7 +74,7 @@ impl Status {
     }
 }
 
-#[derive(Drop)]
+#[derive(Clone, Copy)]
 pub struct WheelState {
     pub status: Status,
     pub source: MouseWheelSource,

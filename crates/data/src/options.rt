@@ -1,7 +1,7 @@
 // InputOptions of egui's input_state/mod.rs, without surrender_focus_on.
 use crate::modifiers::Modifiers;
 
-#[derive(Drop)]
+#[derive(Clone, Copy)]
 pub struct InputOptions {
     pub line_scroll_speed: f32,
     pub scroll_zoom_speed: f32,

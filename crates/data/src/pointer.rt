@@ -5,7 +5,7 @@ ghost use Rattle.data.specs.Numbers.{button_number, pointer_event_number};
 use crate::modifiers::Modifiers;
 use emath::pos2::Pos2;
 
-#[derive(Drop)]
+#[derive(Clone, Copy)]
 pub enum PointerButton {
     Primary,
     Secondary,
@@ -30,7 +30,7 @@ impl PointerButton {
 }
 
 // Which buttons are down, and how many.
-#[derive(Drop)]
+#[derive(Clone, Copy)]
 pub struct ButtonsDown {
     pub primary: bool,
     pub secondary: bool,
@@ -41,7 +41,7 @@ pub struct ButtonsDown {
 }
 
 // `count` is 1, 2 (double click) or 3 (triple click).
-#[derive(Drop)]
+#[derive(Clone, Copy)]
 pub struct Click {
     pub pos: Pos2,
     pub count: u32,
@@ -49,13 +49,13 @@ pub struct Click {
 }
 
 // Option<Click>
-#[derive(Drop)]
+#[derive(Clone, Copy)]
 pub enum MaybeClick {
     None,
     Some(Click),
 }
 
-#[derive(Drop)]
+#[derive(Clone, Copy)]
 pub enum PointerEvent {
     Moved(Pos2),
     Pressed(Pos2, PointerButton),
@@ -76,7 +76,7 @@ impl PointerEvent {
 }
 
 // Option<f64>: a time
-#[derive(Drop)]
+#[derive(Clone, Copy)]
 pub enum MaybeF64 {
     None,
     Some(f64),

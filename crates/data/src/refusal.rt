@@ -2,7 +2,7 @@
 ghost use Rattle.std.specs.Prelude.{◌≡◌};
 ghost use Rattle.data.specs.Numbers.{pass_refusal_number, insert_refusal_number, interact_refusal_number};
 
-#[derive(Drop)]
+#[derive(Clone, Copy)]
 pub enum PassRefusal {
     // 1: unknown kind, field or stray bit, event cut short
     Malformed(usize),
@@ -31,7 +31,7 @@ impl PassRefusal {
     }
 }
 
-#[derive(Drop)]
+#[derive(Clone, Copy)]
 pub enum InsertRefusal {
     // 1: layer order over 4, or a sense bit that sense.rs doesn't name
     Malformed,
@@ -63,7 +63,7 @@ impl InsertRefusal {
     }
 }
 
-#[derive(Drop)]
+#[derive(Clone, Copy)]
 pub enum InteractRefusal {
     // 1: a sense bit that sense.rs doesn't name
     Malformed(usize),

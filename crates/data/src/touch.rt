@@ -5,7 +5,7 @@ ghost use Rattle.data.specs.Numbers.{phase_number, pinch_number, rotation_number
 use emath::pos2::Pos2;
 use emath::vec2::Vec2;
 
-#[derive(Drop)]
+#[derive(Clone, Copy)]
 pub enum TouchPhase {
     Start,
     Move,
@@ -28,21 +28,21 @@ impl TouchPhase {
 }
 
 // Option<f32>: a touch's force
-#[derive(Drop)]
+#[derive(Clone, Copy)]
 pub enum MaybeF32 {
     None,
     Some(f32),
 }
 
 // A touch that is held, with its id, which egui keeps as the key of a map.
-#[derive(Drop)]
+#[derive(Clone, Copy)]
 pub struct ActiveTouch {
     pub id: u64,
     pub pos: Pos2,
     pub force: MaybeF32,
 }
 
-#[derive(Drop)]
+#[derive(Clone, Copy)]
 pub enum PinchType {
     Horizontal,
     Vertical,
@@ -63,7 +63,7 @@ impl PinchType {
 }
 
 // The averages of a gesture. `heading` is the average position less that of the first touch: no angle is taken.
-#[derive(Drop)]
+#[derive(Clone, Copy)]
 pub struct DynGestureState {
     pub avg_distance: f32,
     pub avg_abs_distance2: Vec2,
@@ -73,13 +73,13 @@ pub struct DynGestureState {
 }
 
 // Option<DynGestureState>
-#[derive(Drop)]
+#[derive(Clone, Copy)]
 pub enum MaybeDynGestureState {
     None,
     Some(DynGestureState),
 }
 
-#[derive(Drop)]
+#[derive(Clone, Copy)]
 pub struct GestureState {
     pub start_time: f64,
     pub start_pointer_pos: Pos2,
@@ -89,14 +89,14 @@ pub struct GestureState {
 }
 
 // Option<GestureState>
-#[derive(Drop)]
+#[derive(Clone, Copy)]
 pub enum MaybeGestureState {
     None,
     Some(GestureState),
 }
 
 // The rotation of a pass: the sum of the feed's radians, or the previous and the current heading of a gesture.
-#[derive(Drop)]
+#[derive(Clone, Copy)]
 pub enum Rotation {
     Radians(f32),
     Headings(Vec2, Vec2),
@@ -115,7 +115,7 @@ impl Rotation {
 }
 
 // `previous_heading` and `heading` stand for egui's `rotation_delta`.
-#[derive(Drop)]
+#[derive(Clone, Copy)]
 pub struct MultiTouchInfo {
     pub start_time: f64,
     pub start_pos: Pos2,
@@ -130,7 +130,7 @@ pub struct MultiTouchInfo {
 }
 
 // Option<MultiTouchInfo>
-#[derive(Drop)]
+#[derive(Clone, Copy)]
 pub enum MaybeMultiTouchInfo {
     None,
     Some(MultiTouchInfo),

@@ -4,7 +4,7 @@ use emath::rect::Rect;
 
 // `sense` is a plain number of sense.rs's bits, so that an unnamed bit can be given and refused.
 #[repr(C)]
-#[derive(Drop)]
+#[derive(Clone, Copy)]
 pub struct WidgetRect {
     pub id: u64,
     pub parent_id: u64,

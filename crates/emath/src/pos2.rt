@@ -5,14 +5,14 @@ use crate::vec2::Vec2;
 
 // A position on the screen. `repr(C)` here and in Rect, LayerId and WidgetRect: a host lends its widgets as they stand.
 #[repr(C)]
-#[derive(Drop)]
+#[derive(Clone, Copy)]
 pub struct Pos2 {
     pub x: f32,
     pub y: f32,
 }
 
 // Option<Pos2>
-#[derive(Drop)]
+#[derive(Clone, Copy)]
 pub enum MaybePos2 {
     None,
     Some(Pos2),

@@ -4,7 +4,7 @@ ghost use Rattle.emath.specs.Vec.{height};
 use crate::pos2::Pos2;
 
 #[repr(C)]
-#[derive(Drop)]
+#[derive(Clone, Copy)]
 pub struct Rect {
     pub min: Pos2,
     pub max: Pos2,

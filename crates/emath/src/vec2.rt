@@ -2,14 +2,14 @@ ghost use Rattle.std.specs.Prelude.{◌≡◌};
 ghost use Rattle.emath.specs.Vec.{vec_zero, vec_add, vec_scale, vec_div, vec_ne, length_sq, length_sq64, length, normalized, abs, vec_abs, larger, max_elem};
 
 // A difference of two positions.
-#[derive(Drop)]
+#[derive(Clone, Copy)]
 pub struct Vec2 {
     pub x: f32,
     pub y: f32,
 }
 
 // Option<Vec2>
-#[derive(Drop)]
+#[derive(Clone, Copy)]
 pub enum MaybeVec2 {
     None,
     Some(Vec2),

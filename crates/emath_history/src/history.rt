@@ -17,7 +17,7 @@ pub const PARTS: usize = 2 * MAX_LEN;
 pub const MAX_AGE: f32 = 0.1;
 
 // `len` samples from place `start` on. Any numbers mean something: the place is taken modulo 1,000, and a larger count is 1,000.
-#[derive(Drop)]
+#[derive(Clone, Copy)]
 pub struct History {
     pub start: usize,
     pub len: usize,

@@ -1,2 +1,3 @@
 // emath's History of positions, in arrays that the caller lends.
+#![tactic(auto)]
 pub mod history;

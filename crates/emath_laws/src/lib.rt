@@ -1,1 +1,2 @@
 // Theorems alone: what holds of lengths, so that their users open no definition.
+#![tactic(auto)]

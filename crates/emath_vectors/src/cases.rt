@@ -4,13 +4,13 @@ use emath::rect::Rect;
 use emath::vec2::MaybeVec2;
 use emath_history::history::{History, MAX_LEN, PARTS};
 
-#[derive(Drop)]
+#[derive(Clone, Copy)]
 pub struct Tally {
     pub cases: u64,
     pub differ: u64,
 }
 
-#[derive(Drop)]
+#[derive(Clone, Copy)]
 pub struct State {
     pub history_now: History,
     pub vectors: Tally,

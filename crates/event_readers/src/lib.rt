@@ -1,2 +1,3 @@
 // The events of a feed, each read by its own kind.
+#![tactic(auto)]
 pub mod readers;

@@ -2,13 +2,13 @@
 use data::event::Event;
 
 // Option<Event>
-#[derive(Drop)]
+#[derive(Clone, Copy)]
 pub enum MaybeEvent {
     None,
     Some(Event),
 }
 
-#[derive(Drop)]
+#[derive(Clone, Copy)]
 pub enum EventAt {
     // the event, and the place after its last word
     Event(Event, usize),

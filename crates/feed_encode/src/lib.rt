@@ -1,4 +1,5 @@
 // The words of an event.
+#![tactic(auto)]
 ghost use Rattle.std.specs.Prelude.{◌≡◌, [], ◌∷◌};
 ghost use Rattle.feed.specs.Types.{Touch};
 ghost use Rattle.feed.specs.Encode.{float_word, encode};
@@ -39,7 +40,7 @@ const FOCUS_HEAD: u32 = FOCUS_KIND * KIND_UNIT;
 const OTHER_HEAD: u32 = OTHER_KIND * KIND_UNIT;
 
 // The first `count` of `words`.
-#[derive(Drop)]
+#[derive(Clone, Copy)]
 pub struct EventWords {
     pub words: [u32; 8],
     pub count: usize,

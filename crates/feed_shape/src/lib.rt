@@ -1,2 +1,3 @@
 // The event that a feed's words say, for each kind.
+#![tactic(auto)]
 pub mod shape;

@@ -8,7 +8,7 @@ use feed::found::EventAt;
 use feed_decode::decode::event_at;
 use feed_encode::encode;
 
-#[derive(Drop)]
+#[derive(Clone, Copy)]
 pub struct Tally {
     pub cases: u64,
     pub differ: u64,

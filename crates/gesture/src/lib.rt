@@ -1,4 +1,5 @@
 // The averages of the touches, and the gesture that is made of them.
+#![tactic(auto)]
 ghost use Rattle.std.specs.Prelude.{◌≡◌, ◌≤◌};
 ghost use Rattle.data.specs.Limits.{max_touches};
 ghost use Rattle.model.specs.Touch.{force_or_zero, recip, calc_dynamic_state, classify, classify_by, update_gesture, forget_previous_if};
@@ -23,14 +24,14 @@ fn force_or_zero(force: MaybeF32) -> f32
 }
 
 // The sums of the forces and of the positions.
-#[derive(Drop)]
+#[derive(Clone, Copy)]
 pub struct Sums {
     pub force: f32,
     pub pos: Pos2,
 }
 
 // The sums of the distances from a position, whole and along each axis.
-#[derive(Drop)]
+#[derive(Clone, Copy)]
 pub struct Spreads {
     pub distance: f32,
     pub abs_distance2: Vec2,

@@ -1,4 +1,5 @@
 // The hit lists of an interact: two words an entry, its id and its sense. A lone last word is no entry and is not read.
+#![tactic(auto)]
 ghost use Rattle.std.specs.Prelude.{◌≡◌, ◌*◌, ◌&&◌, leb, ltb, drop};
 ghost use Rattle.data.specs.Sense.{interactive};
 ghost use Rattle.model.specs.Interact.{has_hit, is_hit, order, order_of};
@@ -7,21 +8,21 @@ ghost use Rattle.hit_lists.specs.Hits.{hits_of, view, hit_at, seek_from};
 use data::refusal::InteractRefusal;
 
 // An entry: the words' own widths.
-#[derive(Drop)]
+#[derive(Clone, Copy)]
 pub struct Hit {
     pub id: u64,
     pub sense: u64,
 }
 
 // Option<Hit>
-#[derive(Drop)]
+#[derive(Clone, Copy)]
 pub enum MaybeHit {
     None,
     Some(Hit),
 }
 
 // Option<InteractRefusal>
-#[derive(Drop)]
+#[derive(Clone, Copy)]
 pub enum MaybeInteractRefusal {
     None,
     Some(InteractRefusal),

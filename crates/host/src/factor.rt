@@ -5,7 +5,7 @@ use zoom_factor::{ZoomAnswer, zoom_factor};
 
 // `number` 0, and the factor; or 02's number of the refusal, and 0.
 #[repr(C)]
-#[derive(Drop)]
+#[derive(Clone, Copy)]
 pub struct HostFactor {
     pub factor: f32,
     pub number: u32,

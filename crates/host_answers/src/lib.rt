@@ -1,4 +1,5 @@
 // An answer as it crosses to the host: a record of plain numbers. Where `given` is false there is none, and the other fields are 0.
+#![tactic(auto)]
 ghost use Rattle.std.specs.Prelude.{◌≡◌};
 ghost use Rattle.model.specs.Types.{no_info, some_info};
 ghost use Rattle.host_answers.specs.Answers.{vector_of, maybe_vector_of, position_of, seconds_of, number_of, id_of, source_of, zoom_of, zoom_2d_of, rotation_of, gesture_of, event_of, widget_of, order_of, layer_of};
@@ -18,7 +19,7 @@ use widget_rect::questions::{MaybeLayerId, MaybeOrder, MaybeWidgetRect};
 
 // Vec2
 #[repr(C)]
-#[derive(Drop)]
+#[derive(Clone, Copy)]
 pub struct HostVector {
     pub x: f32,
     pub y: f32,
@@ -26,7 +27,7 @@ pub struct HostVector {
 
 // Option<Vec2>
 #[repr(C)]
-#[derive(Drop)]
+#[derive(Clone, Copy)]
 pub struct HostMaybeVector {
     pub x: f32,
     pub y: f32,
@@ -35,7 +36,7 @@ pub struct HostMaybeVector {
 
 // Option<Pos2>
 #[repr(C)]
-#[derive(Drop)]
+#[derive(Clone, Copy)]
 pub struct HostPosition {
     pub x: f32,
     pub y: f32,
@@ -44,7 +45,7 @@ pub struct HostPosition {
 
 // Option<f64>, in seconds
 #[repr(C)]
-#[derive(Drop)]
+#[derive(Clone, Copy)]
 pub struct HostSeconds {
     pub value: f64,
     pub given: bool,
@@ -52,7 +53,7 @@ pub struct HostSeconds {
 
 // Option<f32>
 #[repr(C)]
-#[derive(Drop)]
+#[derive(Clone, Copy)]
 pub struct HostNumber {
     pub value: f32,
     pub given: bool,
@@ -60,7 +61,7 @@ pub struct HostNumber {
 
 // Option<Id>
 #[repr(C)]
-#[derive(Drop)]
+#[derive(Clone, Copy)]
 pub struct HostId {
     pub id: u64,
     pub given: bool,
@@ -68,7 +69,7 @@ pub struct HostId {
 
 // Option<MouseWheelSource>, by its number in the feed
 #[repr(C)]
-#[derive(Drop)]
+#[derive(Clone, Copy)]
 pub struct HostSource {
     pub number: u32,
     pub given: bool,
@@ -76,7 +77,7 @@ pub struct HostSource {
 
 // The host multiplies the factor by the exponential of the exponent.
 #[repr(C)]
-#[derive(Drop)]
+#[derive(Clone, Copy)]
 pub struct HostZoom {
     pub factor: f32,
     pub exponent: f32,
@@ -84,7 +85,7 @@ pub struct HostZoom {
 
 // The same by axis.
 #[repr(C)]
-#[derive(Drop)]
+#[derive(Clone, Copy)]
 pub struct HostZoom2d {
     pub factor_x: f32,
     pub factor_y: f32,
@@ -94,7 +95,7 @@ pub struct HostZoom2d {
 
 // A sum of radians; or, with `by_headings`, the previous and the current heading of a gesture, whose angle is the host's to take.
 #[repr(C)]
-#[derive(Drop)]
+#[derive(Clone, Copy)]
 pub struct HostRotation {
     pub by_headings: bool,
     pub radians: f32,
@@ -106,7 +107,7 @@ pub struct HostRotation {
 
 // Option<MultiTouchInfo>
 #[repr(C)]
-#[derive(Drop)]
+#[derive(Clone, Copy)]
 pub struct HostGesture {
     pub start_time: f64,
     pub num_touches: usize,
@@ -123,7 +124,7 @@ pub struct HostGesture {
 
 // Option<PointerEvent>: `kind` is 0 moved, 1 pressed, 2 released, 3 released with a click, whose count and modifiers follow
 #[repr(C)]
-#[derive(Drop)]
+#[derive(Clone, Copy)]
 pub struct HostPointerEvent {
     pub kind: u32,
     pub button: u32,
@@ -135,7 +136,7 @@ pub struct HostPointerEvent {
 
 // Option<WidgetRect>
 #[repr(C)]
-#[derive(Drop)]
+#[derive(Clone, Copy)]
 pub struct HostWidget {
     pub widget: WidgetRect,
     pub given: bool,
@@ -143,7 +144,7 @@ pub struct HostWidget {
 
 // Option<(LayerId, usize)>
 #[repr(C)]
-#[derive(Drop)]
+#[derive(Clone, Copy)]
 pub struct HostOrder {
     pub layer: LayerId,
     pub position: usize,
@@ -152,7 +153,7 @@ pub struct HostOrder {
 
 // Option<LayerId>
 #[repr(C)]
-#[derive(Drop)]
+#[derive(Clone, Copy)]
 pub struct HostLayer {
     pub layer: LayerId,
     pub given: bool,

@@ -1,4 +1,5 @@
 // What an interact is given and what it answers, as they cross to and from the host, and the interaction as the host's memory holds it.
+#![tactic(auto)]
 ghost use Rattle.std.specs.Prelude.{◌≡◌};
 ghost use Rattle.host_interact.specs.Held.{hit_of, maybe_id, id_or_zero, id_given, interaction_at, ids_of, flags_of};
 ghost use Rattle.host_interact.specs.Answers.{index_of, refusal_of, snapshot_of};
@@ -21,7 +22,7 @@ const DRAGGED: usize = 2;
 // The answer of an interact. `number` 0: taken, and the counts are those of the two id buffers. Else 01's number of the refusal, and the index where 01
 // returns one, or 0; every other field is 0.
 #[repr(C)]
-#[derive(Drop)]
+#[derive(Clone, Copy)]
 pub struct HostSnapshot {
     pub number: u32,
     pub index: usize,

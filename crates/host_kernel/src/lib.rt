@@ -1,4 +1,5 @@
 // What the reading of kernel touch records (02 A.1) answers, as it crosses to the host.
+#![tactic(auto)]
 ghost use Rattle.std.specs.Prelude.{◌≡◌};
 ghost use Rattle.kernel_read.specs.Read.{kernel_row};
 ghost use Rattle.host_kernel.specs.Kernel.{Crosses};
@@ -8,7 +9,7 @@ use kernel_touch::slots::KernelTouches;
 
 // `number` 0: the words written to the feed, and whether the records held a 'dropped'. Else 02's number of the refusal; `kernel` is as before then.
 #[repr(C)]
-#[derive(Drop)]
+#[derive(Clone, Copy)]
 pub struct HostKernelRead {
     pub kernel: KernelTouches,
     pub number: u32,

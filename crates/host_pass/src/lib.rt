@@ -1,4 +1,5 @@
 // What a pass is given beside its feed, and the answer that it gives, as they cross to and from the host.
+#![tactic(auto)]
 ghost use Rattle.std.specs.Prelude.{◌≡◌};
 ghost use Rattle.std.proofs.Math.Option.{none};
 ghost use Rattle.host_pass.specs.Given.{rect_of, given_of, index_of, refusal_of, answer_of};
@@ -13,7 +14,7 @@ use input_state::input::{MaybeRect, PassInput};
 
 // RawInput and the options. A time and a rectangle count where they are given. Modifiers are 01's five bits: alt, ctrl, shift, mac_cmd, command.
 #[repr(C)]
-#[derive(Drop)]
+#[derive(Clone, Copy)]
 pub struct HostPass {
     pub time: f64,
     pub max_click_duration: f64,
@@ -39,7 +40,7 @@ pub struct HostPass {
 
 // 0, 0: taken. Else 01's number of the refusal, and the index where 01 returns one, or 0.
 #[repr(C)]
-#[derive(Drop)]
+#[derive(Clone, Copy)]
 pub struct HostRefusal {
     pub number: u32,
     pub index: usize,

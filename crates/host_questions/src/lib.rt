@@ -1,6 +1,7 @@
 // The questions that Rust or C asks of a panel, as `host` keeps it in memory (host/src/lib.rt says which array holds what). A question writes nothing.
 // Each function of `panel` is exported as fivvarul_ and its name; primary_pressed, secondary_pressed .. middle_down are fivvarul_button_pressed,
 // _released, _clicked and _down, with button 0, 1, 2.
+#![tactic(auto)]
 pub mod buttons;
 pub mod clock;
 pub mod dragging;

@@ -1,4 +1,5 @@
 // A widget set and an insertion as they cross to and from the host, which keeps the counts of the set and its three arrays.
+#![tactic(auto)]
 ghost use Rattle.std.specs.Prelude.{◌≡◌};
 ghost use Rattle.host_widgets.specs.Insert.{inserted_of, Decides};
 
@@ -9,7 +10,7 @@ use widget_insert::decide;
 
 // How many widgets and layers a set has.
 #[repr(C)]
-#[derive(Drop)]
+#[derive(Clone, Copy)]
 pub struct HostSet {
     pub widgets: usize,
     pub layers: usize,
@@ -17,7 +18,7 @@ pub struct HostSet {
 
 // `number` 0: the widget's position in its layer, and how many widgets its layer has now. Else 01's number of the refusal, and zeros; its index is 0.
 #[repr(C)]
-#[derive(Drop)]
+#[derive(Clone, Copy)]
 pub struct HostInserted {
     pub number: u32,
     pub position: usize,
@@ -27,7 +28,7 @@ pub struct HostInserted {
 // The answer, the set after it, and what was done to the lent slice: the record at `from` went, each after it up to `to` fell by one, and `widget` came
 // last.
 #[repr(C)]
-#[derive(Drop)]
+#[derive(Clone, Copy)]
 pub struct HostInsertion {
     pub answer: HostInserted,
     pub set: HostSet,

@@ -2,11 +2,12 @@
 // (compare/vectors/ieee.rs), and prints how many differ. A pair is two little-endian words of 64
 // bits, the operand's pattern and the result's, and each function has as many chunks of them.
 // Every NaN counts as one.
+#![tactic(auto)]
 mod pairs;
 
 use libc::{STDIN_FILENO, STDOUT_FILENO};
 
-#[derive(Drop)]
+#[derive(Clone, Copy)]
 struct Tally {
     pairs: u64,
     differ: u64,

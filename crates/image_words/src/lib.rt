@@ -1,5 +1,6 @@
 // One field of an image (02 A.6) checked or read, words written. A field is named by the place of its first word.
 // Checking and reading ask nothing of the place, and a word that is missing reads as 0.
+#![tactic(auto)]
 ghost use Rattle.std.specs.Prelude.{◌≡◌, Bool, ℕ, ◌+◌, ◌*◌, ◌/◌, ◌%◌, ◌≤◌, ◌<◌, T, eqb, Float, length, get_or};
 ghost use Rattle.std.specs.Float.{binary32, binary64};
 ghost use Rattle.std.specs.Float.Ieee.{of_bits, to_bits, fits};
@@ -18,7 +19,7 @@ const HALF: u64 = 0x1_0000_0000;
 const NAME: u64 = 0x1000_0000;
 
 // The index of a wrong word, or none.
-#[derive(Drop)]
+#[derive(Clone, Copy)]
 pub enum MaybeIndex {
     None,
     Some(usize),

@@ -14,7 +14,7 @@ use touch_ends::pass::touch_pass;
 use touch_state::devices::Devices;
 
 // The state and the devices after the pass, and the refusal if there is one.
-#[derive(Drop)]
+#[derive(Clone, Copy)]
 pub struct Begun {
     pub state: InputState,
     pub devices: Devices,

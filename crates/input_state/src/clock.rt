@@ -5,7 +5,7 @@ ghost use Rattle.input_state.specs.View.{clock, input};
 
 use crate::input::PassInput;
 
-#[derive(Drop)]
+#[derive(Clone, Copy)]
 pub struct Clock {
     pub time: f64,
     pub pointer_time: f64,

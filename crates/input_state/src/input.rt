@@ -12,14 +12,14 @@ use emath::rect::Rect;
 use survey::reading::MaybePassRefusal;
 
 // Option<Rect>
-#[derive(Drop)]
+#[derive(Clone, Copy)]
 pub enum MaybeRect {
     None,
     Some(Rect),
 }
 
 // `requested_repaint`: a repaint was requested in the pass before.
-#[derive(Drop)]
+#[derive(Clone, Copy)]
 pub struct PassInput {
     pub time: MaybeF64,
     pub screen_rect: MaybeRect,

@@ -15,7 +15,7 @@ use pointer_place::Place;
 use pointer_state::press::Press;
 use press_loop::press_pass;
 
-#[derive(Drop)]
+#[derive(Clone, Copy)]
 pub struct Pointer {
     pub place: Place,
     pub press: Press,

@@ -10,7 +10,7 @@ use data::options::InputOptions;
 use emath::pos2::Pos2;
 use emath::rect::Rect;
 
-#[derive(Drop)]
+#[derive(Clone, Copy)]
 pub struct Screen {
     pub viewport_rect: Rect,
     pub pixels_per_point: f32,

@@ -16,7 +16,7 @@ use pointer_place::Place;
 use pointer_state::press::Press;
 use wheel_loop::wheel_pass;
 
-#[derive(Drop)]
+#[derive(Clone, Copy)]
 pub struct InputState {
     pub clock: Clock,
     pub screen: Screen,

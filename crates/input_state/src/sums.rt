@@ -11,7 +11,7 @@ use event_loop::LISTED;
 use zoom_and_rotation::{rotation_of, zoom_of};
 
 // Zoom is the factor's product, and an exponent that the host takes the exponential of.
-#[derive(Drop)]
+#[derive(Clone, Copy)]
 pub struct Sums {
     pub zoom_factor: f32,
     pub zoom_exponent: f32,

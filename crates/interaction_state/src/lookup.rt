@@ -8,7 +8,7 @@ use id_set::MaybeId;
 use widget_index::index::find;
 use widget_index::table::{Numbers, TRAITS, WidgetRects, Words};
 
-#[derive(Drop)]
+#[derive(Clone, Copy)]
 pub struct Found {
     pub known: bool,
     pub enabled: bool,

@@ -8,7 +8,7 @@ use data::refusal::InteractRefusal;
 use id_set::MaybeId;
 
 // `InteractionState`, with the widget that is dragged.
-#[derive(Drop)]
+#[derive(Clone, Copy)]
 pub struct Interaction {
     pub potential_click_id: MaybeId,
     pub potential_drag_id: MaybeId,
@@ -16,7 +16,7 @@ pub struct Interaction {
 }
 
 // What an interact reads of the input, but for the pointer events.
-#[derive(Drop)]
+#[derive(Clone, Copy)]
 pub struct Seen {
     // `key_pressed(Key::Escape)`
     pub escape_pressed: bool,
@@ -29,7 +29,7 @@ pub struct Seen {
 }
 
 // Between two steps of an interact.
-#[derive(Drop)]
+#[derive(Clone, Copy)]
 pub struct Going {
     pub interaction: Interaction,
     pub clicked: MaybeId,
@@ -37,7 +37,7 @@ pub struct Going {
 }
 
 // The two id sets are in the lent buffers: these are their lengths.
-#[derive(Drop)]
+#[derive(Clone, Copy)]
 pub struct InteractionSnapshot {
     pub clicked: MaybeId,
     pub long_touched: MaybeId,
@@ -49,7 +49,7 @@ pub struct InteractionSnapshot {
 }
 
 // What an interact comes to, before anything is written.
-#[derive(Drop)]
+#[derive(Clone, Copy)]
 pub struct Outcome {
     pub clicked: MaybeId,
     pub long_touched: MaybeId,
@@ -59,14 +59,14 @@ pub struct Outcome {
 }
 
 // A taken interact: its answer, and what is kept for the next one.
-#[derive(Drop)]
+#[derive(Clone, Copy)]
 pub struct Answer {
     pub snapshot: InteractionSnapshot,
     pub interaction: Interaction,
     pub tally: u32,
 }
 
-#[derive(Drop)]
+#[derive(Clone, Copy)]
 pub enum Interacted {
     Refused(InteractRefusal),
     Taken(Answer),

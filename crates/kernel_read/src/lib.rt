@@ -1,4 +1,5 @@
 // Kernel touch records become words of the feed.
+#![tactic(auto)]
 ghost use Rattle.std.specs.Prelude.{◌≡◌, true, cond, [], ℕ, ◌+◌, ◌≤◌, leb, length};
 ghost use Rattle.feed.specs.Encode.{encode_all};
 ghost use Rattle.kernel_record.specs.Records.{held_dropped};
@@ -16,13 +17,13 @@ pub use kernel_touch::slots::fresh;
 use kernel_touch::step::{after, refusal};
 
 // What a call will come to: taken, with whether its records hold a 'dropped', or refused.
-#[derive(Drop)]
+#[derive(Clone, Copy)]
 pub enum Looked {
     Fits(bool),
     Refused(KernelRefusal),
 }
 
-#[derive(Drop)]
+#[derive(Clone, Copy)]
 pub struct Filled {
     pub kernel: KernelTouches,
     pub words: usize,

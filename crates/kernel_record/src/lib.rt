@@ -1,4 +1,5 @@
 // The records of a run of bytes.
+#![tactic(auto)]
 ghost use Rattle.std.specs.Prelude.{◌≡◌, ◌+◌, ◌<◌, ◌≤◌, length};
 ghost use Rattle.kernel_record.specs.Records.{half, word, report_record, touch_record, record_of, record_at, record_bytes, is_end, is_dropped};
 
@@ -25,7 +26,7 @@ pub const ABS_MT_POSITION_Y: u32 = 0x36;
 pub const ABS_MT_TRACKING_ID: u32 = 0x39;
 
 // What a record says. Other: it is skipped.
-#[derive(Drop)]
+#[derive(Clone, Copy)]
 pub enum KernelRecord {
     MtSlot(i32),
     MtPositionX(i32),

@@ -6,7 +6,7 @@ use kernel_touch::slots::{Finger, Slot};
 use kernel_values::{is_finger, same_number};
 
 // Replaced: one finger was lifted and another begun.
-#[derive(Drop)]
+#[derive(Clone, Copy)]
 pub enum Change {
     Still,
     Begun,

@@ -2,7 +2,7 @@
 use crate::slots::KernelTouches;
 
 // 11, 12, 2 with index 0, 8
-#[derive(Drop)]
+#[derive(Clone, Copy)]
 pub enum KernelRefusal {
     Length,
     SlotOutside,
@@ -11,20 +11,20 @@ pub enum KernelRefusal {
 }
 
 // Option<KernelRefusal>
-#[derive(Drop)]
+#[derive(Clone, Copy)]
 pub enum MaybeRefusal {
     None,
     Some(KernelRefusal),
 }
 
 // Taken: the number of words written, and whether the records held a 'dropped'.
-#[derive(Drop)]
+#[derive(Clone, Copy)]
 pub enum KernelAnswer {
     Taken(usize, bool),
     Refused(KernelRefusal),
 }
 
-#[derive(Drop)]
+#[derive(Clone, Copy)]
 pub struct KernelRead {
     pub kernel: KernelTouches,
     pub answer: KernelAnswer,

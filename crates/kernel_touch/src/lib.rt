@@ -1,4 +1,5 @@
 // What the kernel's touch records make of the slots.
+#![tactic(auto)]
 pub mod answer;
 pub mod slots;
 pub mod step;

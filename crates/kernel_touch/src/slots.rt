@@ -6,7 +6,7 @@ use kernel_values::{MAX_SLOTS, magnitude};
 
 // A tracking id, -1 for no finger, and the last position. `repr(C)` here and below: a host keeps the slots from call to call.
 #[repr(C)]
-#[derive(Drop)]
+#[derive(Clone, Copy)]
 pub struct Finger {
     pub id: i32,
     pub x: i32,
@@ -15,7 +15,7 @@ pub struct Finger {
 
 // A slot's finger now, and at the last report end acted on.
 #[repr(C)]
-#[derive(Drop)]
+#[derive(Clone, Copy)]
 pub struct Slot {
     pub now: Finger,
     pub acted: Finger,
@@ -23,7 +23,7 @@ pub struct Slot {
 
 // `skipping`: after 'dropped', through the next report end.
 #[repr(C)]
-#[derive(Drop)]
+#[derive(Clone, Copy)]
 pub struct KernelTouches {
     pub slots: [Slot; MAX_SLOTS],
     pub chosen: usize,

@@ -2,7 +2,7 @@
 ghost use Rattle.std.specs.Prelude.{◌≡◌, false, ℕ, ◌^◌, ◌<◌};
 ghost use Rattle.key_state.specs.Bits.{bit, word_with, has, with_member};
 
-#[derive(Drop)]
+#[derive(Clone, Copy)]
 pub struct Set256 {
     pub words: [u64; 4],
 }

@@ -19,7 +19,7 @@ use event_readers::readers::{focus_at, modifiers_at};
 // A place for each key's presses.
 pub const PRESSES: usize = KEY_COUNT as usize;
 
-#[derive(Drop)]
+#[derive(Clone, Copy)]
 pub struct Keys {
     pub down: Set256,
     pub modifiers: Modifiers,

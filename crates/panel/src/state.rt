@@ -10,7 +10,7 @@ use key_state::keys::PRESSES;
 use touch_state::devices::Devices;
 
 // All but the lent arrays. `tally` counts the drag starts.
-#[derive(Drop)]
+#[derive(Clone, Copy)]
 pub struct Panel {
     pub input: InputState,
     pub devices: Devices,

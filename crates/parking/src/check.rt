@@ -18,7 +18,7 @@ use image_fixed::fixed_bad;
 use image_history::{history_bad, history_count};
 use image_words::{MaybeIndex, first, word_at};
 
-#[derive(Drop)]
+#[derive(Clone, Copy)]
 pub enum ImageRefusal {
     None,
     // 14

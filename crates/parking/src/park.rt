@@ -18,7 +18,7 @@ use key_state::keys::PRESSES;
 use panel::state::Panel;
 use pointer_events::{CODES, PLACES, counted};
 
-#[derive(Drop)]
+#[derive(Clone, Copy)]
 pub enum Parked {
     // so many words are written
     Words(usize),

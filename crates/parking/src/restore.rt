@@ -27,7 +27,7 @@ use key_state::keys::PRESSES;
 use panel::state::Panel;
 use pointer_events::{CODES, PLACES};
 
-#[derive(Drop)]
+#[derive(Clone, Copy)]
 pub struct Restored {
     pub refusal: ImageRefusal,
     // refused, the panel that was given

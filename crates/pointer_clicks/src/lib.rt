@@ -1,4 +1,5 @@
 // Which buttons are down, what presses and clicks leave behind, and what is judged by them: clicks and drags.
+#![tactic(auto)]
 ghost use Rattle.std.specs.Prelude.{◌≡◌, not, ◌||◌, ◌&&◌, List, ℕ, Float};
 ghost use Rattle.std.specs.Float.Ieee.{lt};
 ghost use Rattle.emath.specs.Vec.{length};
@@ -16,7 +17,7 @@ use emath::vec2::Vec2;
 use pointer_events::{CODES, Sought, any};
 
 // The pass's events are the first `event_count` in the lent arrays.
-#[derive(Drop)]
+#[derive(Clone, Copy)]
 pub struct Held {
     pub down: ButtonsDown,
     pub press_origin: MaybePos2,
@@ -24,7 +25,7 @@ pub struct Held {
     pub event_count: usize,
 }
 
-#[derive(Drop)]
+#[derive(Clone, Copy)]
 pub struct ClickPast {
     pub has_moved_too_much_for_a_click: bool,
     pub last_click_pos: MaybePos2,

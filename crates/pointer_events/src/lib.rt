@@ -1,4 +1,5 @@
 // The pass's pointer events, in order. The caller lends the places for `MAX_EVENTS` of them: specs/Events.antt says what stands where.
+#![tactic(auto)]
 ghost use Rattle.std.specs.Prelude.{◌≡◌, List, ◌+◌, ◌*◌, ◌<◌, length, Float};
 ghost use Rattle.emath_history.specs.Ring.{set_position};
 ghost use Rattle.data.specs.Limits.{max_events};
@@ -20,7 +21,7 @@ pub const CODES: usize = 4 * MAX_EVENTS;
 pub const PLACES: usize = 2 * MAX_EVENTS;
 
 // An event in numbers.
-#[derive(Drop)]
+#[derive(Clone, Copy)]
 pub struct Entry {
     // 0 moved, 1 pressed, 2 released, 3 released with a click
     pub kind: u32,
@@ -32,14 +33,14 @@ pub struct Entry {
 }
 
 // Option<PointerEvent>
-#[derive(Drop)]
+#[derive(Clone, Copy)]
 pub enum MaybePointerEvent {
     None,
     Some(PointerEvent),
 }
 
 // What a question looks for among the events.
-#[derive(Drop)]
+#[derive(Clone, Copy)]
 pub enum Sought {
     Press,
     Release,

@@ -1,4 +1,5 @@
 // Where the pointer is and how it moves. The caller lends the places of the history.
+#![tactic(auto)]
 ghost use Rattle.std.specs.Prelude.{◌≡◌, cond, List, [], Float};
 ghost use Rattle.emath.specs.Vec.{normalized};
 ghost use Rattle.emath.specs.History.{velocity};
@@ -12,7 +13,7 @@ use emath::pos2::{MaybePos2, Pos2};
 use emath::vec2::{MaybeVec2, Vec2};
 use emath_history::history::{History, MAX_LEN, PARTS};
 
-#[derive(Drop)]
+#[derive(Clone, Copy)]
 pub struct Place {
     pub latest_pos: MaybePos2,
     pub interact_pos: MaybePos2,

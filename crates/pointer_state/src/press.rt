@@ -14,7 +14,7 @@ use pointer_clicks::{
 };
 use pointer_events::{CODES, PLACES, push};
 
-#[derive(Drop)]
+#[derive(Clone, Copy)]
 pub struct Press {
     pub held: Held,
     pub past: ClickPast,

@@ -1,4 +1,5 @@
 // Buttons, presses and clicks of a pass's events: their loop along the feed.
+#![tactic(auto)]
 ghost use Rattle.std.specs.Prelude.{◌≤◌};
 ghost use Rattle.data.specs.Limits.{max_events};
 ghost use Rattle.event_loop.specs.Shaped.{shaped_at};

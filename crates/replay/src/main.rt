@@ -2,6 +2,7 @@
 //   replay [text]    one line a call
 //   replay sums      one checksum a call
 //   replay whole     the answers' words
+#![tactic(auto)]
 use check::same;
 use libc::STDERR_FILENO;
 use trace::run::{Form, replay};

@@ -12,14 +12,14 @@ use touch_questions::multi_touch;
 use touch_state::devices::Devices;
 
 // The host multiplies the factor by the exponential of the exponent.
-#[derive(Drop)]
+#[derive(Clone, Copy)]
 pub struct Zoom {
     pub factor: f32,
     pub exponent: f32,
 }
 
 // The same by axis.
-#[derive(Drop)]
+#[derive(Clone, Copy)]
 pub struct Zoom2d {
     pub factor: Vec2,
     pub exponent: Vec2,

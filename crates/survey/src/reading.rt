@@ -9,14 +9,14 @@ use event_loop::{LIST_COUNT, LISTED};
 use feed_check::{Verdict, verdict_at};
 
 // Option<PassRefusal>
-#[derive(Drop)]
+#[derive(Clone, Copy)]
 pub enum MaybePassRefusal {
     None,
     Some(PassRefusal),
 }
 
 // `counts` has the number of places in each list.
-#[derive(Drop)]
+#[derive(Clone, Copy)]
 pub struct Reading {
     pub refusal: MaybePassRefusal,
     pub counts: [u8; LIST_COUNT],

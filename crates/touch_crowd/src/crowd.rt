@@ -18,7 +18,7 @@ use touch_device::Device;
 use touch_state::devices::{Devices, add, known_at, no_place};
 
 // The first refusal, and where there is none the devices after the touch events.
-#[derive(Drop)]
+#[derive(Clone, Copy)]
 pub struct Surveyed {
     pub refusal: MaybePassRefusal,
     pub devices: Devices,

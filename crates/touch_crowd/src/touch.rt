@@ -9,7 +9,7 @@ use data::touch::{ActiveTouch, TouchPhase};
 use event_loop::kind_at;
 use event_readers::readers::touch_at;
 
-#[derive(Drop)]
+#[derive(Clone, Copy)]
 pub struct TouchEvent {
     pub device_id: u64,
     pub phase: TouchPhase,
@@ -17,7 +17,7 @@ pub struct TouchEvent {
 }
 
 // Option<TouchEvent>
-#[derive(Drop)]
+#[derive(Clone, Copy)]
 pub enum MaybeTouchEvent {
     None,
     Some(TouchEvent),

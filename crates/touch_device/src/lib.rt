@@ -1,4 +1,5 @@
 // A touch device: egui's TouchState.
+#![tactic(auto)]
 ghost use Rattle.std.specs.Prelude.{◌≡◌};
 ghost use Rattle.std.proofs.Math.Option.{some};
 ghost use Rattle.model.specs.Touch.{new_device, is_start, adds_or_removes, no_place, end_device, any_touches_at};
@@ -12,7 +13,7 @@ use touches::Touches;
 
 pub mod info;
 
-#[derive(Drop)]
+#[derive(Clone, Copy)]
 pub struct Device {
     pub id: u64,
     pub touches: Touches,

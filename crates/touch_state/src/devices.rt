@@ -9,7 +9,7 @@ use data::limits::MAX_DEVICES;
 use data::touch::{ActiveTouch, TouchPhase};
 use touch_device::{Device, is_start};
 
-#[derive(Drop)]
+#[derive(Clone, Copy)]
 pub struct Devices {
     pub count: usize,
     pub places: [Device; MAX_DEVICES],

@@ -1,4 +1,5 @@
 // The touches that a device holds, by ascending id in the first `count` places: egui's BTreeMap.
+#![tactic(auto)]
 ghost use Rattle.std.specs.Prelude.{◌≡◌, [], length};
 ghost use Rattle.model.specs.Touch.{insert_touch, move_touch, remove_touch, holds, touch_id_of};
 ghost use Rattle.touches.specs.Touches.{list, index, if_room, on_touch_if_room};
@@ -7,7 +8,7 @@ use data::limits::MAX_TOUCHES;
 use data::touch::{ActiveTouch, MaybeF32, TouchPhase};
 use emath::pos2::Pos2;
 
-#[derive(Drop)]
+#[derive(Clone, Copy)]
 pub struct Touches {
     pub count: usize,
     pub places: [ActiveTouch; MAX_TOUCHES],

@@ -18,7 +18,7 @@ use trace_words::words::{Answer, ROOM};
 use widget_index::table::{EDGES, Edges, NUMBERS, Numbers, Words};
 
 // How the answers are written.
-#[derive(Drop)]
+#[derive(Clone, Copy)]
 pub enum Form {
     Whole,
     Sums,
@@ -105,7 +105,7 @@ fn say_end(out: &mut Buffer, n: usize, form: Form, cut: bool, t: Tally) {
 }
 
 // What is carried from call to call: the machine, the bytes that wait to be written, and the count.
-#[derive(Drop)]
+#[derive(Clone, Copy)]
 struct Going {
     machine: Machine,
     bytes: usize,

@@ -1,4 +1,5 @@
 // The answers of ASK, DUMP and RESTED: every question, and the whole state but for the widgets, in the order of compare/FORMAT.md.
+#![tactic(auto)]
 pub mod ask;
 pub mod devices;
 pub mod dump;

@@ -25,7 +25,7 @@ const POINTER_GONE: u32 = 9;
 const OTHER: u32 = 10;
 
 // The part that was last, and the place of the first release.
-#[derive(Drop)]
+#[derive(Clone, Copy)]
 struct Seen {
     part: u32,
     x: u32,

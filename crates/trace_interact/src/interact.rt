@@ -14,7 +14,7 @@ use trace_words::words::{Answer, count, word};
 use widget_index::table::{Numbers, WidgetRects, Words};
 
 // The panel after an interact, and the answer.
-#[derive(Drop)]
+#[derive(Clone, Copy)]
 pub struct Stepped {
     pub panel: Panel,
     pub reply: Reply,

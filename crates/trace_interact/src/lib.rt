@@ -1,2 +1,3 @@
 // INTERACT, read from a request and answered.
+#![tactic(auto)]
 pub mod interact;

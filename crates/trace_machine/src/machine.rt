@@ -14,7 +14,7 @@ use trace_words::reply::{Reply, malformed, refused_pass, taken};
 use trace_words::words::Answer;
 use widget_index::table::WidgetRects;
 
-#[derive(Drop)]
+#[derive(Clone, Copy)]
 pub struct Machine {
     pub panel: Panel,
     pub set: WidgetRects,
@@ -24,7 +24,7 @@ pub struct Machine {
 }
 
 // What a call makes of the machine, and its answer.
-#[derive(Drop)]
+#[derive(Clone, Copy)]
 pub struct Step {
     pub machine: Machine,
     pub reply: Reply,

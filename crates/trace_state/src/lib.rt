@@ -1,3 +1,4 @@
 // Parts of the answer of DUMP.
+#![tactic(auto)]
 pub mod devices;
 pub mod parts;

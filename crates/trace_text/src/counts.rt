@@ -4,7 +4,7 @@ use trace_words::reply::Reply;
 use trace_words::request::{at, id};
 
 // Calls so far; drags started and stopped since the panel was fresh, and how many go on, 0 or 1; and these three at the last park.
-#[derive(Drop)]
+#[derive(Clone, Copy)]
 pub struct Tally {
     pub calls: u64,
     pub starts: u64,

@@ -19,7 +19,7 @@ use widget_insert::decide;
 use widget_slices::settled;
 
 // The set after an insertion, and the answer.
-#[derive(Drop)]
+#[derive(Clone, Copy)]
 pub struct Placed {
     pub set: WidgetRects,
     pub reply: Reply,

@@ -1,4 +1,5 @@
 // INSERT: an insertion, with the layer's widgets lent.
+#![tactic(auto)]
 pub mod insert;
 pub mod lent;
 pub mod widgets;

@@ -1,4 +1,5 @@
 // The words of compare/FORMAT.md: what a request says, and the words of an answer.
+#![tactic(auto)]
 pub mod records;
 pub mod reply;
 pub mod request;

@@ -7,7 +7,7 @@ ghost use Rattle.trace_words.specs.Reply.{Answers};
 use crate::words::{Answer, count};
 use data::refusal::{InsertRefusal, InteractRefusal, PassRefusal};
 
-#[derive(Drop)]
+#[derive(Clone, Copy)]
 pub struct Reply {
     pub code: u32,
     pub words: usize,

@@ -1,4 +1,5 @@
 // What an insertion answers, the stores of one record, and the insertion of a new widget. The lent slice is not touched here.
+#![tactic(auto)]
 ghost use Rattle.std.specs.Prelude.{◌≡◌, ◌<◌, ◌≤◌};
 ghost use Rattle.widget_append.specs.Append.{Gives, refuse, with_edges, with_traits, number_of, count_of, layers_after, append, insert_new};
 
@@ -12,14 +13,14 @@ use widget_index::table::{
 };
 
 // An insertion's answer: why it is refused; or the widget's position, and how many widgets its layer has now.
-#[derive(Drop)]
+#[derive(Clone, Copy)]
 pub enum Inserted {
     Refused(InsertRefusal),
     Taken(usize, usize),
 }
 
 // What is to be done: in the lent slice, the record at `from` goes, each after it up to `to` falls by one, and `widget` comes last.
-#[derive(Drop)]
+#[derive(Clone, Copy)]
 pub struct Decision {
     pub answer: Inserted,
     pub set: WidgetRects,

@@ -11,7 +11,7 @@ use emath::pos2::Pos2;
 use emath::rect::Rect;
 
 // How many widgets and layers are known.
-#[derive(Drop)]
+#[derive(Clone, Copy)]
 pub struct WidgetRects {
     pub widgets: usize,
     pub layers: usize,

@@ -1,4 +1,5 @@
 // One insertion: what it decides, and the set after it. The lent slice is not touched here.
+#![tactic(auto)]
 ghost use Rattle.std.specs.Prelude.{◌≡◌, ◌+◌, ◌-◌, ◌<◌, ◌≤◌};
 ghost use Rattle.model.specs.Widgets.{updated, well_shaped, some_id_zero, edges_ok, record_refusal};
 ghost use Rattle.widget_index.specs.Table.{widgets_of};
@@ -19,7 +20,7 @@ use widget_index::table::{
 };
 
 // Option<InsertRefusal>
-#[derive(Drop)]
+#[derive(Clone, Copy)]
 pub enum MaybeInsertRefusal {
     None,
     Some(InsertRefusal),

@@ -11,21 +11,21 @@ use widget_index::table::{
 };
 
 // Option<WidgetRect>
-#[derive(Drop)]
+#[derive(Clone, Copy)]
 pub enum MaybeWidgetRect {
     None,
     Some(WidgetRect),
 }
 
 // Option<(LayerId, usize)>
-#[derive(Drop)]
+#[derive(Clone, Copy)]
 pub enum MaybeOrder {
     None,
     Some(LayerId, usize),
 }
 
 // Option<LayerId>
-#[derive(Drop)]
+#[derive(Clone, Copy)]
 pub enum MaybeLayerId {
     None,
     Some(LayerId),

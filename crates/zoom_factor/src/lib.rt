@@ -1,12 +1,13 @@
 // A.5: the factor of a zoom exponent, for a host that has no exponential. All but the last step is done in whole numbers,
 // in units of 2^-30.
+#![tactic(auto)]
 ghost use Rattle.std.specs.Prelude.{◌≡◌, cond, false, ℕ, ◌+◌, ◌*◌, ◌/◌, ◌^◌, ◌≤◌, ◌<◌};
 ghost use Rattle.std.specs.Float.Ieee.Exact.{HasValue};
 ghost use Rattle.zoom_factor.specs.Answer.{zoom_refusal_number, Answers};
 ghost use Rattle.zoom_factor.specs.Series.{below_zero};
 ghost use Rattle.zoom_factor.specs.Steps.{Cut, CutPattern, Summed};
 
-#[derive(Drop)]
+#[derive(Clone, Copy)]
 pub enum ZoomRefusal {
     // 13: an exponent over 1 in size, or not a number
     ExponentOutside,
@@ -23,7 +24,7 @@ impl ZoomRefusal {
     }
 }
 
-#[derive(Drop)]
+#[derive(Clone, Copy)]
 pub enum ZoomAnswer {
     Factor(f32),
     Refused(ZoomRefusal),

@@ -1,0 +1,6 @@
+use Rattle.data.specs.Limits.{within32}
+use Rattle.domain.proofs.within32.Goals as goal
+
+pub returns : goal.returns
+unfolding within32
+returns c = rw c.type_inv.1.1.0.1

@@ -1,0 +1,6 @@
+use Rattle.data.specs.Limits.{zoom_ok, zero32, max_zoom}
+use Rattle.domain.proofs.zoom_ok.Goals as goal
+
+pub returns : goal.returns
+unfolding zoom_ok zero32 max_zoom
+returns c = rw c.type_inv.0.1

@@ -1,0 +1,7 @@
+use Rattle.emath.specs.Vec.{vec_abs}
+use borrow.Author.Rules.{rules}
+use Rattle.emath.proofs.vec2.Vec2.abs.Goals as goal
+
+pub returns : goal.returns
+unfolding vec_abs
+returns c = cc

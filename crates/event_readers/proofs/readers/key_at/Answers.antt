@@ -1,0 +1,19 @@
+use native.Mathlib.Omega.{arith}
+use mathlib.Core.Path.{sym, ◌∙◌}
+use Rattle.data.specs.Kinds.{key_kind}
+use Rattle.feed.specs.Shape.{shape_by_kind}
+use Rattle.event_loop.proofs.Walk.{at_past}
+use Rattle.event_readers.proofs.KnownKind.{whole_as}
+use borrow.Author.Rules.{rules}
+use Rattle.event_readers.proofs.readers.key_at.Goals as goal
+
+pub returns-then-at-feed : goal.returns-then-at-feed
+unfolding shape_by_kind
+returns-then-at-feed c =
+    let start = c in
+    let a = start.args in
+    let is = start.requires in
+    c.event_or_other.ensures ∙ rw (c.key_shape-e.ensures, whole_as a.feed.now a.at key_kind is c.if-at-feed.true (omega arith))
+
+pub returns : goal.returns
+returns c = sym (at_past _ _ c.if-at-feed.false)

@@ -1,0 +1,26 @@
+use native.Mathlib.Omega.{arith}
+use mathlib.Core.Path.{sym, ◌∙◌}
+use Rattle.data.specs.Kinds.{touch_kind}
+use Rattle.feed.specs.Shape.{shape_by_kind}
+use Rattle.event_loop.proofs.Walk.{at_past}
+use Rattle.event_readers.proofs.KnownKind.{whole_as, short_as}
+use borrow.Author.Rules.{rules}
+use Rattle.event_readers.proofs.readers.touch_at.Goals as goal
+
+pub returns-then-n-feed : goal.returns-then-n-feed
+unfolding shape_by_kind
+returns-then-n-feed c =
+    let start = c in
+    let a = start.args in
+    let is = start.requires in
+    c.event_or_other.ensures ∙ rw (c.touch_shape-e.ensures, whole_as a.feed.now a.at touch_kind is c.if-at-feed.true (omega arith))
+
+pub returns-then-at-feed : goal.returns-then-at-feed
+returns-then-at-feed c =
+    let start = c in
+    let a = start.args in
+    let is = start.requires in
+    sym (short_as a.feed.now a.at touch_kind is c.if-at-feed.true (omega arith))
+
+pub returns : goal.returns
+returns c = sym (at_past _ _ c.if-at-feed.false)

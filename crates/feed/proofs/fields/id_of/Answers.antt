@@ -1,0 +1,8 @@
+use Rattle.feed.specs.Shape.{id_of}
+use mathlib.Core.Path.{refl}
+use borrow.Author.Rules.{rules}
+use Rattle.feed.proofs.fields.id_of.Goals as goal
+
+pub returns : goal.returns
+unfolding id_of
+returns c = refl

@@ -1,0 +1,153 @@
+use mathlib.Core.Path.{◌≡◌}
+use mathlib.Core.List.{List}
+use Prim.Native.Nat.{ℕ, suc, ◌+◌, ◌*◌, ◌/◌, ◌%◌, ◌≤◌, ◌<◌}
+use native.Mathlib.Omega.{arith}
+use lib.Dec.{lit≤}
+use lib.Ieee.{Float}
+use lib.ListN.{get_or, length, drop}
+use mir.Syntax.{w64}
+use mir.Val.{Fits}
+use borrow.Author.Rules.{scaled_Fits}
+use borrow.Author.Tests.{le-ltb, lt-ltb, ne_eqb}
+use Rattle.emath.specs.declared.pos2.Pos2.{Pos2}
+use Rattle.data.specs.declared.event.Event.TheVariants.{Touch}
+use Rattle.data.specs.declared.touch.TouchPhase.{TouchPhase}
+use Rattle.data.specs.declared.touch.MaybeF32.{MaybeF32}
+use Rattle.data.specs.declared.touch.MaybeF32.TheVariants.{None as no_force, Some as some_force}
+use Rattle.feed.specs.declared.found.MaybeEvent.TheVariants.{Some as some_event}
+use Rattle.feed.specs.Shape.{clean, float_of, pos_of, id_of, phase_of, force_of, touch_shape}
+use Rattle.feed.proofs.Words.{word_after}
+use Rattle.feed_shape.proofs.shape.touch_shape.Goals as goal
+
+-- six words follow the first
+module _ (s : goal.Start) (i : ℕ) (h : i ≤ 6) where
+  there : s.args.at + i < length s.args.feed.now
+  there = omega arith
+
+  sum_fits : Fits w64 (s.args.at + i)
+  sum_fits = omega (arith, there)
+
+  scaled_at : Fits w64 ((s.args.at + i) * 4)
+  scaled_at = scaled_Fits _ _ 4 there s.good.0.1
+
+-- a touch by its words' places in the feed
+touched : (ws : List ℕ) (at low : ℕ) (device id : ℕ) (phase : TouchPhase) (pos : Pos2) (force : MaybeF32) → low < 8 →
+    device ≡ id_of (get_or ws (at + 1) 0) (get_or ws (at + 2) 0) →
+    id ≡ id_of (get_or ws (at + 3) 0) (get_or ws (at + 4) 0) →
+    phase ≡ phase_of (low % 4) →
+    pos ≡ pos_of (get_or ws (at + 5) 0) (get_or ws (at + 6) 0) →
+    force ≡ force_of (low / 4 % 2) (get_or ws (at + 7) 0) →
+    some_event (Touch device id phase pos force) ≡ touch_shape low (drop (suc at) ws)
+unfolding touch_shape clean
+touched ws at low device id phase pos force h d i p o f =
+    rw (lt-ltb _ _ h, word_after ws at 0, word_after ws at 1, word_after ws at 2, word_after ws at 3, word_after ws at 4, word_after ws at 5, word_after ws at 6, d, i, p, o, f)
+
+forced : (n w : ℕ) (x : Float) → n ≡ 1 → x ≡ float_of w → some_force x ≡ force_of n w
+unfolding force_of
+forced n w x h e = rw (h, e)
+
+unforced : (n w : ℕ) → (n ≡ 1 → ⊥) → no_force ≡ force_of n w
+unfolding force_of
+unforced n w h = rw (ne_eqb _ _ h)
+
+pub overflow_add-at : goal.overflow_add-at
+overflow_add-at c = sum_fits c _ (lit≤ tt)
+
+pub offset_bounds-feed-at : goal.offset_bounds-feed-at
+offset_bounds-feed-at c = scaled_at c _ (lit≤ tt)
+
+pub bounds-feed-at : goal.bounds-feed-at
+bounds-feed-at c = there c _ (lit≤ tt)
+
+pub overflow_add-at-then-low-lt8 : goal.overflow_add-at-then-low-lt8
+overflow_add-at-then-low-lt8 c = sum_fits c _ (lit≤ tt)
+
+pub offset_bounds-feed-at-then-low-lt8 : goal.offset_bounds-feed-at-then-low-lt8
+offset_bounds-feed-at-then-low-lt8 c = scaled_at c _ (lit≤ tt)
+
+pub bounds-feed-at-then-low-lt8 : goal.bounds-feed-at-then-low-lt8
+bounds-feed-at-then-low-lt8 c = there c _ (lit≤ tt)
+
+pub id_of-device-requires : goal.id_of-device-requires
+id_of-device-requires c = tt
+
+pub overflow_add-at-then-low-lt8-2 : goal.overflow_add-at-then-low-lt8-2
+overflow_add-at-then-low-lt8-2 c = sum_fits c _ (lit≤ tt)
+
+pub offset_bounds-feed-at-then-low-lt8-2 : goal.offset_bounds-feed-at-then-low-lt8-2
+offset_bounds-feed-at-then-low-lt8-2 c = scaled_at c _ (lit≤ tt)
+
+pub bounds-feed-at-then-low-lt8-2 : goal.bounds-feed-at-then-low-lt8-2
+bounds-feed-at-then-low-lt8-2 c = there c _ (lit≤ tt)
+
+pub overflow_add-at-then-low-lt8-3 : goal.overflow_add-at-then-low-lt8-3
+overflow_add-at-then-low-lt8-3 c = sum_fits c _ (lit≤ tt)
+
+pub offset_bounds-feed-at-then-low-lt8-3 : goal.offset_bounds-feed-at-then-low-lt8-3
+offset_bounds-feed-at-then-low-lt8-3 c = scaled_at c _ (lit≤ tt)
+
+pub bounds-feed-at-then-low-lt8-3 : goal.bounds-feed-at-then-low-lt8-3
+bounds-feed-at-then-low-lt8-3 c = there c _ (lit≤ tt)
+
+pub id_of-id-requires : goal.id_of-id-requires
+id_of-id-requires c = tt
+
+pub phase_of-phase-requires : goal.phase_of-phase-requires
+phase_of-phase-requires c = tt
+
+pub overflow_add-at-then-low-lt8-4 : goal.overflow_add-at-then-low-lt8-4
+overflow_add-at-then-low-lt8-4 c = sum_fits c _ (lit≤ tt)
+
+pub offset_bounds-feed-at-then-low-lt8-4 : goal.offset_bounds-feed-at-then-low-lt8-4
+offset_bounds-feed-at-then-low-lt8-4 c = scaled_at c _ (lit≤ tt)
+
+pub bounds-feed-at-then-low-lt8-4 : goal.bounds-feed-at-then-low-lt8-4
+bounds-feed-at-then-low-lt8-4 c = there c _ (lit≤ tt)
+
+pub overflow_add-at-then-low-lt8-5 : goal.overflow_add-at-then-low-lt8-5
+overflow_add-at-then-low-lt8-5 c = sum_fits c _ (lit≤ tt)
+
+pub offset_bounds-feed-at-then-low-lt8-5 : goal.offset_bounds-feed-at-then-low-lt8-5
+offset_bounds-feed-at-then-low-lt8-5 c = scaled_at c _ (lit≤ tt)
+
+pub bounds-feed-at-then-low-lt8-5 : goal.bounds-feed-at-then-low-lt8-5
+bounds-feed-at-then-low-lt8-5 c = there c _ (lit≤ tt)
+
+pub pos_of-pos-requires : goal.pos_of-pos-requires
+pos_of-pos-requires c = tt
+
+pub overflow_add-at-then-low-eq1 : goal.overflow_add-at-then-low-eq1
+overflow_add-at-then-low-eq1 c = omega arith
+
+pub offset_bounds-feed-at-then-low-eq1 : goal.offset_bounds-feed-at-then-low-eq1
+offset_bounds-feed-at-then-low-eq1 c = omega arith
+
+pub bounds-feed-at-then-low-eq1 : goal.bounds-feed-at-then-low-eq1
+bounds-feed-at-then-low-eq1 c = omega arith
+
+pub float_of-force-requires : goal.float_of-force-requires
+float_of-force-requires c = tt
+
+pub returns-then-low-eq1 : goal.returns-then-low-eq1
+returns-then-low-eq1 c =
+    touched c.args.feed.now c.args.at _ _ _ _ _ _
+    c.if-low-lt8.true
+    c.id_of-device.ensures
+    c.id_of-id.ensures
+    c.phase_of-phase.ensures
+    c.pos_of-pos.ensures
+    (forced _ _ _ c.if-low-eq1.true c.float_of-force.ensures)
+
+pub returns-then-low-lt8 : goal.returns-then-low-lt8
+returns-then-low-lt8 c =
+    touched c.args.feed.now c.args.at _ _ _ _ _ _
+    c.if-low-lt8.true
+    c.id_of-device.ensures
+    c.id_of-id.ensures
+    c.phase_of-phase.ensures
+    c.pos_of-pos.ensures
+    (unforced _ _ c.if-low-eq1.false)
+
+pub returns : goal.returns
+unfolding touch_shape clean
+returns c = rw (le-ltb _ _ c.if-low-lt8.false)

@@ -1,0 +1,7 @@
+use Rattle.feed.specs.Shape.{zoom_shape}
+use borrow.Author.Rules.{rules}
+use Rattle.feed_shape.proofs.shape.zoom_shape.Goals as goal
+
+pub returns : goal.returns
+unfolding zoom_shape
+returns c = rw (c.bare.ensures, c.float_of-factor.ensures)

@@ -1,0 +1,15 @@
+use borrow.Author.Rules.{rules}
+use mathlib.Core.Path.{◌≡◌, ◌∙◌, sym, ap}
+use native.Mathlib.Omega.{arith}
+use lib.ListN.{length, take, length-take, length-map}
+use Prim.Native.Nat.{◌≤◌, ◌<◌}
+use Rattle.model.specs.Touch.{classify}
+use Rattle.gesture.proofs.Averages.{pinch, two_at, not_two}
+use Rattle.gesture.proofs.classify.Goals as goal
+
+pub returns-then-n-eq2 : goal.returns-then-n-eq2
+unfolding pinch
+returns-then-n-eq2 c = rw (c.classify_by.ensures, c.abs-dy.ensures, c.abs-dx.ensures) (two_at c.args.ts.count c.args.ts.places _ (sym c.len-n.ensures ∙ c.if-n-eq2.true))
+
+pub returns : goal.returns
+returns c = sym (not_two _ (λ e. c.if-n-eq2.false (c.len-n.ensures ∙ e)))

@@ -1,0 +1,34 @@
+use Prim.Native.Nat.{◌+◌, ◌-◌, ◌≤◌, ◌<◌}
+use mathlib.Core.Path.{◌≡◌, ◌∙◌, refl}
+use borrow.Author.Rules.{rules}
+use native.Mathlib.Omega.{arith}
+use lib.ListN.{length, take, drop, set, length-map, length-set}
+use lib.Ieee.{of_bits}
+use Rattle.data.specs.Limits.{max_touches}
+use Rattle.model.specs.Touch.{sum_distance, sum_abs_distance2}
+use Rattle.touches.proofs.Places.{first_of, first_le}
+use Rattle.gesture.proofs.Turns.{distance_step, away_step, distance_end, away_end}
+use Rattle.gesture.proofs.spread.Goals as goal
+
+pub loop-i-init : goal.loop-i-init
+loop-i-init c =
+    let ts = c.args.ts in
+    let l : length ts.places ≡ max_touches = simp length-map at c.type_inv.0.1.1.1.0.1.0.1 in
+    let e = c.len-n.ensures in
+    (omega arith, rw e (first_le ts.count ts.places), l, refl, refl)
+
+pub loop-i-preserved : goal.loop-i-preserved
+loop-i-preserved c =
+    let o = c in
+    let h = c.loop-i-test.true in
+    let a = o.loop-i.invariant in
+    (omega arith, a.1, a.2, rw c.distance-distance.ensures (distance_step _ _ _ _ h a.1 _ _) ∙ a.3, rw (c.add-abs_distance2.ensures, c.abs-away.ensures, c.sub.ensures) (away_step _ _ _ _ h a.1 _ _) ∙ a.4)
+
+pub returns : goal.returns
+unfolding of_bits
+returns c =
+    let o = c in
+    let e = c.len-n.ensures in
+    let a = c.loop-i.invariant in
+    let h = c.loop-i-test.false in
+    rw (← first_of c.len-n.result o.args.ts.count o.args.ts.places e, distance_end _ _ _ h a.1 _ _ ∙ a.3, away_end _ _ _ h a.1 _ _ ∙ a.4, c.zero-abs_distance2.ensures)

@@ -1,0 +1,17 @@
+use Prim.Native.Nat.{◌+◌, ◌-◌, ◌≤◌, ◌<◌}
+use mathlib.Core.Path.{◌≡◌, ◌∙◌, refl}
+use borrow.Author.Rules.{rules}
+use native.Mathlib.Omega.{arith}
+use lib.ListN.{length, take, drop, set, length-map, length-set}
+use lib.Ieee.{of_bits}
+use Rattle.data.specs.Limits.{max_touches}
+use Rattle.model.specs.Touch.{sum_force, sum_pos}
+use Rattle.touches.proofs.Places.{first_of, first_le}
+use Rattle.gesture.proofs.Turns.{force_step, pos_step, force_end, pos_end}
+use Rattle.gesture.proofs.sum.Given as goal
+
+abbrev pub invariant-loop-i : goal.invariant-loop-i
+invariant-loop-i l = (l.i ≤ l.n) × (l.n ≤ length l.a) × (length l.a ≡ max_touches) × (sum_force l.force (drop l.i (take l.n l.a)) ≡ sum_force l.initial.force (take l.n l.a)) × (sum_pos l.pos (drop l.i (take l.n l.a)) ≡ sum_pos l.initial.pos (take l.n l.a))
+
+abbrev pub decreases-loop-i : goal.decreases-loop-i
+decreases-loop-i l = l.n - l.i

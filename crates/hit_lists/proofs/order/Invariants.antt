@@ -1,0 +1,16 @@
+-- The invariant: the entries passed are of other ids.
+use Prim.Native.Nat.{◌≤◌, ◌-◌, ◌/◌}
+use mathlib.Core.Path.{◌≡◌, refl, sym, ◌∙◌}
+use native.Mathlib.Omega.{arith}
+use lib.ListN.{length}
+use Rattle.model.specs.Interact.{order, order_from}
+use Rattle.hit_lists.specs.Hits.{hits_of}
+use Rattle.hit_lists.proofs.Walk.{rest, order_here, order_later, no_order}
+use borrow.Author.Rules.{rules}
+use Rattle.hit_lists.proofs.order.Given as goal
+
+abbrev pub invariant-loop-i : goal.invariant-loop-i
+invariant-loop-i l = (l.n ≡ length l.words / 2) × (l.i ≤ l.n) × (order_from l.id l.i (rest l.words l.i) ≡ order_from l.id 0 (hits_of l.words))
+
+abbrev pub decreases-loop-i : goal.decreases-loop-i
+decreases-loop-i l = l.n - l.i

@@ -1,0 +1,55 @@
+use Prim.Native.Nat.{◌≤◌, ◌<◌, ◌-◌, ◌/◌}
+use mathlib.Core.Path.{◌≡◌, refl, sym, ◌∙◌}
+use native.Mathlib.Omega.{arith}
+use borrow.Author.Rules.{rules}
+use borrow.Author.Tests.{not-true, not-false}
+use lib.ListN.{length}
+use Rattle.data.specs.Limits.{max_hits}
+use Rattle.model.specs.Interact.{hits_refusal}
+use Rattle.hit_lists.specs.Hits.{hits_of}
+use Rattle.hit_refusals.specs.Refusals.{refusal_of}
+use Rattle.hit_lists.proofs.Walk.{rest, done}
+use Rattle.hit_refusals.proofs.Entries.{too_many, malformed, zero_id, passed}
+use Rattle.hit_refusals.proofs.hits_refusal.Goals as goal
+
+pub loop-i-init : goal.loop-i-init
+loop-i-init c = (refl, omega arith, omega arith, refl)
+
+pub returns-then-i-eq-MAX_HITS : goal.returns-then-i-eq-MAX_HITS
+unfolding refusal_of
+returns-then-i-eq-MAX_HITS c =
+    let o = c in
+    sym (too_many _ max_hits _ c.loop-i-test.true (omega arith)) ∙ o.loop-i.invariant.3
+
+pub returns-then-not-sense_ok : goal.returns-then-not-sense_ok
+unfolding refusal_of
+returns-then-not-sense_ok c =
+    let o = c in
+    let l : o.loop-i.i < max_hits = omega arith in
+    sym (malformed _ _ _ c.loop-i-test.true l (sym c.sense_ok.ensures ∙ not-true c.sense_ok.result c.if-not-sense_ok.true))
+    ∙ o.loop-i.invariant.3
+
+pub returns-then-words-i-eq0 : goal.returns-then-words-i-eq0
+unfolding refusal_of
+returns-then-words-i-eq0 c =
+    let s = c in
+    let o = s in
+    let l : o.loop-i.i < max_hits = omega arith in
+    sym (zero_id _ _ _ s.loop-i-test.true l (sym s.sense_ok.ensures ∙ not-false s.sense_ok.result c.if-not-sense_ok.false) c.if-words-i-eq0.true)
+    ∙ o.loop-i.invariant.3
+
+pub loop-i-preserved : goal.loop-i-preserved
+loop-i-preserved c =
+    let s = c in
+    let o = s in
+    let l : o.loop-i.i < max_hits = omega arith in (
+      refl,
+      omega arith,
+      omega arith,
+      sym (passed _ _ _ s.loop-i-test.true l (sym s.sense_ok.ensures ∙ not-false s.sense_ok.result c.if-not-sense_ok.false) c.if-words-i-eq0.false)
+          ∙ o.loop-i.invariant.3,
+    )
+
+pub returns : goal.returns
+unfolding refusal_of hits_refusal
+returns c = rw (done _ _ c.loop-i-test.false) at c.loop-i.invariant.3

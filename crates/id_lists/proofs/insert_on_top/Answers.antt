@@ -1,0 +1,43 @@
+use Prim.Native.Nat.{◌+◌, ◌≤◌, ◌<◌, ◌-◌, ◌*◌, ◌/◌}
+use mathlib.Core.Path.{◌≡◌, refl, sym, ◌∙◌, ap}
+use native.Mathlib.Omega.{arith}
+use lib.ListN.{length, get_or, take}
+use Rattle.model.specs.Interact.{insert_on_top}
+use Rattle.hit_lists.specs.Hits.{hits_of}
+use Rattle.hit_lists.proofs.Walk.{rest, entries}
+use Rattle.id_set.specs.Ids.{Written}
+use Rattle.id_lists.specs.Ids.{on_top, insert_if}
+use Rattle.id_set.proofs.Written.{kept}
+use Rattle.id_lists.proofs.Walks.{if_grows, stepped, step_list, step_bound, top_next, top_done}
+use borrow.Author.Rules.{rules}
+use Rattle.id_lists.proofs.insert_on_top.Goals as goal
+
+pub loop-i-init : goal.loop-i-init
+loop-i-init c =
+    let a = c.args in
+    let l = entries a.words.now in
+    (refl, omega arith, omega arith, omega arith, refl, kept a.count a.ids.now (omega arith), refl)
+
+pub loop-i-preserved : goal.loop-i-preserved
+loop-i-preserved c =
+    let o = c in
+    let v = o.loop-i.invariant in
+    let w = c.insert_if-r.ensures in
+    let k = c.on_top-keep in
+    let d = get_or o.args.words.now (o.loop-i.i * 2) 0 in (
+      refl,
+      omega arith,
+      v.2,
+      omega (arith, step_bound _ _ _ v.5 (insert_if k.result d) (if_grows k.result d) _ _ w),
+      omega arith,
+      stepped _ _ _ v.5 (insert_if k.result d) (if_grows k.result d) _ _ w,
+      rw (step_list _ _ _ v.5 (insert_if k.result d) (if_grows k.result d) _ _ w, k.ensures) (sym (top_next _ _ _ _ c.loop-i-test.true _) ∙ v.6),
+    )
+
+pub shape_of-ids : goal.shape_of-ids
+shape_of-ids c = c.loop-i.invariant.4
+
+pub returns : goal.returns
+returns c =
+    let v = c.loop-i.invariant in
+    rw (sym v.6 ∙ top_done _ _ _ _ c.loop-i-test.false _) v.5

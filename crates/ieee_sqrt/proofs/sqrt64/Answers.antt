@@ -1,0 +1,38 @@
+use mathlib.Core.Path.{refl, sym, subst}
+use lib.Dec.{T}
+use lib.Ieee.{binary64, fits}
+use Rattle.ieee_sqrt.proofs.Special.{negative_root, own_root, above_zero_number, some_bits, infinity_root, rooted_at, rooted_no_nan}
+use Rattle.ieee_sqrt.proofs.sqrt64.Goals as goal
+
+-- what owning the float tells: the format holds it
+held : (c : goal.Start) → T (fits binary64 c.args.x)
+held c = subst T (sym c.type_inv.0.1) tt
+
+pub returns-then-x : goal.returns-then-x
+returns-then-x c = negative_root binary64 c.args.x (subst T (sym c.if-x.true) tt)
+
+pub float_to_bits-b : goal.float_to_bits-b
+float_to_bits-b c = above_zero_number binary64 c.args.x (subst T (sym c.if-x-2.true) tt)
+
+pub root_bits-requires : goal.root_bits-requires
+root_bits-requires c =
+    let s = c in
+    record { format = binary64; keeps = refl; least = refl; above = some_bits binary64 s.args.x (held s) (subst T (sym c.if-x-2.true) tt); below = c.if-b-lt9218868437227405312.true }
+
+pub float_from_bits-result : goal.float_from_bits-result
+float_from_bits-result c =
+    let s = c in
+    rooted_no_nan binary64 c.root_bits.result (rooted_at binary64 s.args.x c.root_bits.result (held s) c.if-b-lt9218868437227405312.true c.root_bits.ensures).0
+
+pub returns-then-b-lt9218868437227405312 : goal.returns-then-b-lt9218868437227405312
+returns-then-b-lt9218868437227405312 c =
+    let s = c in
+    (rooted_at binary64 s.args.x c.root_bits.result (held s) c.if-b-lt9218868437227405312.true c.root_bits.ensures).1
+
+pub returns-else-b-lt9218868437227405312 : goal.returns-else-b-lt9218868437227405312
+returns-else-b-lt9218868437227405312 c =
+    let s = c in
+    infinity_root binary64 s.args.x (held s) (subst T (sym c.if-x-2.true) tt) c.if-b-lt9218868437227405312.false
+
+pub returns-else-x-2 : goal.returns-else-x-2
+returns-else-x-2 c = own_root binary64 c.args.x c.if-x.false c.if-x-2.false

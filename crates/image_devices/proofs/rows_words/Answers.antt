@@ -1,0 +1,24 @@
+use Prim.Native.Nat.{ℕ, ◌≤◌, ◌-◌, ◌*◌}
+use mathlib.Core.Path.{◌≡◌, sym, ap, ◌∙◌}
+use native.Mathlib.Omega.{arith}
+use lib.ListN.{length}
+use Rattle.image_devices.proofs.Rows.{written, none_length, more_length}
+use borrow.Author.Rules.{rules}
+use Rattle.image_devices.proofs.rows_words.Goals as goal
+
+pub loop-i-init : goal.loop-i-init
+loop-i-init c = (omega arith, omega arith, none_length c.args.t1)
+
+pub loop-i-preserved : goal.loop-i-preserved
+loop-i-preserved c =
+    let w = c.device_words-words.ensures in
+    let l = c.loop-i in
+    let a = c.args in
+    let t : length a.t1 ≡ 4 = search rules in
+    (omega arith, omega (arith, w.0), more_length a.t1 l.i _ (omega arith) l.invariant.2 (sym w.1 ∙ w.0))
+
+pub returns : goal.returns
+returns c =
+    let l = c.loop-i in
+    let e : l.i ≡ c.args.n = omega arith in
+    (omega (arith, l.invariant.1, e), l.invariant.1 ∙ sym l.invariant.2 ∙ ap (λ (k : ℕ). length (written c.args.t1 k)) e)

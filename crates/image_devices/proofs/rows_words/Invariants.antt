@@ -1,0 +1,13 @@
+use Prim.Native.Nat.{ℕ, ◌≤◌, ◌-◌, ◌*◌}
+use mathlib.Core.Path.{◌≡◌, sym, ap, ◌∙◌}
+use native.Mathlib.Omega.{arith}
+use lib.ListN.{length}
+use Rattle.image_devices.proofs.Rows.{written, none_length, more_length}
+use borrow.Author.Rules.{rules}
+use Rattle.image_devices.proofs.rows_words.Given as goal
+
+abbrev pub invariant-loop-i : goal.invariant-loop-i
+invariant-loop-i l = (l.i ≤ l.n) × (l.words ≡ l.i * 86) × (length (written l.places l.i) ≡ l.i * 86)
+
+abbrev pub decreases-loop-i : goal.decreases-loop-i
+decreases-loop-i l = l.n - l.i

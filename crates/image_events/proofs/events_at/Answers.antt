@@ -1,0 +1,18 @@
+use Prim.Native.Nat.{ℕ}
+use mathlib.Core.Path.{ap₂}
+use native.Mathlib.Numerals.{add-one}
+use Rattle.image.specs.Codes.{size}
+use Rattle.image.specs.Places.{bad_at, value_at, rows_at}
+use Rattle.image.proofs.Lists.{or_else_none}
+use Rattle.image_events.specs.Events.{event_code}
+use Rattle.image_events.proofs.Rows.{moved_stored}
+use borrow.Author.Rules.{rules}
+use Rattle.image_events.proofs.events_at.Goals as goal
+
+pub returns : goal.returns
+unfolding bad_at value_at size
+returns c =
+    let s = c in
+    let k = c.table_count-n.ensures in
+    let n = k.1 (or_else_none _ _ s.requires.2).0 in
+    moved_stored (ap₂ (λ (n i : ℕ). rows_at 6 (value_at event_code) n s.args.words.now i) n (add-one s.args.at)) c.rows_at.ensures

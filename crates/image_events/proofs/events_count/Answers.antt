@@ -1,0 +1,16 @@
+use Rattle.image.specs.Places.{bad_at, span}
+use Rattle.image.specs.Codes.{size}
+use Rattle.image.proofs.Lists.{or_else_none}
+use native.Mathlib.Omega.{arith}
+use borrow.Author.Rules.{rules}
+use Rattle.image_events.proofs.events_count.Goals as goal
+
+pub returns : goal.returns
+unfolding bad_at span size
+returns c = (
+  c.table_count.ensures.0,
+  λ e.
+      let h = (or_else_none _ _ e).0 in
+      let n = c.table_count.ensures.1 h in
+      omega (arith, n),
+)

@@ -1,0 +1,7 @@
+use Rattle.image.specs.Places.{bad_at, span}
+use borrow.Author.Rules.{rules}
+use Rattle.image_events.proofs.pos_bad.Goals as goal
+
+pub returns : goal.returns
+unfolding bad_at span
+returns c = rw (c.first.ensures, c.single_bad-2.ensures, c.single_bad.ensures)

@@ -1,0 +1,15 @@
+use borrow.Author.Tests.{ne_eqb}
+use Rattle.image_gesture.specs.Gesture.{pinch_of}
+use Rattle.image_gesture.proofs.pinch_of.Goals as goal
+
+pub returns-in-0 : goal.returns-in-0
+unfolding pinch_of
+returns-in-0 c = rw c.in-0.is
+
+pub returns-in-1 : goal.returns-in-1
+unfolding pinch_of
+returns-in-1 c = rw c.in-1.is
+
+pub returns-in_default : goal.returns-in_default
+unfolding pinch_of
+returns-in_default c = rw (ne_eqb _ _ c.in_default.rest.0.1, ne_eqb _ _ c.in_default.rest.1)

@@ -1,0 +1,51 @@
+use Rattle.image_keys.proofs.Rows.{byte_of, read_more}
+use Rattle.image_keys.specs.Keys.{press_code}
+use Rattle.data.specs.Limits.{key_count}
+use Rattle.image.specs.Places.{value_at, rows_at}
+use lib.Seq.{take_all}
+use lib.ListN.{length, take, length-set}
+use mathlib.Core.Path.{◌≡◌, refl, sym, ap, ◌∙◌}
+use mathlib.Core.List.{List}
+use native.Mathlib.Omega.{arith}
+use borrow.Author.Rules.{rules}
+use Prim.Native.Nat.{ℕ, ◌≤◌, ◌<◌, ◌-◌, ◌%◌}
+use Rattle.image_keys.proofs.presses.presses_at.Goals as goal
+
+pub loop-i-init : goal.loop-i-init
+unfolding rows_at
+loop-i-init c = (omega arith, refl, refl)
+
+pub overflow_add-at : goal.overflow_add-at
+overflow_add-at c = omega arith
+
+pub bounds-presses-i : goal.bounds-presses-i
+bounds-presses-i c = omega arith
+
+pub overflow_add-i : goal.overflow_add-i
+overflow_add-i c = omega arith
+
+pub loop-i-smaller : goal.loop-i-smaller
+loop-i-smaller c = omega arith
+
+pub loop-i-preserved : goal.loop-i-preserved
+loop-i-preserved c =
+    let l = c.loop-i in
+    let h = c.loop-i-test.true in
+    let s = c in
+    let a = s.args in
+    let ws = a.words.now in
+    let i = l.i in
+    let small : i < key_count = omega (arith, s.requires.0, l.invariant.1) in
+    let w = c.byte.ensures ∙ ap (λ (z : ℕ). z % 256) c.word_at.ensures ∙ byte_of ws key_count a.at s.requires.2 i small in
+    (simp length-set (omega arith), simp length-set l.invariant.1, read_more l.presses ws a.at i c.byte.result h w l.invariant.2)
+
+pub shape_of-presses : goal.shape_of-presses
+shape_of-presses c = c.loop-i.invariant.1
+
+pub returns : goal.returns
+returns c =
+    let s = c in
+    let a = s.args in
+    let l = c.loop-i in
+    let e : l.i ≡ key_count = omega (arith, s.requires.0, l.invariant.0, l.invariant.1, c.loop-i-test.false) in
+    sym (take_all _ _ c.loop-i-test.false) ∙ l.invariant.2 ∙ ap (λ (k : ℕ). rows_at 1 (value_at press_code) k a.words.now a.at) e

@@ -1,0 +1,18 @@
+use Rattle.image_keys.proofs.Rows.{byte_of, read_more}
+use Rattle.image_keys.specs.Keys.{press_code}
+use Rattle.data.specs.Limits.{key_count}
+use Rattle.image.specs.Places.{value_at, rows_at}
+use lib.Seq.{take_all}
+use lib.ListN.{length, take, length-set}
+use mathlib.Core.Path.{◌≡◌, refl, sym, ap, ◌∙◌}
+use mathlib.Core.List.{List}
+use native.Mathlib.Omega.{arith}
+use borrow.Author.Rules.{rules}
+use Prim.Native.Nat.{ℕ, ◌≤◌, ◌<◌, ◌-◌, ◌%◌}
+use Rattle.image_keys.proofs.presses.presses_at.Given as goal
+
+abbrev pub invariant-loop-i : goal.invariant-loop-i
+invariant-loop-i l = (l.i ≤ length l.presses) × (length l.presses ≡ length l.initial.presses) × (take l.i l.presses ≡ rows_at 1 (value_at press_code) l.i l.words l.at)
+
+abbrev pub decreases-loop-i : goal.decreases-loop-i
+decreases-loop-i l = length l.initial.presses - l.i

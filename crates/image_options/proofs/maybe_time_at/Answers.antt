@@ -1,0 +1,16 @@
+use Rattle.image_options.specs.Options.{maybe_time_of}
+use Rattle.image.specs.Places.{value_at, span}
+use borrow.Author.Tests.{eq-eqb, ne_eqb}
+use native.Mathlib.Omega.{arith}
+use mathlib.Core.Path.{◌≡◌, sym, ◌∙◌}
+use Prim.Native.Nat.{suc, ◌+◌}
+use borrow.Author.Rules.{rules}
+use Rattle.image_options.proofs.maybe_time_at.Goals as goal
+
+pub returns-then-word_at-eq0 : goal.returns-then-word_at-eq0
+unfolding value_at span maybe_time_of
+returns-then-word_at-eq0 c = rw (eq-eqb _ 0 (sym c.word_at.ensures ∙ c.if-word_at-eq0.true))
+
+pub returns : goal.returns
+unfolding value_at span maybe_time_of
+returns c = let a = c.args.at in let f : a + 1 ≡ suc a = omega arith in rw (ne_eqb _ 0 (λ e. c.if-word_at-eq0.false (c.word_at.ensures ∙ e)), c.double_at.ensures, f)

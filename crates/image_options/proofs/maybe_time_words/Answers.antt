@@ -1,0 +1,12 @@
+use Rattle.image_options.specs.Options.{maybe_time_el}
+use Rattle.image.specs.Codes.{write, option_words, zeros, size}
+use borrow.Author.Rules.{rules}
+use Rattle.image_options.proofs.maybe_time_words.Goals as goal
+
+pub returns-in-None : goal.returns-in-None
+unfolding write option_words zeros size maybe_time_el
+returns-in-None c = let g = c.in-None.is in (rw g, rw g tt)
+
+pub returns-in-Some : goal.returns-in-Some
+unfolding write option_words zeros size maybe_time_el
+returns-in-Some c = let g = c.in-Some.is in (rw (g, c.low.ensures, c.high.ensures, c.double_word-b.ensures.0), rw g (c.double_word-b.ensures.1, tt))

@@ -1,0 +1,7 @@
+use Rattle.image.specs.Places.{value_at, span}
+use borrow.Author.Rules.{rules}
+use Rattle.image_options.proofs.pos_at.Goals as goal
+
+pub returns : goal.returns
+unfolding value_at span
+returns c = rw (c.single_at-2.ensures, c.single_at.ensures)

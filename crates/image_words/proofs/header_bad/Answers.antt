@@ -1,0 +1,6 @@
+use lib.Dec.{eqb}
+use borrow.Author.Rules.{rules}
+use Rattle.image_words.proofs.header_bad.Goals as goal
+
+pub returns : goal.returns
+returns c = c.one.ensures (eqb _) (rw c.word_at.ensures)

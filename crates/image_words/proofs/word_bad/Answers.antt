@@ -1,0 +1,6 @@
+use Rattle.image_words.specs.Leaves.{upto}
+use borrow.Author.Rules.{rules}
+use Rattle.image_words.proofs.word_bad.Goals as goal
+
+pub returns : goal.returns
+returns c = c.one.ensures (upto _) (rw c.word_at.ensures)

@@ -1,0 +1,7 @@
+use Rattle.model.specs.Pass.{screen_pass}
+use borrow.Author.Rules.{rules}
+use Rattle.input_state.proofs.screen.screen_pass.Goals as goal
+
+pub returns : goal.returns
+unfolding screen_pass
+returns c ws = rw c.rect_or-viewport_rect.ensures

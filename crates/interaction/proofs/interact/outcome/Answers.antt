@@ -1,0 +1,8 @@
+use mathlib.Core.Path.{refl}
+use Rattle.interaction.proofs.Taken.{answers}
+use borrow.Author.Rules.{rules}
+use Rattle.interaction.proofs.interact.outcome.Goals as goal
+
+pub returns : goal.returns
+returns c ps x l hc =
+    answers _ _ x _ _ _ (c.walked-g.ensures ps x l) (c.interaction_after-after.ensures x l.edges l.widgets hc l.click_hit) refl refl c.if_changed-drag_started.ensures c.if_changed-drag_stopped.ensures

@@ -1,0 +1,28 @@
+use Prim.Native.Nat.{◌≤◌, ◌-◌, min}
+use mathlib.Core.Path.{◌≡◌, refl, sym, ◌∙◌}
+use mathlib.Core.List.{List}
+use native.Mathlib.Omega.{arith}
+use lib.Ieee.{Float}
+use Rattle.data.specs.Limits.{max_events}
+use Rattle.model.specs.Interact.{InteractInput, pointer_event, pointer_events}
+use Rattle.pointer_events.specs.Events.{event_of, entry_at, events_from, events}
+use Rattle.interaction_events.specs.View.{going_of, Looks}
+use Rattle.interaction_events.proofs.Walk.{one_event, no_event}
+use borrow.Author.Rules.{rules}
+use Rattle.interaction_events.proofs.pointer_events.Goals as goal
+
+pub loop-i-init : goal.loop-i-init
+unfolding events
+loop-i-init c = (omega arith, omega (arith, c.counted-n.ensures), λ ps x l. let z : c.counted-n.result - 0 ≡ min c.args.count max_events = omega (arith, c.counted-n.ensures) in rw z)
+
+pub loop-i-preserved : goal.loop-i-preserved
+unfolding entry_at
+loop-i-preserved c =
+    let v = c.loop-i.invariant in (
+      omega arith,
+      v.1,
+      λ ps x l. rw (c.pointer_event-h.ensures x l (entry_at c.args.codes.now ps c.loop-i.i) refl) (sym (one_event _ ps x _ _ _ c.loop-i-test.true _) ∙ v.2 ps x l),
+    )
+
+pub returns : goal.returns
+returns c ps x l = sym (no_event _ ps x _ _ _ c.loop-i-test.false _) ∙ c.loop-i.invariant.2 ps x l

@@ -1,0 +1,72 @@
+use Prim.Native.Nat.{ℕ, ◌-◌, ◌≤◌}
+use mathlib.Core.Path.{◌≡◌, refl, sym, ap, ◌∙◌}
+use borrow.Author.Rules.{rules}
+use native.Mathlib.Numerals.{add-one}
+use native.Mathlib.Omega.{arith}
+use lib.ListN.{length}
+use Rattle.kernel_report.proofs.Written.{length_put}
+use Rattle.kernel_read.specs.Read.{all_records, kernel_of, words_of, feed_of, KernelOutcome}
+use Rattle.kernel_read.proofs.Run.{Fillings, fill_first, going, fill_next, fill_last, filled_feed}
+use Rattle.kernel_read.proofs.fill.Goals as goal
+
+pub loop-i-init : goal.loop-i-init
+loop-i-init c = (omega arith, refl, fill_first _ _ _ _ _)
+
+pub overflow_mul-i : goal.overflow_mul-i
+overflow_mul-i c = omega (arith, c.loop-i-test.true)
+
+pub record_at-r-requires : goal.record_at-r-requires
+record_at-r-requires c = omega (arith, c.loop-i-test.true)
+
+pub write_record-at-requires : goal.write_record-at-requires
+unfolding all_records
+write_record-at-requires c =
+    let turn = c in
+    let now = turn.loop-i in
+    let begin = turn in
+    let go = going _ _ now.i now.at begin.args.bytes.now begin.args.feed.now now.feed begin.args.k now.kernel c.record_at-r.result turn.loop-i-test.true c.record_at-r.ensures begin.requires now.invariant.2 in
+    omega (arith, go.room, now.invariant.1)
+
+pub overflow_add-i : goal.overflow_add-i
+overflow_add-i c = omega arith
+
+pub loop-i-smaller : goal.loop-i-smaller
+loop-i-smaller c = omega arith
+
+pub loop-i-preserved : goal.loop-i-preserved
+unfolding all_records
+loop-i-preserved c =
+    let wrote = c in
+    let read = wrote in
+    let turn = read in
+    let now = turn.loop-i in
+    let begin = turn in (
+      omega (arith, turn.loop-i-test.true),
+      ap length wrote.write_record-at.ensures.1 ∙ length_put _ _ now.feed ∙ now.invariant.1,
+      rw (add-one now.i, c.after-kernel.ensures)
+          (fill_next begin.args.device _ now.i now.at begin.args.bytes.now begin.args.feed.now now.feed begin.args.k now.kernel read.record_at-r.result _ _
+          turn.loop-i-test.true
+          read.record_at-r.ensures
+          begin.requires
+          wrote.write_record-at.ensures.0
+          wrote.write_record-at.ensures.1
+          now.invariant.2),
+    )
+
+pub shape_of-feed : goal.shape_of-feed
+shape_of-feed c = c.loop-i.invariant.1
+
+pub returns : goal.returns
+unfolding all_records kernel_of words_of feed_of
+returns c =
+    let now = c.loop-i in
+    let begin = c in
+    let s = now.invariant.2 in
+    let is = fill_last begin.args.device _ now.i now.at begin.args.bytes.now begin.args.feed.now now.feed begin.args.k now.kernel c.loop-i-test.false s in
+    record {
+      kernel = sym (ap (kernel_of begin.args.k) is);
+      words = s.at_is ∙ sym (ap (λ (o : KernelOutcome). length (words_of o)) is);
+      feed_is =
+          filled_feed begin.args.device _ now.i now.at begin.args.bytes.now begin.args.feed.now now.feed begin.args.k now.kernel s
+          ∙ sym (ap (feed_of begin.args.feed.now) is);
+    }

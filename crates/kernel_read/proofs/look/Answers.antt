@@ -1,0 +1,76 @@
+use Prim.Native.Nat.{ℕ, ◌-◌, ◌≤◌}
+use mathlib.Core.Path.{◌≡◌, refl, sym, ap, ◌∙◌}
+use mathlib.Core.Bool.{◌||◌}
+use borrow.Author.Rules.{rules}
+use native.Mathlib.Numerals.{add-one}
+use native.Mathlib.Omega.{arith}
+use lib.ListN.{length}
+use Rattle.kernel_record.specs.Records.{records, held_dropped}
+use Rattle.kernel_read.specs.Read.{all_records}
+use Rattle.kernel_read.specs.Steps.{looked}
+use Rattle.kernel_read.specs.declared.Looked.TheVariants.{Fits}
+use Rattle.kernel_read.proofs.Run.{rest, rest_first, Looks, look_first, look_next, look_refused, look_last, held_next, held_last, has_room}
+use Rattle.kernel_read.proofs.look.Goals as goal
+
+pub loop-i-init : goal.loop-i-init
+loop-i-init c = (omega arith, ap held_dropped (rest_first _ _), λ device. look_first device _ _ _ _)
+
+pub overflow_mul-i : goal.overflow_mul-i
+overflow_mul-i c = omega (arith, c.loop-i-test.true)
+
+pub record_at-r-requires : goal.record_at-r-requires
+record_at-r-requires c = omega (arith, c.loop-i-test.true)
+
+pub returns-in-Some : goal.returns-in-Some
+unfolding looked all_records
+returns-in-Some c =
+    let judged = c in
+    let read = judged in
+    let turn = read in
+    let now = turn.loop-i in
+    let bytes = turn.args.bytes.now in
+    (λ device.
+    sym (ap (looked (held_dropped (all_records bytes)))
+    (look_refused device _ _ now.i now.left _ bytes _ now.kernel read.record_at-r.result _ turn.loop-i-test.true read.record_at-r.ensures
+    (judged.record_words-words.ensures device)
+    (sym judged.verdict-q.ensures ∙ c.in-Some.is)
+    (now.invariant.2 device))))
+
+pub overflow_sub-left : goal.overflow_sub-left
+overflow_sub-left c =
+    let judged = c in
+    let read = judged in
+    let now = read.loop-i in
+    has_room 0 _ now.left read.record_at-r.result now.kernel (judged.record_words-words.ensures 0) (sym judged.verdict-q.ensures ∙ c.in_default.is)
+
+pub overflow_add-i : goal.overflow_add-i
+overflow_add-i c = omega arith
+
+pub loop-i-smaller : goal.loop-i-smaller
+loop-i-smaller c = omega arith
+
+pub loop-i-preserved : goal.loop-i-preserved
+loop-i-preserved c =
+    let judged = c in
+    let read = judged in
+    let turn = read in
+    let now = turn.loop-i in
+    let bytes = turn.args.bytes.now in (
+      omega (arith, turn.loop-i-test.true),
+      rw (add-one now.i) (held_next _ now.i bytes read.record_at-r.result now.dropped _ turn.loop-i-test.true read.record_at-r.ensures c.is_dropped-dropped.ensures ∙ now.invariant.1),
+      λ device.
+          rw (add-one now.i, c.after-kernel.ensures)
+          (look_next device _ _ now.i now.left _ bytes _ now.kernel read.record_at-r.result turn.loop-i-test.true read.record_at-r.ensures
+          (judged.record_words-words.ensures device)
+          (sym judged.verdict-q.ensures ∙ c.in_default.is)
+          (now.invariant.2 device)),
+    )
+
+pub returns : goal.returns
+unfolding looked all_records
+returns c =
+    let now = c.loop-i in
+    let bytes = c.args.bytes.now in
+    let held : now.dropped ≡ held_dropped (all_records bytes) = sym (held_last _ now.i bytes now.dropped c.loop-i-test.false) ∙ now.invariant.1 in
+    (λ device.
+    ap Fits held ∙ sym (ap (looked (held_dropped (all_records bytes))) (look_last device _ _ now.i now.left bytes _ now.kernel c.loop-i-test.false (now.invariant.2 device))))

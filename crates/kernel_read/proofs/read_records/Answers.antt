@@ -1,0 +1,27 @@
+use Rattle.kernel_read.proofs.Calls.{wrong_length, refused_record, will_fit, taken_reads}
+use borrow.Author.Rules.{rules}
+use Rattle.kernel_read.proofs.read_records.Goals as goal
+
+pub returns-then-bytes-ne0 : goal.returns-then-bytes-ne0
+returns-then-bytes-ne0 c =
+    let begin = c.args in
+    wrong_length begin.k begin.device begin.bytes.now begin.feed.now c.if-bytes-ne0.true
+
+pub fill-f-requires : goal.fill-f-requires
+fill-f-requires c =
+    let judged = c in
+    let begin = judged.args in
+    will_fit begin.k begin.device begin.bytes.now begin.feed.now _ _ (judged.look.ensures begin.device) c.in-Fits.is
+
+pub returns-in-Refused : goal.returns-in-Refused
+returns-in-Refused c =
+    let judged = c in
+    let begin = judged.args in
+    refused_record begin.k begin.device begin.bytes.now begin.feed.now _ _ judged.if-bytes-ne0.false (judged.look.ensures begin.device) c.in-Refused.is
+
+pub returns-in-Fits : goal.returns-in-Fits
+returns-in-Fits c =
+    let filled = c in
+    let judged = filled in
+    let begin = judged.args in
+    taken_reads begin.k begin.device begin.bytes.now begin.feed.now _ _ filled.fill-f.result _ judged.if-bytes-ne0.false (judged.look.ensures begin.device) filled.in-Fits.is filled.fill-f.ensures

@@ -1,0 +1,25 @@
+use Prim.Native.Nat.{ℕ}
+use mathlib.Core.Path.{◌≡◌, ap, ◌∙◌}
+use mathlib.Core.List.{List}
+use lib.ListN.{length, length-map, take}
+use lib.IntN.{ℤ}
+use mir.Facts.{to_z-of_z}
+use Rattle.feed.specs.Encode.{encode}
+use Rattle.feed_encode.specs.Words.{words_of}
+use Rattle.kernel_report.proofs.Written.{seven, touch_length}
+use Rattle.kernel_report.specs.Put.{put}
+use Rattle.kernel_report.specs.Report.{touch}
+use borrow.Author.Rules.{rules}
+use Rattle.kernel_report.proofs.touch.write_touch.Goals as goal
+
+pub returns : goal.returns
+unfolding words_of
+returns c =
+    let wrote = c in
+    let encoded = wrote in
+    let start = encoded in
+    let w = encoded.encode-w.result in
+    let l : length w.words ≡ 8 = simp length-map at encoded.encode-w.type_inv.1.1.0.1.0.1 in
+    let is : take w.count w.words ≡ encode (touch start.args.device start.args.phase start.args.id start.args.f) =
+    encoded.encode-w.ensures ∙ ap encode (encoded.touch.ensures ∙ ap (λ (id : ℤ). touch start.args.device start.args.phase id start.args.f) (to_z-of_z start.ranges.id)) in
+    (wrote.write_words.ensures.0, wrote.write_words.ensures.1 ∙ ap (λ (ws : List ℕ). put start.args.at ws start.args.feed.now) (seven w.count w.words _ l (touch_length _ _ _ _) is))

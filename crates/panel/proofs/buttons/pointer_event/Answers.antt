@@ -1,0 +1,10 @@
+use Rattle.panel.proofs.Numbered.{same_event}
+use Rattle.panel.proofs.Listed.{listed}
+use borrow.Author.Rules.{rules}
+use Rattle.panel.proofs.buttons.pointer_event.Goals as goal
+
+pub returns : goal.returns
+returns c = (
+  (λ p e l h. rw (← listed p l h, e) c.pointer_event.ensures),
+  (λ p e l h x k y j. same_event (rw (← listed p l h, e) c.pointer_event.ensures) k j),
+)

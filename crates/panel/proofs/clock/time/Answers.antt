@@ -1,0 +1,6 @@
+use Rattle.model.specs.Questions.{ask, reply, shown}
+use Rattle.panel.proofs.clock.time.Goals as goal
+
+pub returns : goal.returns
+unfolding ask reply shown
+returns c p e = rw e

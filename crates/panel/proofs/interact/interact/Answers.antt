@@ -1,0 +1,15 @@
+use Rattle.model.specs.Interact.{interact}
+use Rattle.panel.proofs.Seen.{sees_events}
+use Rattle.panel.proofs.Lookup.{looked_up}
+use borrow.Author.Rules.{rules}
+use Rattle.panel.proofs.interact.interact.Goals as goal
+
+pub returns : goal.returns
+unfolding interact
+returns c =
+    let interacted = c in
+    let viewed = interacted in
+    record {
+      own = λ p h n t edges. rw (sees_events p _ _ h.press_is (viewed.seen-view.ensures p h)) (interacted.interact.ensures h.places edges p n t);
+      model = λ p h n t edges wf. rw (looked_up _ _ _ _ wf, sees_events p _ _ h.press_is (viewed.seen-view.ensures p h)) (interacted.interact.ensures h.places edges p n t);
+    }

@@ -1,0 +1,7 @@
+use Rattle.model.specs.Questions.{ask, reply, shown}
+use borrow.Author.Rules.{rules}
+use Rattle.panel.proofs.pointer.latest_pos.Goals as goal
+
+pub returns : goal.returns
+unfolding ask reply shown
+returns c ts ps p e = c.latest_pos.ensures ts ps (shown p) e

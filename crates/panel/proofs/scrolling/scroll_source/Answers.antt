@@ -1,0 +1,8 @@
+use Rattle.panel.proofs.Numbered.{same_source}
+use Rattle.model.specs.Questions.{ask, reply, shown}
+use borrow.Author.Rules.{rules}
+use Rattle.panel.proofs.scrolling.scroll_source.Goals as goal
+
+pub returns : goal.returns
+unfolding ask reply shown
+returns c = ((λ p e. c.scroll_source.ensures p e), (λ p e x h s k. same_source (c.scroll_source.ensures p e) h k))

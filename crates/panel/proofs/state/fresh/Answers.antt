@@ -1,0 +1,15 @@
+use mathlib.Core.Path.{refl}
+use Rattle.model.specs.Pass.{fresh, no_interaction}
+use Rattle.key_state.proofs.Steps.{cleared}
+use Rattle.id_set.specs.Ids.{option_of}
+use Rattle.interaction_state.specs.View.{interaction_of}
+use borrow.Author.Rules.{rules}
+use Rattle.panel.proofs.state.fresh.Goals as goal
+
+pub returns : goal.returns
+unfolding fresh no_interaction option_of interaction_of
+returns c =
+    record {
+      no_press = refl;
+      shows_fresh = λ l e. rw c.none-devices.ensures (c.fresh-input.ensures l (λ key. rw e (cleared key)));
+    }

@@ -1,0 +1,7 @@
+use Rattle.model.specs.Questions.{ask, reply, shown}
+use borrow.Author.Rules.{rules}
+use Rattle.panel.proofs.touching.any_touches_of.Goals as goal
+
+pub returns : goal.returns
+unfolding ask reply shown
+returns c p e = rw (e, c.any_touches_of.ensures)

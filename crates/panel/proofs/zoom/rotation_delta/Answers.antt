@@ -1,0 +1,11 @@
+use Rattle.panel.proofs.Numbered.{same_rotation}
+use Rattle.model.specs.Questions.{ask, reply, shown}
+use borrow.Author.Rules.{rules}
+use Rattle.panel.proofs.zoom.rotation_delta.Goals as goal
+
+pub returns : goal.returns
+unfolding ask reply shown
+returns c = (
+  (λ p d s. c.rotation_delta.ensures p d (rw s)),
+  (λ p d s x h. same_rotation (c.rotation_delta.ensures p d (rw s)) h),
+)

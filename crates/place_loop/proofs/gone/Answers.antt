@@ -1,0 +1,30 @@
+use Prim.Native.Nat.{◌+◌, ◌-◌, ◌≤◌}
+use mathlib.Core.Path.{◌≡◌, sym, ◌∙◌}
+use mathlib.Core.Bool.{false}
+use native.Mathlib.Omega.{arith}
+use borrow.Author.Rules.{rules}
+use Rattle.model.specs.Pointer.{clear_history_after}
+use Rattle.event_loop.specs.Lists.{listed_events, pointer_list}
+use Rattle.place_loop.proofs.Loops.{gone_loop}
+use Rattle.place_loop.proofs.gone.Goals as goal
+
+pub loop-i-init : goal.loop-i-init
+loop-i-init c = (omega arith, gone_loop.begins _ _ _)
+
+pub returns-then-gone_at : goal.returns-then-gone_at
+returns-then-gone_at c =
+    let l = c.loop-i in
+    let here = sym c.Gone-at.ensures ∙ c.if-gone_at.true in
+    sym (gone_loop.stays _ _ _ (l.i + 1) _ (omega arith) (gone_loop.goes_on _ _ _ _ ∙ rw l.invariant.1 (rw c.listed-at.ensures at here)))
+
+pub loop-i-preserved : goal.loop-i-preserved
+loop-i-preserved c =
+    let l = c.loop-i in
+    let here = sym c.Gone-at.ensures ∙ c.if-gone_at.false in
+    (omega arith, gone_loop.goes_on _ _ _ _ ∙ rw l.invariant.1 (rw c.listed-at.ensures at here))
+
+pub returns : goal.returns
+returns c =
+    let l = c.loop-i in
+    let e : l.i ≡ c.args.count = omega arith in
+    sym (rw e at l.invariant.1)

@@ -1,0 +1,36 @@
+use mathlib.Core.Path.{◌≡◌, sym, ◌∙◌}
+use mathlib.Core.Bool.{true, false, or-true}
+use mathlib.Core.List.{List}
+use lib.Ieee.{Float}
+use Rattle.emath.specs.Vec.{vec_zero, vec_ne}
+use Rattle.model.specs.Types.{Vec2, MaybeF64, some_time, PointerEvent}
+use Rattle.model.specs.Pointer.{any, is_move, move_time}
+use Rattle.pointer_events.specs.Events.{asks}
+use borrow.Author.Rules.{rules}
+use Rattle.pointer_clicks.proofs.last_move_time.Goals as goal
+
+module _ (time : Float) (es : List PointerEvent) (v : Vec2) (old : MaybeF64) where
+  by_velocity : vec_ne v vec_zero ≡ true → some_time time ≡ move_time time es v old
+  unfolding move_time
+  by_velocity e = rw (e, or-true)
+
+  by_move : any is_move es ≡ true → some_time time ≡ move_time time es v old
+  unfolding move_time
+  by_move e = rw e
+
+  by_neither : any is_move es ≡ false → vec_ne v vec_zero ≡ false → old ≡ move_time time es v old
+  unfolding move_time
+  by_neither e f = rw (e, f)
+
+pub returns-then-ne : goal.returns-then-ne
+returns-then-ne c ps = by_velocity _ _ _ _ (sym (rw c.zero-zero.ensures at c.ne.ensures) ∙ c.if-ne.true)
+
+pub returns-then-any : goal.returns-then-any
+unfolding asks
+returns-then-any c ps = by_move _ _ _ _ (sym (c.any.ensures ps) ∙ c.if-any.true)
+
+pub returns : goal.returns
+unfolding asks
+returns c ps =
+    by_neither _ _ _ _ (sym (c.any.ensures ps) ∙ c.if-any.false)
+    (sym (rw c.zero-zero.ensures at c.ne.ensures) ∙ c.if-ne.false)

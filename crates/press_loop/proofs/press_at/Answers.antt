@@ -1,0 +1,35 @@
+use mathlib.Core.Path.{sym, ◌∙◌}
+use native.Mathlib.Omega.{arith}
+use borrow.Author.Rules.{rules}
+use Rattle.data.specs.Kinds.{moved_kind, button_kind}
+use Rattle.model.specs.Types.{Other}
+use Rattle.event_loop.proofs.OfKind.{not_of_kind, is_other}
+use Rattle.press_loop.proofs.Loops.{press_stays}
+use Rattle.press_loop.proofs.press_at.Goals as goal
+
+pub returns-in_default : goal.returns-in_default
+returns-in_default c =
+    let k = sym c.kind_at-kind.ensures ∙ c.if-kind-eq-MOVED_KIND.true in
+    rw (is_other _ _ 2 _ k c.moved_at-e.ensures c.in_default.keys2 tt) (press_stays _ _ Other _ _ _ (λ e. omega arith) (λ e. omega arith))
+
+pub returns-then-kind-eq-MOVED_KIND : goal.returns-then-kind-eq-MOVED_KIND
+returns-then-kind-eq-MOVED_KIND c =
+    let e = c in
+    rw (← e.moved_at-e.ensures, e.in-PointerMoved.is) (c.moved.ensures _)
+
+pub returns-in_default-e : goal.returns-in_default-e
+returns-in_default-e c =
+    let k = sym c.kind_at-kind.ensures ∙ c.if-kind-eq-BUTTON_KIND.true in
+    rw (is_other _ _ 4 _ k c.button_at-e.ensures c.in_default-e.keys2 tt) (press_stays _ _ Other _ _ _ (λ e. omega arith) (λ e. omega arith))
+
+pub returns-then-kind-eq-BUTTON_KIND : goal.returns-then-kind-eq-BUTTON_KIND
+returns-then-kind-eq-BUTTON_KIND c =
+    let e = c in
+    rw (← e.button_at-e.ensures, e.in-PointerButton.is) c.button_event.ensures
+
+pub returns : goal.returns
+returns c =
+    let k = c.kind_at-kind.ensures in
+    press_stays _ _ _ _ _ _
+    (not_of_kind _ _ moved_kind (λ e. c.if-kind-eq-MOVED_KIND.false (k ∙ e)) (λ e. omega arith))
+    (not_of_kind _ _ button_kind (λ e. c.if-kind-eq-BUTTON_KIND.false (k ∙ e)) (λ e. omega arith))

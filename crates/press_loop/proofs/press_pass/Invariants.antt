@@ -1,0 +1,16 @@
+use Prim.Native.Nat.{◌-◌, ◌≤◌}
+use mathlib.Core.Path.{◌≡◌, ap}
+use native.Mathlib.Omega.{arith}
+use borrow.Author.Rules.{rules}
+use Rattle.model.specs.Pointer.{Held, clear_events}
+use Rattle.pointer_clicks.specs.View.{past}
+use Rattle.event_loop.specs.Lists.{listed_events, pointer_list}
+use Rattle.press_loop.proofs.Loops.{press_loop, Walked, walk_begins, walked_on, walk_ends}
+use Rattle.press_loop.proofs.press_pass.Given as goal
+
+abbrev pub invariant-loop-i : goal.invariant-loop-i
+invariant-loop-i l =
+    (l.i ≤ l.count) × Walked l.options l.time (listed_events l.feed l.lists pointer_list l.i) l.i l.initial.codes l.initial.positions l.initial.t l.codes l.positions l.t
+
+abbrev pub decreases-loop-i : goal.decreases-loop-i
+decreases-loop-i l = l.count - l.i

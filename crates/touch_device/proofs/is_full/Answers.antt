@@ -1,0 +1,27 @@
+use mathlib.Core.Path.{◌≡◌}
+use mathlib.Core.Bool.{and-true, and-false}
+use Prim.Native.Nat.{◌≤◌, ◌<◌}
+use native.Mathlib.Omega.{arith}
+use borrow.Author.Rules.{rules}
+use borrow.Author.Tests.{le-leb, lt-leb}
+use lib.ListN.{length, length-map, length-take}
+use Rattle.data.specs.Limits.{max_touches}
+use Rattle.model.specs.Touch.{no_place}
+use Rattle.touches.specs.Touches.{list}
+use Rattle.touch_device.proofs.is_full.Goals as goal
+
+pub returns-then-touches-lt-MAX_TOUCHES : goal.returns-then-touches-lt-MAX_TOUCHES
+unfolding no_place
+returns-then-touches-lt-MAX_TOUCHES c =
+    let ts = c.args.d.touches in
+    let room : length (list ts) < max_touches = omega (arith, length-take ts.count ts.places) in
+    rw (lt-leb max_touches (length (list ts)) room, and-false)
+
+pub returns : goal.returns
+unfolding no_place
+returns c =
+    let s = c in
+    let ts = s.args.d.touches in
+    let l : length ts.places ≡ max_touches = simp length-map at s.type_inv.0.1.1.1.0.1.1.1.0.1.0.1 in
+    let full : max_touches ≤ length (list ts) = omega (arith, length-take ts.count ts.places) in
+    rw (c.is_start.ensures, c.holds-held.ensures, le-leb max_touches (length (list ts)) full, and-true)

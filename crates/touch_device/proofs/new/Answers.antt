@@ -1,0 +1,7 @@
+use Rattle.model.specs.Touch.{new_device}
+use borrow.Author.Rules.{rules}
+use Rattle.touch_device.proofs.new.Goals as goal
+
+pub returns : goal.returns
+unfolding new_device
+returns c = rw c.none-touches.ensures

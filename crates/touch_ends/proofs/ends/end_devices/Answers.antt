@@ -1,0 +1,33 @@
+use Prim.Native.Nat.{◌-◌, ◌≤◌}
+use mathlib.Core.Path.{◌≡◌, ◌∙◌, refl}
+use native.Mathlib.Omega.{arith}
+use borrow.Author.Rules.{rules}
+use lib.ListN.{length, take, length-take, length-map, length-set}
+use Rattle.event_loop.specs.Lists.{touch_list, listed_events}
+use Rattle.touches.proofs.Places.{first_of, first_le}
+use Rattle.touch_ends.proofs.Ended.{ended, ended_start, ended_step, ended_end}
+use Rattle.touch_ends.proofs.ends.end_devices.Goals as goal
+
+pub loop-i-init : goal.loop-i-init
+loop-i-init c =
+    let o = c in
+    let ds = o.args.ds in
+    let l : length ds.places ≡ 4 = simp length-map at o.type_inv.0.1.1.1.0.1.0.1 in
+    (omega arith, rw c.len-n.ensures (first_le ds.count ds.places), l, refl, refl)
+
+pub loop-i-preserved : goal.loop-i-preserved
+loop-i-preserved c =
+    let v = c.loop-i.invariant in
+    let h = c.loop-i-test.true in
+    (omega arith, rw length-set v.1, rw length-set v.2, v.3, ended_step _ _ _ _ _ _ _ _ c.added_or_removed_touches-added_or_removed.result h v.1 c.added_or_removed_touches-added_or_removed.ensures c.end_pass.ensures ∙ v.4)
+
+pub returns : goal.returns
+returns c =
+    let o = c in
+    let ds = o.args.ds in
+    let out = c.loop-i.out in
+    let len = c.len-n in
+    let v = c.loop-i.invariant in
+    let l : length ds.places ≡ 4 = simp length-map at o.type_inv.0.1.1.1.0.1.0.1 in
+    let n : len.result ≡ length (take ds.count out.places) = omega (arith, len.ensures, length-take ds.count ds.places, length-take ds.count out.places) in
+    rw (v.3, ← first_of len.result ds.count out.places n, ← first_of len.result ds.count ds.places len.ensures) (ended_end _ _ _ _ _ _ v.0 c.loop-i-test.false v.1 ∙ (v.4 ∙ ended_start _ _ _ _ _))

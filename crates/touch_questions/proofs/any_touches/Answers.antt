@@ -1,0 +1,30 @@
+use borrow.Author.Rules.{rules}
+use mathlib.Core.Path.{◌≡◌, ◌∙◌, refl, sym, ap}
+use native.Mathlib.Omega.{arith}
+use Prim.Native.Nat.{◌+◌, ◌-◌, ◌≤◌, ◌<◌}
+use mathlib.Core.List.{map}
+use lib.ListN.{length, take, drop, length-take, length-map, length-set}
+use Rattle.model.specs.Touch.{any_touches, any_touches_at}
+use Rattle.touch_device.specs.View.{device_view}
+use Rattle.touches.proofs.Places.{first_of, first_le}
+use Rattle.touch_state.proofs.Known.{any_stops, any_skips, any_ends}
+use Rattle.touch_questions.proofs.any_touches.Goals as goal
+
+pub loop-i-init : goal.loop-i-init
+loop-i-init c =
+    let ds = c.args.ds in
+    let l : length ds.places ≡ 4 = simp length-map at c.type_inv.0.1.1.1.0.1.0.1 in
+    (omega arith, rw c.len-n.ensures (first_le ds.count ds.places), l, refl)
+
+pub returns-then-any_touches : goal.returns-then-any_touches
+unfolding any_touches_at
+returns-then-any_touches c = rw (← first_of c.len-n.result c.args.ds.count c.args.ds.places c.len-n.ensures) (any_stops _ _ _ _ c.loop-i-test.true c.loop-i.invariant.1 (sym c.any_touches.ensures ∙ c.if-any_touches.true) ∙ c.loop-i.invariant.3)
+
+pub loop-i-preserved : goal.loop-i-preserved
+unfolding any_touches_at
+loop-i-preserved c =
+    let o = c in
+    (omega arith, o.loop-i.invariant.1, o.loop-i.invariant.2, any_skips _ _ _ _ c.loop-i-test.true o.loop-i.invariant.1 (sym c.any_touches.ensures ∙ c.if-any_touches.false) ∙ o.loop-i.invariant.3)
+
+pub returns : goal.returns
+returns c = rw (← first_of c.len-n.result c.args.ds.count c.args.ds.places c.len-n.ensures) (any_ends _ _ _ c.loop-i-test.false c.loop-i.invariant.1 ∙ c.loop-i.invariant.3)

@@ -1,0 +1,17 @@
+use borrow.Author.Rules.{rules}
+use mathlib.Core.Path.{◌≡◌, ◌∙◌, refl, sym, ap}
+use native.Mathlib.Omega.{arith}
+use Prim.Native.Nat.{◌+◌, ◌-◌, ◌≤◌, ◌<◌}
+use mathlib.Core.List.{map}
+use lib.ListN.{length, take, drop, length-take, length-map, length-set}
+use Rattle.model.specs.Touch.{multi_touch, first_of as first_info}
+use Rattle.touch_device.specs.View.{device_view}
+use Rattle.touches.proofs.Places.{first_of, first_le}
+use Rattle.touch_state.proofs.Known.{multi_stops, multi_ends}
+use Rattle.touch_questions.proofs.multi_touch.Given as goal
+
+abbrev pub invariant-loop-i : goal.invariant-loop-i
+invariant-loop-i l = (l.i ≤ l.n) × (l.n ≤ length l.a) × (length l.a ≡ 4) × (multi_touch (map device_view (drop l.i (take l.n l.a))) ≡ multi_touch (map device_view (take l.n l.a)))
+
+abbrev pub decreases-loop-i : goal.decreases-loop-i
+decreases-loop-i l = l.n - l.i

@@ -1,0 +1,36 @@
+use Prim.Native.Nat.{◌+◌, ◌-◌, ◌≤◌}
+use mathlib.Core.Path.{◌≡◌, ◌∙◌, sym}
+use borrow.Author.Rules.{rules}
+use borrow.Author.Tests.{eq-eqb, ne_eqb}
+use native.Mathlib.Omega.{arith}
+use lib.ListN.{length, take, drop, length-map}
+use Rattle.touches.specs.Touches.{index}
+use Rattle.touches.proofs.Places.{index_skips, index_stops, index_ends}
+use Rattle.touch_state.proofs.Ids.{self, index_ids, enough}
+use Rattle.touch_state.proofs.devices.index_of.Goals as goal
+
+pub loop-i-init : goal.loop-i-init
+loop-i-init c =
+    let ds = c.args.ds in
+    let l : length ds.places ≡ 4 = simp length-map at c.type_inv.0.1.1.1.0.1.0.1 in
+    let e = enough _ ds.count 0 ds.places _ c.len-n.ensures c.ids-a.ensures l in
+    (omega arith, e.0, e.1, omega arith)
+
+pub returns-then-a-i : goal.returns-then-a-i
+returns-then-a-i c =
+    let o = c in
+    let ds = o.args.ds in
+    index_stops self _ _ _ _ _ c.loop-i-test.true o.loop-i.invariant.1 (eq-eqb _ _ (sym c.if-a-i.true))
+    ∙ o.loop-i.invariant.3 ∙ index_ids _ ds.count _ ds.places _ o.len-n.ensures o.ids-a.ensures
+
+pub loop-i-preserved : goal.loop-i-preserved
+loop-i-preserved c =
+    let o = c in
+    (omega arith, o.loop-i.invariant.1, o.loop-i.invariant.2, index_skips self _ _ _ _ _ c.loop-i-test.true o.loop-i.invariant.1 (ne_eqb _ _ (λ e. c.if-a-i.false (sym e))) ∙ o.loop-i.invariant.3)
+
+pub returns : goal.returns
+returns c =
+    let o = c in
+    let ds = o.args.ds in
+    index_ends self _ _ _ _ c.loop-i-test.false o.loop-i.invariant.1
+    ∙ o.loop-i.invariant.3 ∙ index_ids _ ds.count _ ds.places _ o.len-n.ensures o.ids-a.ensures

@@ -1,0 +1,16 @@
+use Prim.Native.Nat.{◌+◌, ◌-◌, ◌≤◌}
+use mathlib.Core.Path.{◌≡◌, ◌∙◌, sym}
+use borrow.Author.Rules.{rules}
+use borrow.Author.Tests.{eq-eqb, ne_eqb}
+use native.Mathlib.Omega.{arith}
+use lib.ListN.{length, take, drop, length-map}
+use Rattle.touches.specs.Touches.{index}
+use Rattle.touches.proofs.Places.{index_skips, index_stops, index_ends}
+use Rattle.touch_state.proofs.Ids.{self, index_ids, enough}
+use Rattle.touch_state.proofs.devices.index_of.Given as goal
+
+abbrev pub invariant-loop-i : goal.invariant-loop-i
+invariant-loop-i l = (l.i ≤ l.n) × (l.n ≤ length l.a) × (length l.a ≡ 4) × (l.i + index self l.id (drop l.i (take l.n l.a)) ≡ index self l.id (take l.n l.a))
+
+abbrev pub decreases-loop-i : goal.decreases-loop-i
+decreases-loop-i l = l.n - l.i

@@ -1,0 +1,13 @@
+use Prim.Native.Nat.{◌+◌, ◌-◌, ◌≤◌, ◌<◌}
+use mathlib.Core.Path.{◌≡◌, ◌∙◌, refl}
+use borrow.Author.Rules.{rules}
+use native.Mathlib.Omega.{arith}
+use lib.ListN.{length, take, drop, set, length-map, length-set}
+use Rattle.touches.proofs.Places.{first_of, held, held_start, held_step, held_end}
+use Rattle.touch_state.proofs.devices.insert_at.Given as goal
+
+abbrev pub invariant-loop-k : goal.invariant-loop-k
+invariant-loop-k l = (l.k ≤ l.n) × (l.n < 4) × (length l.a ≡ 4) × (held l.n l.a l.carry l.k ≡ held l.n l.initial.a l.initial.carry l.initial.k)
+
+abbrev pub decreases-loop-k : goal.decreases-loop-k
+decreases-loop-k l = l.n - l.k

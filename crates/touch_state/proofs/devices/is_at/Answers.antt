@@ -1,0 +1,33 @@
+use borrow.Author.Rules.{rules}
+use mathlib.Core.Path.{◌≡◌, ◌∙◌, sym}
+use native.Mathlib.Omega.{arith}
+use lib.ListN.{length, length-take, length-map}
+use Rattle.touches.proofs.Upsert.{at_place, at_no}
+use Rattle.touch_state.specs.View.{device_id}
+use Rattle.touch_state.proofs.Ids.{self, at_ids, below}
+use Rattle.touch_state.proofs.devices.is_at.Goals as goal
+
+pub offset_bounds-a-i : goal.offset_bounds-a-i
+offset_bounds-a-i c =
+    let ds = c.args.ds in
+    let l : length ds.places ≡ 4 = simp length-map at c.type_inv.0.1.1.1.0.1.0.1 in
+    omega (arith, c.if-i-len.true, c.len.ensures, length-take ds.count ds.places)
+
+pub bounds-a-i : goal.bounds-a-i
+bounds-a-i c =
+    let ds = c.args.ds in
+    let l : length ds.places ≡ 4 = simp length-map at c.type_inv.0.1.1.1.0.1.0.1 in
+    omega (arith, c.if-i-len.true, c.len.ensures, length-take ds.count ds.places)
+
+pub returns-then-i-len : goal.returns-then-i-len
+returns-then-i-len c =
+    let a = c.args in
+    let l : length a.ds.places ≡ 4 = simp length-map at c.type_inv.0.1.1.1.0.1.0.1 in
+    let n = c.len.result in
+    let count = c.len.ensures in
+    let are = c.ids-a.ensures in
+    at_place self _ _ n c.ids-a.result 0 (below n a.ds.count 0 a.ds.places _ count are l a.i c.if-i-len.true)
+    ∙ at_ids n a.ds.count _ a.ds.places _ count are a.i
+
+pub returns : goal.returns
+returns c = sym (at_no device_id _ _ _ (rw c.len.ensures at c.if-i-len.false))

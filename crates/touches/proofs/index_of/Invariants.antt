@@ -1,0 +1,17 @@
+use Prim.Native.Nat.{◌+◌, ◌-◌, ◌≤◌}
+use mathlib.Core.Path.{◌≡◌, ◌∙◌, sym}
+use borrow.Author.Rules.{rules}
+use borrow.Author.Tests.{eq-eqb, ne_eqb}
+use native.Mathlib.Omega.{arith}
+use lib.ListN.{length, take, drop, length-map}
+use Rattle.data.specs.Limits.{max_touches}
+use Rattle.model.specs.Touch.{touch_id_of}
+use Rattle.touches.specs.Touches.{index}
+use Rattle.touches.proofs.Places.{first_of, first_le, index_skips, index_stops, index_ends}
+use Rattle.touches.proofs.index_of.Given as goal
+
+abbrev pub invariant-loop-i : goal.invariant-loop-i
+invariant-loop-i l = (l.i ≤ l.n) × (l.n ≤ length l.a) × (length l.a ≡ max_touches) × (l.i + index touch_id_of l.id (drop l.i (take l.n l.a)) ≡ index touch_id_of l.id (take l.n l.a))
+
+abbrev pub decreases-loop-i : goal.decreases-loop-i
+decreases-loop-i l = l.n - l.i

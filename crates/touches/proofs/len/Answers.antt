@@ -1,0 +1,15 @@
+use mathlib.Core.Path.{◌≡◌}
+use native.Mathlib.Omega.{arith}
+use lib.ListN.{length, length-take, length-map}
+use Rattle.data.specs.Limits.{max_touches}
+use Rattle.touches.proofs.len.Goals as goal
+
+pub returns-then-n-lt-MAX_TOUCHES : goal.returns-then-n-lt-MAX_TOUCHES
+returns-then-n-lt-MAX_TOUCHES c =
+    let l : length c.args.ts.places ≡ max_touches = simp length-map at c.type_inv.0.1.1.1.0.1.0.1 in
+    omega (arith, length-take c.args.ts.count c.args.ts.places)
+
+pub returns : goal.returns
+returns c =
+    let l : length c.args.ts.places ≡ max_touches = simp length-map at c.type_inv.0.1.1.1.0.1.0.1 in
+    omega (arith, length-take c.args.ts.count c.args.ts.places)

@@ -1,0 +1,38 @@
+use borrow.Author.Rules.{rules}
+use mathlib.Core.Path.{◌≡◌, ◌∙◌, sym, ap}
+use native.Mathlib.Omega.{arith}
+use lib.ListN.{length, take, length-take, length-map}
+use Prim.Native.Nat.{◌≤◌, ◌<◌}
+use Rattle.data.specs.Limits.{max_touches}
+use Rattle.model.specs.Touch.{on_touch}
+use Rattle.touches.specs.Touches.{on_touch_if_room}
+use Rattle.touches.proofs.Upsert.{fits, length_move, length_remove}
+use Rattle.touches.proofs.on_touch.Goals as goal
+
+pub returns-in-Start : goal.returns-in-Start
+unfolding on_touch_if_room on_touch
+returns-in-Start c = rw (c.in-Start.is, c.insert.ensures)
+
+pub returns-in-Move : goal.returns-in-Move
+unfolding on_touch_if_room on_touch
+returns-in-Move c =
+    let ts = c.args.ts in
+    let l : length ts.places ≡ max_touches = simp length-map at c.type_inv.0.1.1.1.0.1.0.1 in
+    let b : length (take ts.count ts.places) ≤ max_touches = omega (arith, length-take ts.count ts.places) in
+    rw (c.in-Move.is, c.move_to.ensures) (sym (fits _ _ (rw length_move b)))
+
+pub returns-in-End : goal.returns-in-End
+unfolding on_touch_if_room on_touch
+returns-in-End c =
+    let ts = c.args.ts in
+    let l : length ts.places ≡ max_touches = simp length-map at c.type_inv.0.1.1.1.0.1.0.1 in
+    let b : length (take ts.count ts.places) ≤ max_touches = omega (arith, length-take ts.count ts.places) in
+    rw (c.in-End.is, c.remove.ensures) (sym (fits _ _ (omega (arith, length_remove c.args.t.id (take ts.count ts.places)))))
+
+pub returns-in-Cancel : goal.returns-in-Cancel
+unfolding on_touch_if_room on_touch
+returns-in-Cancel c =
+    let ts = c.args.ts in
+    let l : length ts.places ≡ max_touches = simp length-map at c.type_inv.0.1.1.1.0.1.0.1 in
+    let b : length (take ts.count ts.places) ≤ max_touches = omega (arith, length-take ts.count ts.places) in
+    rw (c.in-Cancel.is, c.remove-in-Cancel.ensures) (sym (fits _ _ (omega (arith, length_remove c.args.t.id (take ts.count ts.places)))))

@@ -1,0 +1,19 @@
+use Rattle.model.specs.Wheel.{is_trackpad}
+use borrow.Author.Rules.{rules}
+use Rattle.wheel_state.proofs.is_trackpad.Goals as goal
+
+pub returns-in-Unknown : goal.returns-in-Unknown
+unfolding is_trackpad
+returns-in-Unknown c = rw c.in-Unknown.is
+
+pub returns-in-Wheel : goal.returns-in-Wheel
+unfolding is_trackpad
+returns-in-Wheel c = rw c.in-Wheel.is
+
+pub returns-in-Trackpad : goal.returns-in-Trackpad
+unfolding is_trackpad
+returns-in-Trackpad c = rw c.in-Trackpad.is
+
+pub returns-in-Momentum : goal.returns-in-Momentum
+unfolding is_trackpad
+returns-in-Momentum c = rw c.in-Momentum.is

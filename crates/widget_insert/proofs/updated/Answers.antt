@@ -1,0 +1,7 @@
+use Rattle.model.specs.Widgets.{updated}
+use borrow.Author.Rules.{rules}
+use Rattle.widget_insert.proofs.updated.Goals as goal
+
+pub returns : goal.returns
+unfolding updated
+returns c = rw c.bitor.ensures

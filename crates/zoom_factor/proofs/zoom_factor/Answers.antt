@@ -1,0 +1,66 @@
+use mathlib.Core.Path.{◌≡◌, refl, sym, ap, ◌∙◌, subst}
+use Prim.Native.Nat.{◌^◌}
+use native.Mathlib.Omega.{arith}
+use mathlib.Core.Bool.{Bool, true, false, not, ◌&&◌}
+use lib.Dec.{T}
+use lib.Ieee.{Float, binary32, fits, le, neg, of_bits}
+use borrow.Author.Rules.{rules}
+use Rattle.zoom_factor.specs.Answer.{unit_sized}
+use Rattle.zoom_factor.proofs.Errors.{itself}
+use Rattle.zoom_factor.proofs.Exponent.{number, pattern_small, answer}
+use Rattle.zoom_factor.proofs.zoom_factor.Goals as goal
+
+-- what owning the float tells: the format holds it
+held : (c : goal.Start) → T (fits binary32 c.args.exponent)
+held c = subst T (sym c.type_inv.0.1) tt
+
+is_true : {b : Bool} → b ≡ true → T b
+is_true e = subst T (sym e) tt
+
+-- the code's -1.0
+minus_one : neg (of_bits binary32 0x3f80_0000) ≡ of_bits binary32 0xbf80_0000
+unfolding neg of_bits
+minus_one = refl
+
+above : (e : Float) (b : Bool) → le (neg (of_bits binary32 0x3f80_0000)) e ≡ b → le (of_bits binary32 0xbf80_0000) e ≡ b
+above e b h = ap (λ (x : Float). le x e) (sym minus_one) ∙ h
+
+both : (a b : Bool) → a ≡ true → b ≡ true → T (a && b)
+both a b p q = subst (λ (x : Bool). T (x && b)) (sym p) (is_true q)
+
+first : (a b : Bool) → a ≡ false → T (not (a && b))
+first a b p = subst (λ (x : Bool). T (not (x && b))) (sym p) tt
+
+second : (a b : Bool) → a ≡ true → b ≡ false → T (not (a && b))
+second a b p q = subst (λ (x : Bool). T (not (x && b))) (sym p) (subst (λ (x : Bool). T (not x)) (sym q) tt)
+
+pub float_to_bits-bits : goal.float_to_bits-bits
+float_to_bits-bits c = number c.args.exponent (is_true c.if-exponent-2.true)
+
+pub units-size-requires : goal.units-size-requires
+units-size-requires c = let s = c in pattern_small s.args.exponent (held s) (is_true (above s.args.exponent true c.if-exponent.true)) (is_true c.if-exponent-2.true)
+
+pub series-sum-requires : goal.series-sum-requires
+series-sum-requires c = c.units-size.ensures.small
+
+pub nearest-requires : goal.nearest-requires
+nearest-requires c = (c.series-sum.ensures c.units-size.result (2 ^ 30) c.units-size.ensures.small (omega arith) (itself c.units-size.result)).some
+
+pub returns-then-exponent-2 : goal.returns-then-exponent-2
+unfolding unit_sized
+returns-then-exponent-2 c =
+    let k = c in
+    let s = k in
+    let a = above s.args.exponent true k.if-exponent.true in
+    let b = k.if-exponent-2.true in (
+      both (le (of_bits binary32 0xbf80_0000) s.args.exponent) (le s.args.exponent (of_bits binary32 0x3f80_0000)) a b,
+      answer s.args.exponent (held s) (is_true a) (is_true b) c.units-size.result c.series-sum.result c.nearest.result c.units-size.ensures c.series-sum.ensures c.nearest.ensures,
+    )
+
+pub returns-else-exponent-2 : goal.returns-else-exponent-2
+unfolding unit_sized
+returns-else-exponent-2 c = let e = c.args.exponent in (second (le (of_bits binary32 0xbf80_0000) e) (le e (of_bits binary32 0x3f80_0000)) (above e true c.if-exponent.true) c.if-exponent-2.false, refl)
+
+pub returns-else-exponent : goal.returns-else-exponent
+unfolding unit_sized
+returns-else-exponent c = let e = c.args.exponent in (first (le (of_bits binary32 0xbf80_0000) e) (le e (of_bits binary32 0x3f80_0000)) (above e false c.if-exponent.false), refl)
