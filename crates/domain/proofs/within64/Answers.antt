@@ -3,4 +3,4 @@ use Rattle.domain.proofs.within64.Goals as goal
 
 pub returns : goal.returns
 unfolding within64
-returns c = rw c.type_inv.1.1.0.1
+returns c = rw c.well_formed.1.1.0.1

@@ -3,4 +3,4 @@ use Rattle.domain.proofs.zoom_ok.Goals as goal
 
 pub returns : goal.returns
 unfolding zoom_ok zero32 max_zoom
-returns c = rw c.type_inv.0.1
+returns c = rw c.well_formed.0.1

@@ -9,10 +9,11 @@ use Rattle.ieee_narrow.specs.Narrow.{narrow}
 use Rattle.ieee_narrow.specs.Patterns.{Narrowed}
 use Rattle.ieee.proofs.Decode.{no_nan, decode, at_most_infinity, pattern_no_nan, sign_is}
 use Rattle.ieee_narrow.proofs.narrow.Goals as goal
+use Rattle.ieee_narrow.proofs.narrow.Goals.{Start}
 
 -- what owning an `f64` tells: the format holds it
-held : (c : goal.Start) → T (fits binary64 c.args.x)
-held c = subst T (sym c.type_inv.0.1) tt
+held : (c : Start) → T (fits binary64 c.args.x)
+held c = subst T (sym c.well_formed.0.1) tt
 
 nan_result : (x : Float) → x ≡ nan → div binary32 (of_bits binary32 0) (of_bits binary32 0) ≡ narrow binary32 x
 unfolding div of_bits narrow
@@ -31,16 +32,16 @@ pub float_to_bits-bits : goal.float_to_bits-bits
 float_to_bits-bits c = no_nan c.args.x c.if-x.false
 
 pub narrow_pattern-rest-requires : goal.narrow_pattern-rest-requires
-narrow_pattern-rest-requires c = at_most_infinity binary64 c.args.x (held c) (no_nan c.args.x c.if-x.false)
+narrow_pattern-rest-requires c = at_most_infinity binary64 c.args.x (held (goal.at.narrow_pattern-rest-requires c).Start) (no_nan c.args.x c.if-x.false)
 
 pub overflow_mul-result : goal.overflow_mul-result
-overflow_mul-result c = omega (arith, to_bits-lt binary64 c.args.x (held c))
+overflow_mul-result c = omega (arith, to_bits-lt binary64 c.args.x (held (goal.at.overflow_mul-result c).Start))
 
 pub overflow_add-result : goal.overflow_add-result
-overflow_add-result c = omega (arith, to_bits-lt binary64 c.args.x (held c))
+overflow_add-result c = omega (arith, to_bits-lt binary64 c.args.x (held (goal.at.overflow_add-result c).Start))
 
 pub overflow_cast-result : goal.overflow_cast-result
-overflow_cast-result c = omega (arith, to_bits-lt binary64 c.args.x (held c))
+overflow_cast-result c = omega (arith, to_bits-lt binary64 c.args.x (held (goal.at.overflow_cast-result c).Start))
 
 pub float_from_bits-result : goal.float_from_bits-result
 float_from_bits-result c =
@@ -50,4 +51,4 @@ float_from_bits-result c =
     low s r h = omega arith
 
 pub returns : goal.returns
-returns c = result c.args.x c.narrow_pattern-rest.result (held c) c.narrow_pattern-rest.ensures
+returns c = result c.args.x c.narrow_pattern-rest.result (held (goal.at.returns c).Start) c.narrow_pattern-rest.ensures

@@ -12,6 +12,7 @@ use Rattle.ieee_sqrt.specs.Sqrt.{isqrt}
 use Rattle.ieee_sqrt.specs.Recurrence.{taken, Recurrence}
 use Rattle.ieee_sqrt.proofs.Isqrt.{IsRoot, isqrt_unique, turn_zero, turn_one, next_digits, root_rem}
 use Rattle.ieee_sqrt.proofs.root_digits.Goals as goal
+use Rattle.ieee_sqrt.proofs.root_digits.Goals.{After-digit-one}
 
 -- d * 4 ^ i, whose upper part is taken in and whose lower word is left
 whole : {d n left rem root i : ℕ} → Recurrence d n left rem root i → (root * root + rem) * 2 ^ 62 + left ≡ d * 4 ^ i
@@ -94,7 +95,7 @@ step d n left rem root i one f h e = go (digit_cases (rem * 4 + left / 2 ^ 60) (
         subst (λ (x : ℕ). Recurrence d n (left % 2 ^ 60 * 4) (rem * 4 + left / 2 ^ 60 - (root * 4 + 1) * x) (root * 2 + x) (i + 1)) (sym w.0) (subst (λ (x : ℕ). Recurrence d n (left % 2 ^ 60 * 4) ((rem * 4 + left / 2 ^ 60) - x) (root * 2 + 1) (i + 1)) (sym (mul-one (root * 4 + 1))) (step_one d n left rem root i f h w.1))
 
 -- the digit found, and its product with t
-found : (c : goal.After-digit-one) → ((c.loop-i.root * 4 + 1) * c.digit-one.result ≤ c.loop-i.rem * 4 + c.loop-i.left / 2 ^ 60) × (c.digit-one.result ≤ 1)
+found : (c : After-digit-one) → ((c.loop-i.root * 4 + 1) * c.digit-one.result ≤ c.loop-i.rem * 4 + c.loop-i.left / 2 ^ 60) × (c.digit-one.result ≤ 1)
 found c = let l = c.loop-i in fits_in (l.rem * 4 + l.left / 2 ^ 60) (l.root * 4 + 1) c.digit-one.result c.digit-one.ensures
 
 pub loop-i-init : goal.loop-i-init

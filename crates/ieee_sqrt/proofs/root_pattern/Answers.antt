@@ -10,6 +10,7 @@ use Rattle.ieee_sqrt.specs.Sqrt.{isqrt, rooted}
 use Rattle.ieee_sqrt.specs.Patterns.{Radicand, Rooted}
 use Rattle.ieee_sqrt.proofs.Rooting.{root_value}
 use Rattle.ieee_sqrt.proofs.root_pattern.Goals as goal
+use Rattle.ieee_sqrt.proofs.root_pattern.Goals.{After-root_digits-r}
 
 range : (f : Format) → (24 ≤ prec f) × (prec f ≤ 53) × (2 * emax f + low f ≤ 3120) × (ones f * hid f ≤ 2 ^ 63)
 range binary32 = (lit≤ tt, lit≤ tt, lit≤ tt, lit≤ tt)
@@ -88,7 +89,7 @@ fits p q j t r e =
     under a b h = omega arith
 
 -- what `root` returned, at the place after the call
-found : (c : goal.After-root_digits-r) → c.root_digits-r.result ≡ isqrt (c.args.q * 2 ^ suc (c.args.p + odd c.args.p c.args.j))
+found : (c : After-root_digits-r) → c.root_digits-r.result ≡ isqrt (c.args.q * 2 ^ suc (c.args.p + odd c.args.p c.args.j))
 found c =
     let a = c.args in
     c.root_digits-r.ensures ∙ ap isqrt (radicand a.p a.q (odd a.p a.j) c.requires.within (ranges c.requires).1 (omega arith))
@@ -96,7 +97,7 @@ found c =
 abbrev Kept : ℕ → ℕ → ℕ → Type 0
 Kept p j t = (half p j * 2 ^ (p - 1) + (t + 1) / 2 < 2 ^ 63) × (half p j * 2 ^ (p - 1) % 2 ^ 64 ≡ half p j * 2 ^ (p - 1))
 
-all-fits : (c : goal.After-root_digits-r) → Kept c.args.p c.args.j c.root_digits-r.result
+all-fits : (c : After-root_digits-r) → Kept c.args.p c.args.j c.root_digits-r.result
 all-fits c = fits c.args.p c.args.q c.args.j c.root_digits-r.result c.requires (found c)
 
 pub overflow_add-odd : goal.overflow_add-odd

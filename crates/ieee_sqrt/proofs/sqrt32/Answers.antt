@@ -5,10 +5,11 @@ use lib.Dec.{T}
 use lib.Ieee.{binary32, fits}
 use Rattle.ieee_sqrt.proofs.Special.{negative_root, own_root, above_zero_number, some_bits, infinity_root, rooted_at, rooted_no_nan}
 use Rattle.ieee_sqrt.proofs.sqrt32.Goals as goal
+use Rattle.ieee_sqrt.proofs.sqrt32.Goals.{Start}
 
 -- what owning the float tells: the format holds it
-held : (c : goal.Start) → T (fits binary32 c.args.x)
-held c = subst T (sym c.type_inv.0.1) tt
+held : (c : Start) → T (fits binary32 c.args.x)
+held c = subst T (sym c.well_formed.0.1) tt
 
 pub returns-then-x : goal.returns-then-x
 returns-then-x c = negative_root binary32 c.args.x (subst T (sym c.if-x.true) tt)

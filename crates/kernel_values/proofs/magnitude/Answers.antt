@@ -1,9 +1,10 @@
 use Rattle.std.proofs.Common.{negsuc, ◌-ℤ◌, refl, to_z-of_z, w32, SFits}
 use Rattle.kernel_values.proofs.Bits.{turned_fits, turned_size, kept_size}
 use Rattle.kernel_values.proofs.magnitude.Goals as goal
+use Rattle.kernel_values.proofs.magnitude.Goals.{Then-v-lt0}
 
 -- -1 - v
-turned : (c : goal.Then-v-lt0) → SFits w32 (negsuc 0 -ℤ c.args.v)
+turned : (c : Then-v-lt0) → SFits w32 (negsuc 0 -ℤ c.args.v)
 turned c = turned_fits c.args.v c.ranges.v (rw (to_z-of_z c.ranges.v) at c.if-v-lt0.true)
 
 pub overflow_sub-result : goal.overflow_sub-result

@@ -2,11 +2,12 @@ use Rattle.std.proofs.Common.{◌≡◌, ◌-◌, Bool, cond, ℤ, pos, negsuc, 
 use Rattle.kernel_values.specs.Value.{signed}
 use Rattle.kernel_values.proofs.Bits.{low, minus}
 use Rattle.kernel_values.proofs.signed.Goals as goal
+use Rattle.kernel_values.proofs.signed.Goals.{Else-w-lt2147483648}
 
-difference : (c : goal.Else-w-lt2147483648) → negsuc 0 -ℤ to_z w32 (0xffff_ffff - c.args.w) ≡ negsuc (0xffff_ffff - c.args.w)
+difference : (c : Else-w-lt2147483648) → negsuc 0 -ℤ to_z w32 (0xffff_ffff - c.args.w) ≡ negsuc (0xffff_ffff - c.args.w)
 difference c = ap (λ (z : ℤ). negsuc 0 -ℤ z) (low (0xffff_ffff - c.args.w) (omega (arith, c.if-w-lt2147483648.false))) ∙ minus (0xffff_ffff - c.args.w)
 
-fits : (c : goal.Else-w-lt2147483648) → SFits w32 (negsuc (0xffff_ffff - c.args.w))
+fits : (c : Else-w-lt2147483648) → SFits w32 (negsuc (0xffff_ffff - c.args.w))
 fits c = record { sfits = omega (arith, c.if-w-lt2147483648.false) }
 
 pub returns-then-w-lt2147483648 : goal.returns-then-w-lt2147483648

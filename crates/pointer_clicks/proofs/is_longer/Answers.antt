@@ -8,6 +8,7 @@ use Rattle.emath.specs.Vec.{+0}
 use Rattle.ieee_laws.proofs.Order.{le_lt_trans}
 use Rattle.emath_laws.proofs.Rim.{inside, outside}
 use Rattle.pointer_clicks.proofs.is_longer.Goals as goal
+use Rattle.pointer_clicks.proofs.is_longer.Goals.{Start}
 
 -- PAST_THE_RIM
 abbrev more : Float
@@ -16,8 +17,8 @@ more = of_bits binary32 0x3f80_2000
 holds : {b : Bool} → b ≡ true → T b
 holds h = subst T (sym h) tt
 
-held : (c : goal.Start) → T (fits binary32 c.args.dist)
-held c = subst T (sym c.type_inv.1.0.1) tt
+held : (c : Start) → T (fits binary32 c.args.dist)
+held c = subst T (sym c.well_formed.1.0.1) tt
 
 pub returns-then-square-d : goal.returns-then-square-d
 unfolding of_bits

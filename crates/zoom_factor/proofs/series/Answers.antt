@@ -11,6 +11,7 @@ use Rattle.zoom_factor.specs.Steps.{Cut, Under, Summed}
 use Rattle.zoom_factor.proofs.Errors.{After, cut_twice, start, next, itself}
 use Rattle.zoom_factor.proofs.Bounds.{bottom_pos, third}
 use Rattle.zoom_factor.proofs.series.Goals as goal
+use Rattle.zoom_factor.proofs.series.Goals.{After-minus_part-part}
 
 record Turning (neg : Bool) (x t plus minus k : ℕ) : Type 0 where
   turns : k ≤ 13
@@ -85,7 +86,7 @@ product : (t x : ℕ) → t ≤ 2 ^ 30 → x ≤ 2 ^ 30 → t * x ≤ 2 ^ 60
 product t x h k = le_trans (mul-le-mul h k) (omega arith)
 
 -- what is taken off is at most the term
-lost-le : (c : goal.After-minus_part-part) → c.minus_part-part.result ≤ c.loop-k.term * c.args.size / 2 ^ 30 / (c.loop-k.k + 1)
+lost-le : (c : After-minus_part-part) → c.minus_part-part.result ≤ c.loop-k.term * c.args.size / 2 ^ 30 / (c.loop-k.k + 1)
 lost-le c = le_trans (le_of_eq c.minus_part-part.ensures) (part_le (below_zero c.args.negative (c.loop-k.k + 1)) (c.loop-k.term * c.args.size / 2 ^ 30 / (c.loop-k.k + 1)))
 
 -- GONE: nonzero-div-term

@@ -9,10 +9,11 @@ use Rattle.zoom_factor.specs.Answer.{unit_sized}
 use Rattle.zoom_factor.proofs.Errors.{itself}
 use Rattle.zoom_factor.proofs.Exponent.{number, pattern_small, answer}
 use Rattle.zoom_factor.proofs.zoom_factor.Goals as goal
+use Rattle.zoom_factor.proofs.zoom_factor.Goals.{Start}
 
 -- what owning the float tells: the format holds it
-held : (c : goal.Start) → T (fits binary32 c.args.exponent)
-held c = subst T (sym c.type_inv.0.1) tt
+held : (c : Start) → T (fits binary32 c.args.exponent)
+held c = subst T (sym c.well_formed.0.1) tt
 
 is_true : {b : Bool} → b ≡ true → T b
 is_true e = subst T (sym e) tt

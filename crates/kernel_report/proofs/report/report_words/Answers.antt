@@ -11,12 +11,13 @@ use Rattle.kernel_touch.specs.declared.slots.Slot.{Slot}
 use Rattle.kernel_report.specs.Report.{report}
 use Rattle.kernel_report.proofs.Written.{blank, slot_le, next_length, report_last}
 use Rattle.kernel_report.proofs.report.report_words.Goals as goal
+use Rattle.kernel_report.proofs.report.report_words.Goals.{After-slot_words-words}
 
 abbrev slots-of : tie.After-slot-words invariant-loop decreases-loop → List Slot
 slots-of c = c.before.before.before.before.args.t1.slots
 
-slots-are : (c : goal.After-slot_words-words) → length (slots-of c) ≡ max_slots
-slots-are c = simp length-map at c.type_inv.0.1.1.0.1.0.1
+slots-are : (c : After-slot_words-words) → length (slots-of c) ≡ max_slots
+slots-are c = simp length-map at c.well_formed.0.1.1.0.1.0.1
 
 pub loop-i-init : goal.loop-i-init
 loop-i-init c = (omega arith, omega arith, λ d. omega arith)
@@ -51,5 +52,5 @@ pub returns : goal.returns
 returns c =
     let now = c.loop-i in
     let k = c.args.t1 in
-    let l : length k.slots ≡ max_slots = simp length-map at c.type_inv.0.1.1.0.1.0.1 in
+    let l : length k.slots ≡ max_slots = simp length-map at c.well_formed.0.1.1.0.1.0.1 in
     (λ d. omega (arith, now.invariant.2 d, ap length (report_last d now.i k.slots (omega (arith, c.loop-i-test.false)))))

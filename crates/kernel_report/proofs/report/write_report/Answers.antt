@@ -25,7 +25,7 @@ write_slot-next-requires c =
     let now = c.loop-i in
     let begin = c in
     let ss = begin.args.t1.slots in
-    let l : length ss ≡ max_slots = simp length-map at begin.type_inv.0.1.1.0.1.0.1 in
+    let l : length ss ≡ max_slots = simp length-map at begin.well_formed.0.1.1.0.1.0.1 in
     let h : now.i < length ss = omega (arith, c.loop-i-test.true) in
     omega (arith, begin.requires, now.invariant.1, now.invariant.2, next_length begin.args.device blank now.i ss h)
 
@@ -42,7 +42,7 @@ loop-i-preserved c =
     let begin = turn in
     let ss = begin.args.t1.slots in
     let d = begin.args.device in
-    let l : length ss ≡ max_slots = simp length-map at begin.type_inv.0.1.1.0.1.0.1 in
+    let l : length ss ≡ max_slots = simp length-map at begin.well_formed.0.1.1.0.1.0.1 in
     let h : now.i < length ss = omega (arith, turn.loop-i-test.true) in
     let wrote = c.write_slot-next.ensures in (
       omega arith,
@@ -60,6 +60,6 @@ returns c =
     let now = c.loop-i in
     let begin = c in
     let ss = begin.args.t1.slots in
-    let l : length ss ≡ max_slots = simp length-map at begin.type_inv.0.1.1.0.1.0.1 in
+    let l : length ss ≡ max_slots = simp length-map at begin.well_formed.0.1.1.0.1.0.1 in
     let none = report_last begin.args.device now.i ss (omega (arith, c.loop-i-test.false)) in
     (omega (arith, now.invariant.2, ap length none), sym (ap (λ (ws : List ℕ). put now.next ws now.feed) none) ∙ now.invariant.3)

@@ -11,71 +11,72 @@ use Rattle.kernel_report.proofs.Told.{read_back}
 use Rattle.kernel_report.proofs.Written.{still_words, begun_words, moved_words, lifted_words, replaced_words, touch_length, put_two, length_put}
 use borrow.Author.Rules.{rules}
 use Rattle.kernel_report.proofs.report.write_slot.Goals as goal
+use Rattle.kernel_report.proofs.report.write_slot.Goals.{In-Begun, In-Lifted, In-Moved, In-Replaced}
 
-words-of-begun : (c : goal.In-Begun) →
+words-of-begun : (c : In-Begun) →
     let begin = c.args in
     encode_all (slot_events begin.device begin.s) ≡ encode (touch begin.device Start begin.s.now.id begin.s.now)
 words-of-begun c = begun_words _ _ (sym c.change_of.ensures ∙ c.in-Begun.is)
 
-begun-length : (c : goal.In-Begun) →
+begun-length : (c : In-Begun) →
     let begin = c.args in
     length (encode (touch begin.device Start begin.s.now.id begin.s.now)) ≡ touch_words
 begun-length c = touch_length _ _ _ _
 
-words-of-moved : (c : goal.In-Moved) →
+words-of-moved : (c : In-Moved) →
     let begin = c.args in
     encode_all (slot_events begin.device begin.s) ≡ encode (touch begin.device Move begin.s.now.id begin.s.now)
 words-of-moved c = moved_words _ _ (sym c.change_of.ensures ∙ c.in-Moved.is)
 
-moved_length : (c : goal.In-Moved) →
+moved_length : (c : In-Moved) →
     let begin = c.args in
     length (encode (touch begin.device Move begin.s.now.id begin.s.now)) ≡ touch_words
 moved_length c = touch_length _ _ _ _
 
-words-of-lifted : (c : goal.In-Lifted) →
+words-of-lifted : (c : In-Lifted) →
     let begin = c.args in
     encode_all (slot_events begin.device begin.s) ≡ encode (touch begin.device End begin.s.acted.id begin.s.now)
 words-of-lifted c = lifted_words _ _ (sym c.change_of.ensures ∙ c.in-Lifted.is)
 
-lifted-length : (c : goal.In-Lifted) →
+lifted-length : (c : In-Lifted) →
     let begin = c.args in
     length (encode (touch begin.device End begin.s.acted.id begin.s.now)) ≡ touch_words
 lifted-length c = touch_length _ _ _ _
 
-words-of-replaced : (c : goal.In-Replaced) →
+words-of-replaced : (c : In-Replaced) →
     let begin = c.args in
     encode_all (slot_events begin.device begin.s) ≡ encode (touch begin.device End begin.s.acted.id begin.s.now) ++ encode (touch begin.device Start begin.s.now.id begin.s.now)
 words-of-replaced c = replaced_words _ _ (sym c.change_of.ensures ∙ c.in-Replaced.is)
 
-replaced-length : (c : goal.In-Replaced) →
+replaced-length : (c : In-Replaced) →
     let begin = c.args in
     length (encode (touch begin.device End begin.s.acted.id begin.s.now)) ≡ touch_words
 replaced-length c = touch_length _ _ _ _
 
-replaced-length-2 : (c : goal.In-Replaced) →
+replaced-length-2 : (c : In-Replaced) →
     let begin = c.args in
     length (encode (touch begin.device Start begin.s.now.id begin.s.now)) ≡ touch_words
 replaced-length-2 c = touch_length _ _ _ _
 
 pub write_touch-requires : goal.write_touch-requires
 write_touch-requires c =
-    let words = words-of-begun c in
-    omega (arith, c.requires, ap length words, begun-length c)
+    let words = words-of-begun (goal.at.write_touch-requires c).In-Begun in
+    omega (arith, c.requires, ap length words, begun-length (goal.at.write_touch-requires c).In-Begun)
 
 pub write_touch-requires-in-Moved : goal.write_touch-requires-in-Moved
 write_touch-requires-in-Moved c =
-    let words = words-of-moved c in
-    omega (arith, c.requires, ap length words, moved_length c)
+    let words = words-of-moved (goal.at.write_touch-requires-in-Moved c).In-Moved in
+    omega (arith, c.requires, ap length words, moved_length (goal.at.write_touch-requires-in-Moved c).In-Moved)
 
 pub write_touch-requires-in-Lifted : goal.write_touch-requires-in-Lifted
 write_touch-requires-in-Lifted c =
-    let words = words-of-lifted c in
-    omega (arith, c.requires, ap length words, lifted-length c)
+    let words = words-of-lifted (goal.at.write_touch-requires-in-Lifted c).In-Lifted in
+    omega (arith, c.requires, ap length words, lifted-length (goal.at.write_touch-requires-in-Lifted c).In-Lifted)
 
 pub write_touch-next-requires : goal.write_touch-next-requires
 write_touch-next-requires c =
-    let words = words-of-replaced c in
-    omega (arith, c.requires, simp length-append at (ap length words), replaced-length c)
+    let words = words-of-replaced (goal.at.write_touch-next-requires c).In-Replaced in
+    omega (arith, c.requires, simp length-append at (ap length words), replaced-length (goal.at.write_touch-next-requires c).In-Replaced)
 
 pub write_touch-requires-in-Replaced : goal.write_touch-requires-in-Replaced
 write_touch-requires-in-Replaced c =

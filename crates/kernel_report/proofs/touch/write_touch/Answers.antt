@@ -19,7 +19,7 @@ returns c =
     let encoded = wrote in
     let start = encoded in
     let w = encoded.encode-w.result in
-    let l : length w.words ≡ 8 = simp length-map at encoded.encode-w.type_inv.1.1.0.1.0.1 in
+    let l : length w.words ≡ 8 = simp length-map at encoded.encode-w.well_formed.1.1.0.1.0.1 in
     let is : take w.count w.words ≡ encode (touch start.args.device start.args.phase start.args.id start.args.f) =
     encoded.encode-w.ensures ∙ ap encode (encoded.touch.ensures ∙ ap (λ (id : ℤ). touch start.args.device start.args.phase id start.args.f) (to_z-of_z start.ranges.id)) in
     (wrote.write_words.ensures.0, wrote.write_words.ensures.1 ∙ ap (λ (ws : List ℕ). put start.args.at ws start.args.feed.now) (seven w.count w.words _ l (touch_length _ _ _ _) is))

@@ -38,7 +38,7 @@ loop-i-preserved c =
     let now = c.loop-i in
     let words = c.args.t1 in
     let at = c.args.at in
-    let l : length words ≡ 8 = c.type_inv.0.1.0.1 in
+    let l : length words ≡ 8 = c.well_formed.0.1.0.1 in
     let h : now.i < length (take touch_words words) = omega (arith, length-take-le touch_words words (omega arith)) in (
       omega arith,
       simp length-set now.invariant.1,
@@ -59,6 +59,6 @@ unfolding put
 returns c =
     let now = c.loop-i in
     let words = c.args.t1 in
-    let l : length words ≡ 8 = c.type_inv.0.1.0.1 in
+    let l : length words ≡ 8 = c.well_formed.0.1.0.1 in
     let none : drop now.i (take touch_words words) ≡ [] = drop_of_length-le (take touch_words words) {i = now.i} (omega (arith, c.loop-i-test.false, length-take-le touch_words words (omega arith))) in
     (omega arith, sym (ap (λ (ws : List ℕ). put (c.args.at + now.i) ws now.feed) none) ∙ now.invariant.2)

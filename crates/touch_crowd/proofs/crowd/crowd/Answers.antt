@@ -17,10 +17,11 @@ use Rattle.survey.proofs.Places.{Holds, holds_first, holds_more, no_place_at, ho
 use Rattle.touch_crowd.proofs.TouchOf.{crowded_is, fits_is, not_9}
 use Rattle.touch_crowd.proofs.Apart.{current, Apart, Turn, apart_first, current_room, none_apart, none_back, turn_stays, turn_known, turn_unknown, crowded_by, touched, not_known, added}
 use Rattle.touch_crowd.proofs.crowd.crowd.Goals as goal
+use Rattle.touch_crowd.proofs.crowd.crowd.Goals.{After-add-held, After-is_crowded, After-on_touch-device, Else-is_crowded, In-None, Joined-k-device, Joined-k-lt-MAX_DEVICES}
 
 -- ---- the turn of the event's device
 -- where another's turn comes, all devices are held
-put_back : (c : goal.Joined-k-lt-MAX_DEVICES) →
+put_back : (c : Joined-k-lt-MAX_DEVICES) →
     let l = c.loop-i in
     c.if-k-lt-MAX_DEVICES.held ≡ current l.held l.k l.device
 put_back c =
@@ -28,7 +29,7 @@ put_back c =
     ⊎_elim (λ w. w.1) (λ w. w.1 ∙ none_back l.held l.k l.device l.invariant.1.room w.0.left) c.if-k-lt-MAX_DEVICES.branch
 
 -- and the devices stay as they are
-turned : (c : goal.Joined-k-device) →
+turned : (c : Joined-k-device) →
     let l = c.loop-i in
     let d = c.in-Some.e.device_id in
     Turn d c.if-k-device.held c.if-k-device.k c.if-k-device.device × (view (current c.if-k-device.held c.if-k-device.k c.if-k-device.device) ≡ view (current l.held l.k l.device))
@@ -49,14 +50,14 @@ turned c =
     c.if-k-device.branch
 
 -- ---- the event
-holds-now : (c : goal.Joined-k-device) →
+holds-now : (c : Joined-k-device) →
     let l = c in
     let s = l.args in
     Holds s.feed.now s.lists.now s.count (option s.later) l.loop-i.i (view s.ds) (view (current c.if-k-device.held c.if-k-device.k c.if-k-device.device))
 holds-now c = rw (turned c).1 c.loop-i.invariant.2
 
 -- what is told of the event's place is of all devices
-told : (c : goal.After-is_crowded) →
+told : (c : After-is_crowded) →
     let a = c in
     let j = c.if-k-device in
     crowded (shaped_at a.args.feed.now a.listed-at.result) (view (current j.held j.k j.device)) ≡ c.is_crowded.result
@@ -71,7 +72,7 @@ Next a held k device =
     let s = l.before.before.before.args in
     Apart held k device × Holds s.feed.now s.lists.now s.count (option s.later) (l.loop.i + 1) (view s.ds) (view (current held k device))
 
-next : (c : goal.Else-is_crowded) (held : Devices) (k : ℕ) (device : Device) →
+next : (c : Else-is_crowded) (held : Devices) (k : ℕ) (device : Device) →
     let e = c.in-Some.e in
     let j = c.if-k-device in
     Apart held k device × (view (current held k device) ≡ fits_touch e.device_id e.phase e.touch (view (current j.held j.k j.device))) →
@@ -83,7 +84,7 @@ next c held k device t =
     let free = rw place at (told c ∙ c.if-is_crowded.false) in
     (t.0, holds_more _ _ _ _ _ a.loop-i-test.true _ _ (holds-now c) free _ (rw place at (t.1 ∙ fits_is _ _ is _)))
 
-idle : (c : goal.In-None) →
+idle : (c : In-None) →
     let l = c.loop-i in
     Next c l.held l.k l.device
 idle c =
@@ -93,25 +94,25 @@ idle c =
     let all = view (current l.held l.k l.device) in
     (l.invariant.1, holds_more _ _ _ _ _ a.loop-i-test.true _ all l.invariant.2 (not_crowded _ all other) all (sym (fits_idle _ all other)))
 
-known_next : (c : goal.After-on_touch-device) →
+known_next : (c : After-on_touch-device) →
     let j = c.if-k-device in
     Next c j.held j.k c.on_touch-device.result
 known_next c =
     let t = touched _ _ _ _ (turned c).0 _ _ c.on_touch-device.result c.if-k-lt-MAX_DEVICES-3.true c.on_touch-device.ensures in
     next c _ _ _ t
 
-added_next : (c : goal.After-add-held) →
+added_next : (c : After-add-held) →
     let j = c.if-k-device in
     Next c c.add-held.result j.k j.device
 added_next c =
-    let room : length c.add-held.result.places ≡ 4 = simp length-map at c.add-held.type_inv.1.1.1.0.1.0.1 in
+    let room : length c.add-held.result.places ≡ 4 = simp length-map at c.add-held.well_formed.1.1.1.0.1.0.1 in
     let t = added _ _ _ _ (turned c).0 _ _ c.add-held.result c.if-k-lt-MAX_DEVICES-3.false room c.add-held.ensures in
     next c _ _ _ t
 
 pub loop-i-init : goal.loop-i-init
 loop-i-init c =
     let s = c in
-    let l : length s.args.ds.places ≡ 4 = simp length-map at s.type_inv.0.1.1.1.0.1.0.1 in
+    let l : length s.args.ds.places ≡ 4 = simp length-map at s.well_formed.0.1.1.1.0.1.0.1 in
     (omega arith, apart_first _ _ l, rw (none_apart s.args.ds 4 c.new-device.result l (omega arith)) (holds_first _ _ _ _ _))
 
 pub offset_bounds-held-k : goal.offset_bounds-held-k
@@ -133,13 +134,13 @@ returns-then-is_crowded c =
     let o = a in
     let s = o.args in
     let place = a.listed-at.ensures in
-    let full = rw place at (told c ∙ c.if-is_crowded.true) in
+    let full = rw place at (told (goal.at.returns-then-is_crowded c).After-is_crowded ∙ c.if-is_crowded.true) in
     let r : some (NoPlace a.listed-at.result) ≡ crowd_then s.feed.now (listed s.lists.now touch_list s.count) (λ us. option s.later) (view s.ds) =
-    rw place (no_place_at _ _ _ _ _ o.loop-i-test.true _ _ (holds-now c) full) in
+    rw place (no_place_at _ _ _ _ _ o.loop-i-test.true _ _ (holds-now (goal.at.returns-then-is_crowded c).Joined-k-device) full) in
     record { refusal = r; devices = λ z. none_some (sym z) }
 
 pub add-held-requires : goal.add-held-requires
-add-held-requires c = not_known _ _ _ _ (turned c).0 c.if-k-lt-MAX_DEVICES-3.false
+add-held-requires c = not_known _ _ _ _ (turned (goal.at.add-held-requires c).Joined-k-device).0 c.if-k-lt-MAX_DEVICES-3.false
 
 pub loop-i-preserved : goal.loop-i-preserved
 loop-i-preserved c =

@@ -15,7 +15,7 @@ pub returns-then-len-lt-MAX_DEVICES : goal.returns-then-len-lt-MAX_DEVICES
 returns-then-len-lt-MAX_DEVICES c =
     let s = c in
     let ds = s.args.ds in
-    let l : length ds.places ≡ 4 = simp length-map at s.type_inv.0.1.1.1.0.1.0.1 in
+    let l : length ds.places ≡ 4 = simp length-map at s.well_formed.0.1.1.1.0.1.0.1 in
     let m : length (take ds.count ds.places) ≤ 4 = omega (arith, length-take ds.count ds.places) in
     let e = c.place_of-i.ensures in
     rw c.insert_at.ensures
@@ -25,7 +25,7 @@ pub returns : goal.returns
 returns c =
     let s = c in
     let ds = s.args.ds in
-    let l : length ds.places ≡ 4 = simp length-map at s.type_inv.0.1.1.1.0.1.0.1 in
+    let l : length ds.places ≡ 4 = simp length-map at s.well_formed.0.1.1.1.0.1.0.1 in
     let m : length (take ds.count ds.places) ≤ 4 = omega (arith, length-take ds.count ds.places) in
     let e = c.place_of-i.ensures in
     touched_full _ _ ds.count ds.places _ _ e (unknown _ _ ds.count ds.places e m s.requires) (rw c.len.ensures at c.if-len-lt-MAX_DEVICES.false)
