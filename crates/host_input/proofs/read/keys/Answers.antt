@@ -1,0 +1,5 @@
+use borrow.Author.Rules.{rules}
+use Rattle.host_input.proofs.read.keys.Goals as goal
+
+pub returns : goal.returns
+returns c = rw c.modifiers_at-modifiers.ensures

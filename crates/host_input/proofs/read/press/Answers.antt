@@ -1,0 +1,5 @@
+use borrow.Author.Rules.{rules}
+use Rattle.host_input.proofs.read.press.Goals as goal
+
+pub returns : goal.returns
+returns c = rw (c.past-past.ensures, c.held-held.ensures)

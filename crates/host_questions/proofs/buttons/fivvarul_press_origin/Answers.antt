@@ -1,0 +1,5 @@
+use borrow.Author.Rules.{rules}
+use Rattle.host_questions.proofs.buttons.fivvarul_press_origin.Goals as goal
+
+pub returns : goal.returns
+returns c = rw c.position.ensures (rw c.press-press.ensures at c.press_origin-answer.ensures)

@@ -1,0 +1,5 @@
+use borrow.Author.Rules.{rules}
+use Rattle.host_questions.proofs.dragging.fivvarul_potential_click_id.Goals as goal
+
+pub returns : goal.returns
+returns c = rw c.id.ensures (rw c.interaction-interaction.ensures at c.potential_click_id-answer.ensures)

@@ -1,0 +1,7 @@
+use native.Mathlib.Omega.{arith}
+use Rattle.feed.proofs.RoundTrip.{modifiers_back}
+use borrow.Author.Rules.{rules}
+use Rattle.host_questions.proofs.keys.fivvarul_modifiers.Goals as goal
+
+pub returns : goal.returns
+returns c = rw (modifiers_back c.modifiers-answer.result c.number.result 0 (omega (arith, c.number.ensures.0))) (rw c.keys-keys.ensures at c.modifiers-answer.ensures)

@@ -1,0 +1,5 @@
+use borrow.Author.Rules.{rules}
+use Rattle.host_questions.proofs.keys.fivvarul_num_presses.Goals as goal
+
+pub returns : goal.returns
+returns c = c.num_presses.ensures

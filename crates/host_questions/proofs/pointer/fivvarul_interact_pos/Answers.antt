@@ -1,0 +1,5 @@
+use borrow.Author.Rules.{rules}
+use Rattle.host_questions.proofs.pointer.fivvarul_interact_pos.Goals as goal
+
+pub returns : goal.returns
+returns c = rw c.position.ensures (rw c.place-place.ensures at c.interact_pos-answer.ensures)

@@ -1,0 +1,5 @@
+use borrow.Author.Rules.{rules}
+use Rattle.host_questions.proofs.pointer.fivvarul_motion.Goals as goal
+
+pub returns : goal.returns
+returns c = rw c.maybe_vector.ensures (rw c.place-place.ensures at c.motion-answer.ensures)

@@ -1,0 +1,5 @@
+use borrow.Author.Rules.{rules}
+use Rattle.host_questions.proofs.pointer.fivvarul_time_since_last_movement.Goals as goal
+
+pub returns : goal.returns
+returns c = rw c.number.ensures (rw (c.pointer-pointer.ensures, c.clock-clock.ensures) at c.time_since_last_movement-answer.ensures)

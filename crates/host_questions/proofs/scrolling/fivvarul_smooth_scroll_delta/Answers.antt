@@ -1,0 +1,5 @@
+use borrow.Author.Rules.{rules}
+use Rattle.host_questions.proofs.scrolling.fivvarul_smooth_scroll_delta.Goals as goal
+
+pub returns : goal.returns
+returns c = rw c.vector.ensures (rw c.sums-sums.ensures at c.smooth_scroll_delta-answer.ensures)

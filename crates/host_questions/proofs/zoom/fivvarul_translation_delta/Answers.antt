@@ -1,0 +1,5 @@
+use borrow.Author.Rules.{rules}
+use Rattle.host_questions.proofs.zoom.fivvarul_translation_delta.Goals as goal
+
+pub returns : goal.returns
+returns c = record { devices = c.devices-devices.result; devices_are = c.devices-devices.ensures; holds = rw c.vector.ensures (rw c.sums-sums.ensures at c.translation_delta-answer.ensures) }

@@ -1,0 +1,5 @@
+use borrow.Author.Rules.{rules}
+use Rattle.host_questions.proofs.zoom.fivvarul_zoom_delta.Goals as goal
+
+pub returns : goal.returns
+returns c = record { devices = c.devices-devices.result; devices_are = c.devices-devices.ensures; holds = rw (c.sums-sums.ensures, ← c.zoom.ensures) at c.zoom_delta-answer.ensures }

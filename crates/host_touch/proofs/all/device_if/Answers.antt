@@ -1,0 +1,7 @@
+use mathlib.Core.Path.{sym, ◌∙◌}
+use borrow.Author.Rules.{rules}
+use Rattle.touches.proofs.Upsert.{no}
+use Rattle.host_touch.proofs.all.device_if.Goals as goal
+
+pub returns : goal.returns
+returns c = λ e. no (sym c.if-known.false ∙ e)

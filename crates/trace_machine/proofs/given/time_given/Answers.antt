@@ -1,0 +1,22 @@
+use mathlib.Core.Path.{◌≡◌, sym, ◌∙◌, ap}
+use mathlib.Core.Bool.{true, false}
+use Prim.Native.Nat.{ℕ}
+use Rattle.data.specs.Bits.{bit_of}
+use Rattle.trace_words.specs.Request.{word_at}
+use Rattle.trace_machine.specs.Given.{time_given}
+use borrow.Author.Rules.{rules}
+use Rattle.trace_machine.proofs.given.time_given.Goals as goal
+
+pub returns-then-bit : goal.returns-then-bit
+unfolding time_given
+returns-then-bit c =
+    let b = c in
+    let t : bit_of 1 (word_at b.args.w.now 0) ≡ true = ap (λ (n : ℕ). bit_of 1 n) (sym b.at.ensures) ∙ sym b.bit.ensures ∙ c.if-bit.true in
+    rw (t, c.seconds.ensures)
+
+pub returns : goal.returns
+unfolding time_given
+returns c =
+    let b = c in
+    let t : bit_of 1 (word_at b.args.w.now 0) ≡ false = ap (λ (n : ℕ). bit_of 1 n) (sym b.at.ensures) ∙ sym b.bit.ensures ∙ c.if-bit.false in
+    rw t

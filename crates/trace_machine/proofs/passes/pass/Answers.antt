@@ -1,0 +1,23 @@
+use mathlib.Core.Path.{◌≡◌, refl, ◌∙◌}
+use Prim.Native.Nat.{◌-◌}
+use native.Mathlib.Omega.{arith}
+use lib.ListN.{length, take, drop, length-drop}
+use lib.Seq.{take_all}
+use Rattle.trace_machine.proofs.Steps.{carried}
+use borrow.Author.Rules.{rules}
+use Rattle.trace_machine.proofs.passes.pass.Goals as goal
+
+pub returns-then-w-lt-PASS_WORDS : goal.returns-then-w-lt-PASS_WORDS
+returns-then-w-lt-PASS_WORDS c = record { refused = λ is-not. (c.refused.ensures.1, refl); taken = λ is. absurd (omega (arith, c.refused.ensures.0)) }
+
+pub returns : goal.returns
+returns c =
+    let b = c in
+    let e = c.passed.ensures in
+    let given = b.pass_input-given.ensures in
+    let w = b.args.w.now in
+    let whole : take (length w - 18) (drop 18 w) ≡ drop 18 w = take_all (length w - 18) (drop 18 w) (omega (arith, length-drop 18 w)) in
+    record {
+      refused = λ is-not. ((e.refused is-not).1, (b.pass-begun.ensures.refused (λ none. (e.refused is-not).0 (b.pass-begun.ensures.refusal ∙ none))).2);
+      taken = λ is. record { begun = b.pass-begun.result; is_begun = carried given whole b.pass-begun.ensures; machine_is = e.taken is };
+    }

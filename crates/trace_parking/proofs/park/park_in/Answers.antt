@@ -1,0 +1,10 @@
+use Prim.Native.Nat.{◌-◌}
+use Rattle.trace_parking.proofs.Parts.{part_kept}
+use borrow.Author.Rules.{rules}
+use Rattle.trace_parking.proofs.park.park_in.Goals as goal
+
+pub returns : goal.returns
+returns c =
+    let d = c in
+    let s = d.args in
+    part_kept _ (s.room - 0) s.out.now d.park.new.1.1.1.1.1.1.0 d.park.result d.park.ensures
