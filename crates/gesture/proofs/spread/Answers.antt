@@ -19,16 +19,14 @@ loop-i-init c =
 
 pub loop-i-preserved : goal.loop-i-preserved
 loop-i-preserved c =
-    let o = c in
     let h = c.loop-i-test.true in
-    let a = o.loop-i.invariant in
+    let a = c.loop-i.invariant in
     (omega arith, a.1, a.2, rw c.distance-distance.ensures (distance_step _ _ _ _ h a.1 _ _) ∙ a.3, rw (c.add-abs_distance2.ensures, c.abs-away.ensures, c.sub.ensures) (away_step _ _ _ _ h a.1 _ _) ∙ a.4)
 
 pub returns : goal.returns
 unfolding of_bits
 returns c =
-    let o = c in
     let e = c.len-n.ensures in
     let a = c.loop-i.invariant in
     let h = c.loop-i-test.false in
-    rw (← first_of c.len-n.result o.args.ts.count o.args.ts.places e, distance_end _ _ _ h a.1 _ _ ∙ a.3, away_end _ _ _ h a.1 _ _ ∙ a.4, c.zero-abs_distance2.ensures)
+    rw (← first_of c.len-n.result c.args.ts.count c.args.ts.places e, distance_end _ _ _ h a.1 _ _ ∙ a.3, away_end _ _ _ h a.1 _ _ ∙ a.4, c.zero-abs_distance2.ensures)

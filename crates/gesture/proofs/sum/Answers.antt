@@ -19,16 +19,14 @@ loop-i-init c =
 
 pub loop-i-preserved : goal.loop-i-preserved
 loop-i-preserved c =
-    let o = c in
     let h = c.loop-i-test.true in
-    let a = o.loop-i.invariant in
+    let a = c.loop-i.invariant in
     (omega arith, a.1, a.2, rw c.force_or_zero-force.ensures (force_step _ _ _ _ h a.1 _) ∙ a.3, pos_step _ _ _ _ h a.1 _ ∙ a.4)
 
 pub returns : goal.returns
 unfolding of_bits
 returns c =
-    let o = c in
     let e = c.len-n.ensures in
     let a = c.loop-i.invariant in
     let h = c.loop-i-test.false in
-    rw (← first_of c.len-n.result o.args.ts.count o.args.ts.places e, force_end _ _ _ h a.1 _ ∙ a.3, pos_end _ _ _ h a.1 _ ∙ a.4, c.zero-pos.ensures)
+    rw (← first_of c.len-n.result c.args.ts.count c.args.ts.places e, force_end _ _ _ h a.1 _ ∙ a.3, pos_end _ _ _ h a.1 _ ∙ a.4, c.zero-pos.ensures)

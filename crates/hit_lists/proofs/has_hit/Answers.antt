@@ -12,10 +12,10 @@ pub loop-i-init : goal.loop-i-init
 loop-i-init c = (refl, omega arith, refl)
 
 pub returns-then-id-words : goal.returns-then-id-words
-returns-then-id-words c = let o = c in sym (hit_here _ _ _ c.loop-i-test.true c.if-id-words.true) ∙ o.loop-i.invariant.2
+returns-then-id-words c = sym (hit_here _ _ _ c.loop-i-test.true c.if-id-words.true) ∙ c.loop-i.invariant.2
 
 pub loop-i-preserved : goal.loop-i-preserved
-loop-i-preserved c = let o = c in (refl, omega arith, sym (hit_later _ _ _ c.loop-i-test.true c.if-id-words.false) ∙ o.loop-i.invariant.2)
+loop-i-preserved c = (refl, omega arith, sym (hit_later _ _ _ c.loop-i-test.true c.if-id-words.false) ∙ c.loop-i.invariant.2)
 
 pub returns : goal.returns
 returns c = sym (no_hit _ _ _ c.loop-i-test.false) ∙ c.loop-i.invariant.2

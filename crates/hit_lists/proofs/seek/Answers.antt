@@ -11,10 +11,10 @@ pub loop-at-init : goal.loop-at-init
 loop-at-init c = (refl, refl)
 
 pub returns-then-id-words : goal.returns-then-id-words
-returns-then-id-words c = let o = c in sym (seek_here _ _ _ c.loop-at-test.true c.if-id-words.true) ∙ o.loop-at.invariant.1
+returns-then-id-words c = sym (seek_here _ _ _ c.loop-at-test.true c.if-id-words.true) ∙ c.loop-at.invariant.1
 
 pub loop-at-preserved : goal.loop-at-preserved
-loop-at-preserved c = let o = c in (refl, sym (seek_later _ _ _ c.loop-at-test.true c.if-id-words.false) ∙ o.loop-at.invariant.1)
+loop-at-preserved c = (refl, sym (seek_later _ _ _ c.loop-at-test.true c.if-id-words.false) ∙ c.loop-at.invariant.1)
 
 pub returns : goal.returns
 returns c = sym (no_seek _ _ _ c.loop-at-test.false) ∙ c.loop-at.invariant.1

@@ -18,36 +18,30 @@ loop-i-init c = (refl, omega arith, omega arith, refl)
 pub returns-then-i-eq-MAX_HITS : goal.returns-then-i-eq-MAX_HITS
 unfolding refusal_of
 returns-then-i-eq-MAX_HITS c =
-    let o = c in
-    sym (too_many _ max_hits _ c.loop-i-test.true (omega arith)) ∙ o.loop-i.invariant.3
+    sym (too_many _ max_hits _ c.loop-i-test.true (omega arith)) ∙ c.loop-i.invariant.3
 
 pub returns-then-not-sense_ok : goal.returns-then-not-sense_ok
 unfolding refusal_of
 returns-then-not-sense_ok c =
-    let o = c in
-    let l : o.loop-i.i < max_hits = omega arith in
+    let l : c.loop-i.i < max_hits = omega arith in
     sym (malformed _ _ _ c.loop-i-test.true l (sym c.sense_ok.ensures ∙ not-true c.sense_ok.result c.if-not-sense_ok.true))
-    ∙ o.loop-i.invariant.3
+    ∙ c.loop-i.invariant.3
 
 pub returns-then-words-i-eq0 : goal.returns-then-words-i-eq0
 unfolding refusal_of
 returns-then-words-i-eq0 c =
-    let s = c in
-    let o = s in
-    let l : o.loop-i.i < max_hits = omega arith in
-    sym (zero_id _ _ _ s.loop-i-test.true l (sym s.sense_ok.ensures ∙ not-false s.sense_ok.result c.if-not-sense_ok.false) c.if-words-i-eq0.true)
-    ∙ o.loop-i.invariant.3
+    let l : c.loop-i.i < max_hits = omega arith in
+    sym (zero_id _ _ _ c.loop-i-test.true l (sym c.sense_ok.ensures ∙ not-false c.sense_ok.result c.if-not-sense_ok.false) c.if-words-i-eq0.true)
+    ∙ c.loop-i.invariant.3
 
 pub loop-i-preserved : goal.loop-i-preserved
 loop-i-preserved c =
-    let s = c in
-    let o = s in
-    let l : o.loop-i.i < max_hits = omega arith in (
+    let l : c.loop-i.i < max_hits = omega arith in (
       refl,
       omega arith,
       omega arith,
-      sym (passed _ _ _ s.loop-i-test.true l (sym s.sense_ok.ensures ∙ not-false s.sense_ok.result c.if-not-sense_ok.false) c.if-words-i-eq0.false)
-          ∙ o.loop-i.invariant.3,
+      sym (passed _ _ _ c.loop-i-test.true l (sym c.sense_ok.ensures ∙ not-false c.sense_ok.result c.if-not-sense_ok.false) c.if-words-i-eq0.false)
+          ∙ c.loop-i.invariant.3,
     )
 
 pub returns : goal.returns

@@ -15,9 +15,7 @@ insert_some-requires c = omega (arith, after_some _ _ _ _ _ c.insert_some-r.ensu
 
 pub returns : goal.returns
 returns c =
-    let second = c in
-    let first = second in
-    let drag : option_of first.hit_id.result ≡ hit_id (view first.args.drag) = first.hit_id.ensures in
-    let click : option_of second.hit_id-2.result ≡ hit_id (view first.args.click) = second.hit_id-2.ensures in
+    let drag : option_of c.hit_id.result ≡ hit_id (view c.args.drag) = c.hit_id.ensures in
+    let click : option_of c.hit_id-2.result ≡ hit_id (view c.args.click) = c.hit_id-2.ensures in
     rw (← click, ← drag)
     (then_by _ _ _ _ c.insert_some-r.ensures (insert_some _) (λ t. (some_more _ t).0) _ _ c.insert_some.ensures)

@@ -19,8 +19,7 @@ loop-i-init c =
 
 pub loop-i-preserved : goal.loop-i-preserved
 loop-i-preserved c =
-    let o = c in
-    let v = o.loop-i.invariant in
+    let v = c.loop-i.invariant in
     let w = c.insert_id-r.ensures in (
       refl,
       omega arith,

@@ -20,11 +20,10 @@ loop-i-init c =
 
 pub loop-i-preserved : goal.loop-i-preserved
 loop-i-preserved c =
-    let o = c in
-    let v = o.loop-i.invariant in
+    let v = c.loop-i.invariant in
     let w = c.insert_if-r.ensures in
     let k = c.on_top-keep in
-    let d = get_or o.args.words.now (o.loop-i.i * 2) 0 in (
+    let d = get_or c.args.words.now (c.loop-i.i * 2) 0 in (
       refl,
       omega arith,
       v.2,

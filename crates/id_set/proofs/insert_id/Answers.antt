@@ -7,16 +7,13 @@ use Rattle.id_set.proofs.insert_id.Goals as goal
 
 pub returns-then-stands_at : goal.returns-then-stands_at
 returns-then-stands_at c =
-    let p = c in
-    found _ _ _ _ p.place_of-at.ensures (omega arith) (sym c.stands_at.ensures ∙ c.if-stands_at.true)
+    found _ _ _ _ c.place_of-at.ensures (omega arith) (sym c.stands_at.ensures ∙ c.if-stands_at.true)
 
 pub shift_in-requires : goal.shift_in-requires
 shift_in-requires c =
-    let p = c in
-    let a = p.args in
-    (rw (length-take-le a.count a.ids.now (omega arith)) at p.place_of-at.ensures.within, omega arith)
+    let a = c.args in
+    (rw (length-take-le a.count a.ids.now (omega arith)) at c.place_of-at.ensures.within, omega arith)
 
 pub returns : goal.returns
 returns c =
-    let s = c in
-    put _ _ _ _ s.place_of-at.ensures (omega arith) (sym s.stands_at.ensures ∙ c.if-stands_at.false) _ c.shift_in.ensures
+    put _ _ _ _ c.place_of-at.ensures (omega arith) (sym c.stands_at.ensures ∙ c.if-stands_at.false) _ c.shift_in.ensures

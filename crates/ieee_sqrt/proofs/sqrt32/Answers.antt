@@ -19,28 +19,23 @@ float_to_bits-b c = above_zero_number binary32 c.args.x (subst T (sym c.if-x-2.t
 
 pub root_bits-requires : goal.root_bits-requires
 root_bits-requires c =
-    let s = c in
-    record { format = binary32; keeps = refl; least = refl; above = some_bits binary32 s.args.x (held s) (subst T (sym c.if-x-2.true) tt); below = c.if-b-lt2139095040.true }
+    record { format = binary32; keeps = refl; least = refl; above = some_bits binary32 c.args.x (held (goal.at.root_bits-requires c).Start) (subst T (sym c.if-x-2.true) tt); below = c.if-b-lt2139095040.true }
 
 pub overflow_cast-result : goal.overflow_cast-result
 overflow_cast-result c =
-    let s = c in
-    omega (arith, (rooted_at binary32 s.args.x c.root_bits.result (held s) c.if-b-lt2139095040.true c.root_bits.ensures).0)
+    omega (arith, (rooted_at binary32 c.args.x c.root_bits.result (held (goal.at.overflow_cast-result c).Start) c.if-b-lt2139095040.true c.root_bits.ensures).0)
 
 pub float_from_bits-result : goal.float_from_bits-result
 float_from_bits-result c =
-    let s = c in
-    rooted_no_nan binary32 c.root_bits.result (rooted_at binary32 s.args.x c.root_bits.result (held s) c.if-b-lt2139095040.true c.root_bits.ensures).0
+    rooted_no_nan binary32 c.root_bits.result (rooted_at binary32 c.args.x c.root_bits.result (held (goal.at.float_from_bits-result c).Start) c.if-b-lt2139095040.true c.root_bits.ensures).0
 
 pub returns-then-b-lt2139095040 : goal.returns-then-b-lt2139095040
 returns-then-b-lt2139095040 c =
-    let s = c in
-    (rooted_at binary32 s.args.x c.root_bits.result (held s) c.if-b-lt2139095040.true c.root_bits.ensures).1
+    (rooted_at binary32 c.args.x c.root_bits.result (held (goal.at.returns-then-b-lt2139095040 c).Start) c.if-b-lt2139095040.true c.root_bits.ensures).1
 
 pub returns-else-b-lt2139095040 : goal.returns-else-b-lt2139095040
 returns-else-b-lt2139095040 c =
-    let s = c in
-    infinity_root binary32 s.args.x (held s) (subst T (sym c.if-x-2.true) tt) c.if-b-lt2139095040.false
+    infinity_root binary32 c.args.x (held (goal.at.returns-else-b-lt2139095040 c).Start) (subst T (sym c.if-x-2.true) tt) c.if-b-lt2139095040.false
 
 pub returns-else-x-2 : goal.returns-else-x-2
 returns-else-x-2 c = own_root binary32 c.args.x c.if-x.false c.if-x-2.false

@@ -17,23 +17,19 @@ float_to_bits-b c = above_zero_number binary64 c.args.x (subst T (sym c.if-x-2.t
 
 pub root_bits-requires : goal.root_bits-requires
 root_bits-requires c =
-    let s = c in
-    record { format = binary64; keeps = refl; least = refl; above = some_bits binary64 s.args.x (held s) (subst T (sym c.if-x-2.true) tt); below = c.if-b-lt9218868437227405312.true }
+    record { format = binary64; keeps = refl; least = refl; above = some_bits binary64 c.args.x (held (goal.at.root_bits-requires c).Start) (subst T (sym c.if-x-2.true) tt); below = c.if-b-lt9218868437227405312.true }
 
 pub float_from_bits-result : goal.float_from_bits-result
 float_from_bits-result c =
-    let s = c in
-    rooted_no_nan binary64 c.root_bits.result (rooted_at binary64 s.args.x c.root_bits.result (held s) c.if-b-lt9218868437227405312.true c.root_bits.ensures).0
+    rooted_no_nan binary64 c.root_bits.result (rooted_at binary64 c.args.x c.root_bits.result (held (goal.at.float_from_bits-result c).Start) c.if-b-lt9218868437227405312.true c.root_bits.ensures).0
 
 pub returns-then-b-lt9218868437227405312 : goal.returns-then-b-lt9218868437227405312
 returns-then-b-lt9218868437227405312 c =
-    let s = c in
-    (rooted_at binary64 s.args.x c.root_bits.result (held s) c.if-b-lt9218868437227405312.true c.root_bits.ensures).1
+    (rooted_at binary64 c.args.x c.root_bits.result (held (goal.at.returns-then-b-lt9218868437227405312 c).Start) c.if-b-lt9218868437227405312.true c.root_bits.ensures).1
 
 pub returns-else-b-lt9218868437227405312 : goal.returns-else-b-lt9218868437227405312
 returns-else-b-lt9218868437227405312 c =
-    let s = c in
-    infinity_root binary64 s.args.x (held s) (subst T (sym c.if-x-2.true) tt) c.if-b-lt9218868437227405312.false
+    infinity_root binary64 c.args.x (held (goal.at.returns-else-b-lt9218868437227405312 c).Start) (subst T (sym c.if-x-2.true) tt) c.if-b-lt9218868437227405312.false
 
 pub returns-else-x-2 : goal.returns-else-x-2
 returns-else-x-2 c = own_root binary64 c.args.x c.if-x.false c.if-x-2.false

@@ -13,12 +13,11 @@ loop-i-init c = (omega arith, rows_none _ _ _ _)
 
 pub loop-i-preserved : goal.loop-i-preserved
 loop-i-preserved c =
-    let e = c in
-    let l = e.loop-i in
-    let a = e.args in
+    let l = c.loop-i in
+    let a = c.args in
     let es = events_of_el (rows_at 6 (value_at event_code) l.i a.words.now a.at) in
     let k : length es ≡ l.i = rows_count a.words.now l.i a.at in
-    (omega arith, rw (rows_more a.words.now l.i a.at, ← e.event_at-e.ensures) (store_more es a.codes.now a.positions.now l.invariant.1 c.push-count.ensures (omega arith)))
+    (omega arith, rw (rows_more a.words.now l.i a.at, ← c.event_at-e.ensures) (store_more es a.codes.now a.positions.now l.invariant.1 c.push-count.ensures (omega arith)))
 
 pub returns : goal.returns
 returns c =

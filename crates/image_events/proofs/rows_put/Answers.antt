@@ -12,22 +12,18 @@ loop-i-init c = (omega arith, put_none _ _ _ _, each_none _ _)
 
 pub copy-requires : goal.copy-requires
 copy-requires c =
-    let w = c in
-    let l = w.loop-i in
-    let p : length w.event_words-part.result ≡ 6 = ap length w.event_words-part.ensures.0 ∙ six _ in
-    let q : length l.out ≡ length w.args.out.now = rw (l.invariant.1, length-sets) in
+    let l = c.loop-i in
+    let p : length c.event_words-part.result ≡ 6 = ap length c.event_words-part.ensures.0 ∙ six _ in
+    let q : length l.out ≡ length c.args.out.now = rw (l.invariant.1, length-sets) in
     omega (arith, p, q)
 
 pub loop-i-preserved : goal.loop-i-preserved
 loop-i-preserved c =
-    let w = c in
-    let e = w in
-    let x = e in
-    let l = x.loop-i in
-    let a = x.args in (
+    let l = c.loop-i in
+    let a = c.args in (
       omega arith,
-      c.copy.ensures ∙ rw (l.invariant.1, w.event_words-part.ensures.0, e.event_of.ensures, x.entry_at-x.ensures) (put_more a.codes.now a.positions.now a.out.now a.at l.i),
-      each_event a.codes.now a.positions.now l.i l.invariant.2 (rw (e.event_of.ensures, x.entry_at-x.ensures) at w.event_words-part.ensures.1),
+      c.copy.ensures ∙ rw (l.invariant.1, c.event_words-part.ensures.0, c.event_of.ensures, c.entry_at-x.ensures) (put_more a.codes.now a.positions.now a.out.now a.at l.i),
+      each_event a.codes.now a.positions.now l.i l.invariant.2 (rw (c.event_of.ensures, c.entry_at-x.ensures) at c.event_words-part.ensures.1),
     )
 
 pub shape_of-out : goal.shape_of-out

@@ -22,6 +22,5 @@ shape_of-out-in-Some c = rw (c.copy.ensures, length-sets, length-set)
 pub returns-in-Some : goal.returns-in-Some
 unfolding write option_words zeros size previous_el
 returns-in-Some c =
-    let w = c in
-    let g = w.in-Some.is in
-    (rw (g, c.copy.ensures, w.averages_words-part.ensures.0, add-one), rw g w.averages_words-part.ensures.1)
+    let g = c.in-Some.is in
+    (rw (g, c.copy.ensures, c.averages_words-part.ensures.0, add-one), rw g c.averages_words-part.ensures.1)

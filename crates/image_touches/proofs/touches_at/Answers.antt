@@ -27,8 +27,7 @@ pub returns : goal.returns
 unfolding bad_at value_at size
 returns c =
     let l = c.loop-i in
-    let s = c in
     let k = c.count_at-n.ensures in
     let e : l.i ≡ c.count_at-n.result = omega arith in
-    let n = k.1 (or_else_none _ _ s.requires.2).0 in
+    let n = k.1 (or_else_none _ _ c.requires.2).0 in
     (rw e at l.invariant.2) ∙ rw (n, add-one)

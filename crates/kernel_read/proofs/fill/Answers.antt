@@ -21,10 +21,8 @@ record_at-r-requires c = omega (arith, c.loop-i-test.true)
 pub write_record-at-requires : goal.write_record-at-requires
 unfolding all_records
 write_record-at-requires c =
-    let turn = c in
-    let now = turn.loop-i in
-    let begin = turn in
-    let go = going _ _ now.i now.at begin.args.bytes.now begin.args.feed.now now.feed begin.args.k now.kernel c.record_at-r.result turn.loop-i-test.true c.record_at-r.ensures begin.requires now.invariant.2 in
+    let now = c.loop-i in
+    let go = going _ _ now.i now.at c.args.bytes.now c.args.feed.now now.feed c.args.k now.kernel c.record_at-r.result c.loop-i-test.true c.record_at-r.ensures c.requires now.invariant.2 in
     omega (arith, go.room, now.invariant.1)
 
 pub overflow_add-i : goal.overflow_add-i
@@ -36,20 +34,17 @@ loop-i-smaller c = omega arith
 pub loop-i-preserved : goal.loop-i-preserved
 unfolding all_records
 loop-i-preserved c =
-    let wrote = c in
-    let read = wrote in
-    let turn = read in
-    let now = turn.loop-i in
-    let begin = turn in (
-      omega (arith, turn.loop-i-test.true),
-      ap length wrote.write_record-at.ensures.1 ∙ length_put _ _ now.feed ∙ now.invariant.1,
+    let now = c.loop-i in
+    (
+      omega (arith, c.loop-i-test.true),
+      ap length c.write_record-at.ensures.1 ∙ length_put _ _ now.feed ∙ now.invariant.1,
       rw (add-one now.i, c.after-kernel.ensures)
-          (fill_next begin.args.device _ now.i now.at begin.args.bytes.now begin.args.feed.now now.feed begin.args.k now.kernel read.record_at-r.result _ _
-          turn.loop-i-test.true
-          read.record_at-r.ensures
-          begin.requires
-          wrote.write_record-at.ensures.0
-          wrote.write_record-at.ensures.1
+          (fill_next c.args.device _ now.i now.at c.args.bytes.now c.args.feed.now now.feed c.args.k now.kernel c.record_at-r.result _ _
+          c.loop-i-test.true
+          c.record_at-r.ensures
+          c.requires
+          c.write_record-at.ensures.0
+          c.write_record-at.ensures.1
           now.invariant.2),
     )
 
@@ -60,13 +55,12 @@ pub returns : goal.returns
 unfolding all_records kernel_of words_of feed_of
 returns c =
     let now = c.loop-i in
-    let begin = c in
     let s = now.invariant.2 in
-    let is = fill_last begin.args.device _ now.i now.at begin.args.bytes.now begin.args.feed.now now.feed begin.args.k now.kernel c.loop-i-test.false s in
+    let is = fill_last c.args.device _ now.i now.at c.args.bytes.now c.args.feed.now now.feed c.args.k now.kernel c.loop-i-test.false s in
     record {
-      kernel = sym (ap (kernel_of begin.args.k) is);
+      kernel = sym (ap (kernel_of c.args.k) is);
       words = s.at_is ∙ sym (ap (λ (o : KernelOutcome). length (words_of o)) is);
       feed_is =
-          filled_feed begin.args.device _ now.i now.at begin.args.bytes.now begin.args.feed.now now.feed begin.args.k now.kernel s
-          ∙ sym (ap (feed_of begin.args.feed.now) is);
+          filled_feed c.args.device _ now.i now.at c.args.bytes.now c.args.feed.now now.feed c.args.k now.kernel s
+          ∙ sym (ap (feed_of c.args.feed.now) is);
     }

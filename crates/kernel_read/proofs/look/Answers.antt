@@ -24,24 +24,19 @@ record_at-r-requires c = omega (arith, c.loop-i-test.true)
 pub returns-in-Some : goal.returns-in-Some
 unfolding looked all_records
 returns-in-Some c =
-    let judged = c in
-    let read = judged in
-    let turn = read in
-    let now = turn.loop-i in
-    let bytes = turn.args.bytes.now in
+    let now = c.loop-i in
+    let bytes = c.args.bytes.now in
     (λ device.
     sym (ap (looked (held_dropped (all_records bytes)))
-    (look_refused device _ _ now.i now.left _ bytes _ now.kernel read.record_at-r.result _ turn.loop-i-test.true read.record_at-r.ensures
-    (judged.record_words-words.ensures device)
-    (sym judged.verdict-q.ensures ∙ c.in-Some.is)
+    (look_refused device _ _ now.i now.left _ bytes _ now.kernel c.record_at-r.result _ c.loop-i-test.true c.record_at-r.ensures
+    (c.record_words-words.ensures device)
+    (sym c.verdict-q.ensures ∙ c.in-Some.is)
     (now.invariant.2 device))))
 
 pub overflow_sub-left : goal.overflow_sub-left
 overflow_sub-left c =
-    let judged = c in
-    let read = judged in
-    let now = read.loop-i in
-    has_room 0 _ now.left read.record_at-r.result now.kernel (judged.record_words-words.ensures 0) (sym judged.verdict-q.ensures ∙ c.in_default.is)
+    let now = c.loop-i in
+    has_room 0 _ now.left c.record_at-r.result now.kernel (c.record_words-words.ensures 0) (sym c.verdict-q.ensures ∙ c.in_default.is)
 
 pub overflow_add-i : goal.overflow_add-i
 overflow_add-i c = omega arith
@@ -51,18 +46,15 @@ loop-i-smaller c = omega arith
 
 pub loop-i-preserved : goal.loop-i-preserved
 loop-i-preserved c =
-    let judged = c in
-    let read = judged in
-    let turn = read in
-    let now = turn.loop-i in
-    let bytes = turn.args.bytes.now in (
-      omega (arith, turn.loop-i-test.true),
-      rw (add-one now.i) (held_next _ now.i bytes read.record_at-r.result now.dropped _ turn.loop-i-test.true read.record_at-r.ensures c.is_dropped-dropped.ensures ∙ now.invariant.1),
+    let now = c.loop-i in
+    let bytes = c.args.bytes.now in (
+      omega (arith, c.loop-i-test.true),
+      rw (add-one now.i) (held_next _ now.i bytes c.record_at-r.result now.dropped _ c.loop-i-test.true c.record_at-r.ensures c.is_dropped-dropped.ensures ∙ now.invariant.1),
       λ device.
           rw (add-one now.i, c.after-kernel.ensures)
-          (look_next device _ _ now.i now.left _ bytes _ now.kernel read.record_at-r.result turn.loop-i-test.true read.record_at-r.ensures
-          (judged.record_words-words.ensures device)
-          (sym judged.verdict-q.ensures ∙ c.in_default.is)
+          (look_next device _ _ now.i now.left _ bytes _ now.kernel c.record_at-r.result c.loop-i-test.true c.record_at-r.ensures
+          (c.record_words-words.ensures device)
+          (sym c.verdict-q.ensures ∙ c.in_default.is)
           (now.invariant.2 device)),
     )
 

@@ -9,19 +9,15 @@ returns-then-bytes-ne0 c =
 
 pub fill-f-requires : goal.fill-f-requires
 fill-f-requires c =
-    let judged = c in
-    let begin = judged.args in
-    will_fit begin.k begin.device begin.bytes.now begin.feed.now _ _ (judged.look.ensures begin.device) c.in-Fits.is
+    let begin = c.args in
+    will_fit begin.k begin.device begin.bytes.now begin.feed.now _ _ (c.look.ensures begin.device) c.in-Fits.is
 
 pub returns-in-Refused : goal.returns-in-Refused
 returns-in-Refused c =
-    let judged = c in
-    let begin = judged.args in
-    refused_record begin.k begin.device begin.bytes.now begin.feed.now _ _ judged.if-bytes-ne0.false (judged.look.ensures begin.device) c.in-Refused.is
+    let begin = c.args in
+    refused_record begin.k begin.device begin.bytes.now begin.feed.now _ _ c.if-bytes-ne0.false (c.look.ensures begin.device) c.in-Refused.is
 
 pub returns-in-Fits : goal.returns-in-Fits
 returns-in-Fits c =
-    let filled = c in
-    let judged = filled in
-    let begin = judged.args in
-    taken_reads begin.k begin.device begin.bytes.now begin.feed.now _ _ filled.fill-f.result _ judged.if-bytes-ne0.false (judged.look.ensures begin.device) filled.in-Fits.is filled.fill-f.ensures
+    let begin = c.args in
+    taken_reads begin.k begin.device begin.bytes.now begin.feed.now _ _ c.fill-f.result _ c.if-bytes-ne0.false (c.look.ensures begin.device) c.in-Fits.is c.fill-f.ensures

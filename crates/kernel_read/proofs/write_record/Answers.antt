@@ -9,20 +9,16 @@ use Rattle.kernel_read.proofs.write_record.Goals as goal
 
 pub write_report-requires : goal.write_report-requires
 write_report-requires c =
-    let begin = c in
-    let is : acts begin.args.r begin.args.k ≡ true = sym c.acts.ensures ∙ c.if-acts.true in
-    rw (report_events begin.args.device begin.args.r begin.args.k is) at begin.requires
+    let is : acts c.args.r c.args.k ≡ true = sym c.acts.ensures ∙ c.if-acts.true in
+    rw (report_events c.args.device c.args.r c.args.k is) at c.requires
 
 pub returns-then-acts : goal.returns-then-acts
 returns-then-acts c =
-    let tested = c in
-    let begin = tested in
-    let is : acts begin.args.r begin.args.k ≡ true = sym tested.acts.ensures ∙ tested.if-acts.true in
-    rw (report_events begin.args.device begin.args.r begin.args.k is) c.write_report.ensures
+    let is : acts c.args.r c.args.k ≡ true = sym c.acts.ensures ∙ c.if-acts.true in
+    rw (report_events c.args.device c.args.r c.args.k is) c.write_report.ensures
 
 pub returns : goal.returns
 unfolding put
 returns c =
-    let begin = c in
-    let is : acts begin.args.r begin.args.k ≡ false = sym c.acts.ensures ∙ c.if-acts.false in
-    rw (no_words begin.args.device begin.args.r begin.args.k is) (omega arith, refl)
+    let is : acts c.args.r c.args.k ≡ false = sym c.acts.ensures ∙ c.if-acts.false in
+    rw (no_words c.args.device c.args.r c.args.k is) (omega arith, refl)

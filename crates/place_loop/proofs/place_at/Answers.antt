@@ -33,23 +33,19 @@ returns-in_default-gone_at c =
 
 pub returns-in-PointerMoved : goal.returns-in-PointerMoved
 returns-in-PointerMoved c =
-    let e = c in
-    rw (← e.moved_at.ensures, e.in-PointerMoved.is) c.moved_place.ensures
+    rw (← c.moved_at.ensures, c.in-PointerMoved.is) c.moved_place.ensures
 
 pub returns-in-MouseMoved : goal.returns-in-MouseMoved
 returns-in-MouseMoved c =
-    let e = c in
-    rw (← e.motion_at.ensures, e.in-MouseMoved.is) c.motion_place.ensures
+    rw (← c.motion_at.ensures, c.in-MouseMoved.is) c.motion_place.ensures
 
 pub returns-in-PointerButton : goal.returns-in-PointerButton
 returns-in-PointerButton c =
-    let e = c in
-    rw (← e.button_at.ensures, e.in-PointerButton.is) (c.button_place.ensures _ _)
+    rw (← c.button_at.ensures, c.in-PointerButton.is) (c.button_place.ensures _ _)
 
 pub returns-in-PointerGone : goal.returns-in-PointerGone
 returns-in-PointerGone c =
-    let e = c in
-    rw (← e.Gone-at.ensures, e.in-PointerGone.is) c.gone_place.ensures
+    rw (← c.Gone-at.ensures, c.in-PointerGone.is) c.gone_place.ensures
 
 pub returns-in_default : goal.returns-in_default
 returns-in_default c =

@@ -23,27 +23,24 @@ held c = subst T (sym c.well_formed.1.0.1) tt
 pub returns-then-square-d : goal.returns-then-square-d
 unfolding of_bits
 returns-then-square-d c =
-    let st = c in
-    let d = st.args.dist in
+    let d = c.args.dist in
     let above : le +0 d ≡ true = c.if-dist.true in
     let w = c.widen-d.result in
     let within : le c.length_sq64-square.result (mul binary64 w w) ≡ true = c.if-square-d.true in
-    sym (inside d st.args.v (held st) (holds above) (holds (rw (c.length_sq64-square.ensures, c.widen-d.ensures) at within)))
+    sym (inside d c.args.v (held (goal.at.returns-then-square-d c).Start) (holds above) (holds (rw (c.length_sq64-square.ensures, c.widen-d.ensures) at within)))
 
 pub returns-then-e-square : goal.returns-then-e-square
 unfolding of_bits
 returns-then-e-square c =
-    let after = c in
-    let st = after in
-    let d = st.args.dist in
-    let above : le +0 d ≡ true = after.if-dist.true in
+    let d = c.args.dist in
+    let above : le +0 d ≡ true = c.if-dist.true in
     let past = mul binary32 d more in
     let further : lt d past ≡ true = c.if-dist-past.true in
     let e = c.widen-e.result in
-    let beyond : le (mul binary64 e e) after.length_sq64-square.result ≡ true = c.if-e-square.true in
+    let beyond : le (mul binary64 e e) c.length_sq64-square.result ≡ true = c.if-e-square.true in
     sym
-    (outside d past st.args.v (mul-fits binary32 d more) (le_lt_trans +0 d past (holds above) (holds further)) (holds further)
-    (holds (rw (after.length_sq64-square.ensures, c.widen-e.ensures) at beyond)))
+    (outside d past c.args.v (mul-fits binary32 d more) (le_lt_trans +0 d past (holds above) (holds further)) (holds further)
+    (holds (rw (c.length_sq64-square.ensures, c.widen-e.ensures) at beyond)))
 
 pub returns : goal.returns
 returns c = rw c.length.ensures

@@ -16,21 +16,19 @@ loop-i-init c = (omega arith, omega arith, λ ps. rw c.counted-n.ensures (whole 
 pub returns-then-matches : goal.returns-then-matches
 unfolding entry_at
 returns-then-matches c ps =
-    let o = c in
-    let v = o.args in
-    found _ v.codes.now ps _ _ o.loop-i-test.true (sym (c.matches.ensures (entry_at v.codes.now ps _) refl refl refl) ∙ c.if-matches.true)
-    ∙ o.loop-i.invariant.2 ps
+    let v = c.args in
+    found _ v.codes.now ps _ _ c.loop-i-test.true (sym (c.matches.ensures (entry_at v.codes.now ps _) refl refl refl) ∙ c.if-matches.true)
+    ∙ c.loop-i.invariant.2 ps
 
 pub loop-i-preserved : goal.loop-i-preserved
 unfolding entry_at
 loop-i-preserved c =
-    let o = c in
-    let v = o.args in (
+    let v = c.args in (
       omega arith,
-      o.loop-i.invariant.1,
+      c.loop-i.invariant.1,
       λ ps.
-          passed _ v.codes.now ps _ _ o.loop-i-test.true (sym (c.matches.ensures (entry_at v.codes.now ps _) refl refl refl) ∙ c.if-matches.false)
-          ∙ o.loop-i.invariant.2 ps,
+          passed _ v.codes.now ps _ _ c.loop-i-test.true (sym (c.matches.ensures (entry_at v.codes.now ps _) refl refl refl) ∙ c.if-matches.false)
+          ∙ c.loop-i.invariant.2 ps,
     )
 
 pub returns : goal.returns

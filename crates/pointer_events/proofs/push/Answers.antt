@@ -7,16 +7,15 @@ use Rattle.pointer_events.proofs.push.Goals as goal
 
 pub returns-then-count-lt-MAX_EVENTS : goal.returns-then-count-lt-MAX_EVENTS
 returns-then-count-lt-MAX_EVENTS c =
-    let o = c in
-    let v = o.args in
-    let x = o.entry_of-x.ensures in
+    let v = c.args in
+    let x = c.entry_of-x.ensures in
     let k = c.set_codes.ensures in
     let q = c.set_position.ensures in
-    let t = o.if-count-lt-MAX_EVENTS.true in
+    let t = c.if-count-lt-MAX_EVENTS.true in
     record {
       result =
           rw (k, q)
-          (pushed v.codes.now v.positions.now v.count o.entry_of-x.result (search rules) (search rules) t v.e (ap event_of x ∙ event_back v.e));
+          (pushed v.codes.now v.positions.now v.count c.entry_of-x.result (search rules) (search rules) t v.e (ap event_of x ∙ event_back v.e));
       count = rw (lt-ltb _ _ t);
       codes_after = rw (lt-ltb _ _ t, k, x);
       positions_after = rw (lt-ltb _ _ t, q, x);

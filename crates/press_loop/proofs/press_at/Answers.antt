@@ -14,8 +14,7 @@ returns-in_default c =
 
 pub returns-then-kind-eq-MOVED_KIND : goal.returns-then-kind-eq-MOVED_KIND
 returns-then-kind-eq-MOVED_KIND c =
-    let e = c in
-    rw (← e.moved_at-e.ensures, e.in-PointerMoved.is) (c.moved.ensures _)
+    rw (← c.moved_at-e.ensures, c.in-PointerMoved.is) (c.moved.ensures _)
 
 pub returns-in_default-e : goal.returns-in_default-e
 returns-in_default-e c =
@@ -24,8 +23,7 @@ returns-in_default-e c =
 
 pub returns-then-kind-eq-BUTTON_KIND : goal.returns-then-kind-eq-BUTTON_KIND
 returns-then-kind-eq-BUTTON_KIND c =
-    let e = c in
-    rw (← e.button_at-e.ensures, e.in-PointerButton.is) c.button_event.ensures
+    rw (← c.button_at-e.ensures, c.in-PointerButton.is) c.button_event.ensures
 
 pub returns : goal.returns
 returns c =

@@ -15,16 +15,13 @@ loop-i-init c =
 
 pub loop-i-preserved : goal.loop-i-preserved
 loop-i-preserved c =
-    let o = c in
-    let l = o in
-    let a = l.args in
+    let a = c.args in
     let listed = c.listed-at.ensures in
-    (omega arith, walked_on a.options a.time _ _ _ l.loop-i.i l.loop-i.invariant.1 c.press_at-t.ensures (omega arith) (rw listed ((press_loop _ _).goes_on _ _ _ _ _)))
+    (omega arith, walked_on a.options a.time _ _ _ c.loop-i.i c.loop-i.invariant.1 c.press_at-t.ensures (omega arith) (rw listed ((press_loop _ _).goes_on _ _ _ _ _)))
 
 pub returns : goal.returns
 returns c =
-    let l = c in
-    let a = l.args in
-    let e : l.loop-i.i ≡ a.count = omega arith in
-    let cleared = l.clear_events-held.ensures a.codes.now a.positions.now in
-    walk_ends _ _ _ _ a.s (rw e at l.loop-i.invariant.1) (ap (λ (h : Held). record { held = h; past = past a.s.past }) cleared)
+    let a = c.args in
+    let e : c.loop-i.i ≡ a.count = omega arith in
+    let cleared = c.clear_events-held.ensures a.codes.now a.positions.now in
+    walk_ends _ _ _ _ a.s (rw e at c.loop-i.invariant.1) (ap (λ (h : Held). record { held = h; past = past a.s.past }) cleared)

@@ -23,8 +23,7 @@ returns-then-any_touches c = rw (← first_of c.len-n.result c.args.ds.count c.a
 pub loop-i-preserved : goal.loop-i-preserved
 unfolding any_touches_at
 loop-i-preserved c =
-    let o = c in
-    (omega arith, o.loop-i.invariant.1, o.loop-i.invariant.2, any_skips _ _ _ _ c.loop-i-test.true o.loop-i.invariant.1 (sym c.any_touches.ensures ∙ c.if-any_touches.false) ∙ o.loop-i.invariant.3)
+    (omega arith, c.loop-i.invariant.1, c.loop-i.invariant.2, any_skips _ _ _ _ c.loop-i-test.true c.loop-i.invariant.1 (sym c.any_touches.ensures ∙ c.if-any_touches.false) ∙ c.loop-i.invariant.3)
 
 pub returns : goal.returns
 returns c = rw (← first_of c.len-n.result c.args.ds.count c.args.ds.places c.len-n.ensures) (any_ends _ _ _ c.loop-i-test.false c.loop-i.invariant.1 ∙ c.loop-i.invariant.3)

@@ -17,17 +17,14 @@ loop-i-init c =
 
 pub returns-then-x-id : goal.returns-then-x-id
 returns-then-x-id c =
-    let o = c in
     let h = c.loop-i-test.true in
-    rw (← first_of _ _ _ o.len-n.ensures) (index_stops touch_id_of _ _ _ _ _ h o.loop-i.invariant.1 (eq-eqb _ _ (sym c.if-x-id.true)) ∙ o.loop-i.invariant.3)
+    rw (← first_of _ _ _ c.len-n.ensures) (index_stops touch_id_of _ _ _ _ _ h c.loop-i.invariant.1 (eq-eqb _ _ (sym c.if-x-id.true)) ∙ c.loop-i.invariant.3)
 
 pub loop-i-preserved : goal.loop-i-preserved
 loop-i-preserved c =
-    let o = c in
     let h = c.loop-i-test.true in
-    (omega arith, o.loop-i.invariant.1, o.loop-i.invariant.2, index_skips touch_id_of _ _ _ _ _ h o.loop-i.invariant.1 (ne_eqb _ _ (λ e. c.if-x-id.false (sym e))) ∙ o.loop-i.invariant.3)
+    (omega arith, c.loop-i.invariant.1, c.loop-i.invariant.2, index_skips touch_id_of _ _ _ _ _ h c.loop-i.invariant.1 (ne_eqb _ _ (λ e. c.if-x-id.false (sym e))) ∙ c.loop-i.invariant.3)
 
 pub returns : goal.returns
 returns c =
-    let o = c in
-    rw (← first_of _ _ _ o.len-n.ensures) (index_ends touch_id_of _ _ _ _ c.loop-i-test.false o.loop-i.invariant.1 ∙ o.loop-i.invariant.3)
+    rw (← first_of _ _ _ c.len-n.ensures) (index_ends touch_id_of _ _ _ _ c.loop-i-test.false c.loop-i.invariant.1 ∙ c.loop-i.invariant.3)

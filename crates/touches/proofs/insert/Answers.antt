@@ -23,20 +23,18 @@ loop-i-init c =
 
 pub returns-then-x-t : goal.returns-then-x-t
 returns-then-x-t c =
-    let o = c in
-    let s = o.loop-i.s in
-    let v = o.loop-i.invariant in
+    let s = c.loop-i.s in
+    let v = c.loop-i.invariant in
     let h = c.loop-i-test.true in
     let at = replaces _ _ _ _ _ h v.1 _ s.count v.3 _ c.if-shifting.false (eq-eqb _ _ (sym c.if-x-t.true)) ∙ v.5 in
-    fitting _ _ _ at (omega (arith, length_set_first s.count o.loop-i.i s.places o.args.t))
+    fitting _ _ _ at (omega (arith, length_set_first s.count c.loop-i.i s.places c.args.t))
 
 pub loop-i-preserved : goal.loop-i-preserved
 loop-i-preserved c =
-    let o = c in
-    let s = o.loop-i.s in
-    let v = o.loop-i.invariant in
+    let s = c.loop-i.s in
+    let v = c.loop-i.invariant in
     let h = c.loop-i-test.true in
-    let same = length_set_first s.count o.loop-i.i s.places o.loop-i.carry in
+    let same = length_set_first s.count c.loop-i.i s.places c.loop-i.carry in
     ⊎_elim
     (λ w. (omega arith, rw (w.1, length-set) v.1, rw (w.1, length-set) v.2, rw w.1 (v.3 ∙ sym same), λ q. no (sym q ∙ w.0.taken), rw (w.1, w.2) (shifts _ _ _ _ _ h v.1 _ _ v.4 w.0.taken ∙ v.5)))
     (λ w. (omega arith, rw w.4 v.1, rw w.4 v.2, rw w.4 v.3, λ q. rw w.5 (v.4 (not_yet _ _ q)), rw (w.4, w.5) (passes _ _ _ _ _ h v.1 _ _ w.0.left (ne_eqb _ _ (λ e. w.3.left (sym e))) ∙ v.5)))

@@ -20,9 +20,8 @@ loop-i-init c =
 
 pub returns-then-x-t : goal.returns-then-x-t
 returns-then-x-t c =
-    let o = c in
-    let s = o.loop-i.s in
-    let v = o.loop-i.invariant in
+    let s = c.loop-i.s in
+    let v = c.loop-i.invariant in
     let h = c.loop-i-test.true in
     rw (← v.4) (set_first s.count _ s.places _ (rw v.3 at h) ∙ move_at _ _ _ (index_stops touch_id_of _ _ _ _ _ h v.1 (eq-eqb _ _ (sym c.if-x-t.true)) ∙ v.5))
 

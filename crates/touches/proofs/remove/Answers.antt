@@ -27,7 +27,6 @@ loop-i-preserved c =
 
 pub returns : goal.returns
 returns c =
-    let o = c in
     let len = c.len-n in
     let v = c.loop-i.invariant in
-    rw (← first_of len.result o.args.ts.count o.args.ts.places len.ensures) (kept_end o.args.id _ _ _ _ c.loop-i-test.false (omega arith) ∙ (v.4 ∙ kept_start _ _ _))
+    rw (← first_of len.result c.args.ts.count c.args.ts.places len.ensures) (kept_end c.args.id _ _ _ _ c.loop-i-test.false (omega arith) ∙ (v.4 ∙ kept_start _ _ _))

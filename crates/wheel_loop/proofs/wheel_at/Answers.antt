@@ -16,8 +16,7 @@ returns-in_default c =
 pub returns-then-kind_at-eq-WHEEL_KIND : goal.returns-then-kind_at-eq-WHEEL_KIND
 unfolding wheel_event
 returns-then-kind_at-eq-WHEEL_KIND c =
-    let e = c in
-    rw (← e.wheel_at-e.ensures, e.in-MouseWheel.is) c.stepped.ensures
+    rw (← c.wheel_at-e.ensures, c.in-MouseWheel.is) c.stepped.ensures
 
 pub returns : goal.returns
 returns c = sym (wheel_idle _ _ _ _ _ (not_of_kind _ _ wheel_kind (λ e. c.if-kind_at-eq-WHEEL_KIND.false (c.kind_at.ensures ∙ e)) (λ e. omega arith)))

@@ -16,8 +16,7 @@ returns-in_default c =
 pub returns-then-kind_at-eq-ROTATE_KIND : goal.returns-then-kind_at-eq-ROTATE_KIND
 unfolding rotation_event
 returns-then-kind_at-eq-ROTATE_KIND c =
-    let r = c in
-    rw (← r.rotate_at-e.ensures, c.in-Rotate.is)
+    rw (← c.rotate_at-e.ensures, c.in-Rotate.is)
 
 pub returns : goal.returns
 returns c = sym (rotation_idle _ _ (not_of_kind _ _ rotate_kind (λ e. c.if-kind_at-eq-ROTATE_KIND.false (c.kind_at.ensures ∙ e)) (λ e. omega arith)))

@@ -16,8 +16,7 @@ returns-in_default c =
 pub returns-then-kind_at-eq-ZOOM_KIND : goal.returns-then-kind_at-eq-ZOOM_KIND
 unfolding zoom_event
 returns-then-kind_at-eq-ZOOM_KIND c =
-    let r = c in
-    rw (← r.zoom_at-e.ensures, c.in-Zoom.is)
+    rw (← c.zoom_at-e.ensures, c.in-Zoom.is)
 
 pub returns : goal.returns
 returns c = sym (zoom_idle _ _ (not_of_kind _ _ zoom_kind (λ e. c.if-kind_at-eq-ZOOM_KIND.false (c.kind_at.ensures ∙ e)) (λ e. omega arith)))

@@ -39,7 +39,7 @@ pub float_to_bits-bits : goal.float_to_bits-bits
 float_to_bits-bits c = number c.args.exponent (is_true c.if-exponent-2.true)
 
 pub units-size-requires : goal.units-size-requires
-units-size-requires c = let s = c in pattern_small s.args.exponent (held s) (is_true (above s.args.exponent true c.if-exponent.true)) (is_true c.if-exponent-2.true)
+units-size-requires c = pattern_small c.args.exponent (held (goal.at.units-size-requires c).Start) (is_true (above c.args.exponent true c.if-exponent.true)) (is_true c.if-exponent-2.true)
 
 pub series-sum-requires : goal.series-sum-requires
 series-sum-requires c = c.units-size.ensures.small
@@ -50,12 +50,10 @@ nearest-requires c = (c.series-sum.ensures c.units-size.result (2 ^ 30) c.units-
 pub returns-then-exponent-2 : goal.returns-then-exponent-2
 unfolding unit_sized
 returns-then-exponent-2 c =
-    let k = c in
-    let s = k in
-    let a = above s.args.exponent true k.if-exponent.true in
-    let b = k.if-exponent-2.true in (
-      both (le (of_bits binary32 0xbf80_0000) s.args.exponent) (le s.args.exponent (of_bits binary32 0x3f80_0000)) a b,
-      answer s.args.exponent (held s) (is_true a) (is_true b) c.units-size.result c.series-sum.result c.nearest.result c.units-size.ensures c.series-sum.ensures c.nearest.ensures,
+    let a = above c.args.exponent true c.if-exponent.true in
+    let b = c.if-exponent-2.true in (
+      both (le (of_bits binary32 0xbf80_0000) c.args.exponent) (le c.args.exponent (of_bits binary32 0x3f80_0000)) a b,
+      answer c.args.exponent (held (goal.at.returns-then-exponent-2 c).Start) (is_true a) (is_true b) c.units-size.result c.series-sum.result c.nearest.result c.units-size.ensures c.series-sum.ensures c.nearest.ensures,
     )
 
 pub returns-else-exponent-2 : goal.returns-else-exponent-2

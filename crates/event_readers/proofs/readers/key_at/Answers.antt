@@ -10,9 +10,8 @@ use Rattle.event_readers.proofs.readers.key_at.Goals as goal
 pub returns-then-at-feed : goal.returns-then-at-feed
 unfolding shape_by_kind
 returns-then-at-feed c =
-    let start = c in
-    let a = start.args in
-    let is = start.requires in
+    let a = c.args in
+    let is = c.requires in
     c.event_or_other.ensures ∙ rw (c.key_shape-e.ensures, whole_as a.feed.now a.at key_kind is c.if-at-feed.true (omega arith))
 
 pub returns : goal.returns

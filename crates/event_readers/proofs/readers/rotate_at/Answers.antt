@@ -11,16 +11,14 @@ use Rattle.event_readers.proofs.readers.rotate_at.Goals as goal
 pub returns-then-feed-at-gt1 : goal.returns-then-feed-at-gt1
 unfolding shape_by_kind
 returns-then-feed-at-gt1 c =
-    let start = c in
-    let a = start.args in
-    let is = start.requires in
+    let a = c.args in
+    let is = c.requires in
     c.event_or_other.ensures ∙ rw (c.rotate_shape-e.ensures, whole_as a.feed.now a.at rotate_kind is c.if-at-feed.true (omega arith), word_after _ _ 0)
 
 pub returns-then-at-feed : goal.returns-then-at-feed
 returns-then-at-feed c =
-    let start = c in
-    let a = start.args in
-    let is = start.requires in
+    let a = c.args in
+    let is = c.requires in
     sym (short_as a.feed.now a.at rotate_kind is c.if-at-feed.true (omega arith))
 
 pub returns : goal.returns

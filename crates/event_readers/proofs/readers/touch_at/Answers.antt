@@ -10,16 +10,14 @@ use Rattle.event_readers.proofs.readers.touch_at.Goals as goal
 pub returns-then-n-feed : goal.returns-then-n-feed
 unfolding shape_by_kind
 returns-then-n-feed c =
-    let start = c in
-    let a = start.args in
-    let is = start.requires in
+    let a = c.args in
+    let is = c.requires in
     c.event_or_other.ensures ∙ rw (c.touch_shape-e.ensures, whole_as a.feed.now a.at touch_kind is c.if-at-feed.true (omega arith))
 
 pub returns-then-at-feed : goal.returns-then-at-feed
 returns-then-at-feed c =
-    let start = c in
-    let a = start.args in
-    let is = start.requires in
+    let a = c.args in
+    let is = c.requires in
     sym (short_as a.feed.now a.at touch_kind is c.if-at-feed.true (omega arith))
 
 pub returns : goal.returns

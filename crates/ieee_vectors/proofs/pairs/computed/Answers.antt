@@ -20,11 +20,11 @@ kind_2 : (k x : ℕ) → (k ≡ 0 → ⊥) → (k ≡ 1 → ⊥) → to_bits bin
 kind_2 k x a b = rw (differ k 0 a, differ k 1 b)
 
 pub returns-then-kind-eq0 : goal.returns-then-kind-eq0
-returns-then-kind-eq0 c = let s = c in cc (kind_0 s.args.kind s.args.x c.if-kind-eq0.true)
+returns-then-kind-eq0 c = cc (kind_0 c.args.kind c.args.x c.if-kind-eq0.true)
 
 pub returns-then-kind-eq1 : goal.returns-then-kind-eq1
-returns-then-kind-eq1 c = let s = c in cc (kind_1 s.args.kind s.args.x c.if-kind-eq1.true)
+returns-then-kind-eq1 c = cc (kind_1 c.args.kind c.args.x c.if-kind-eq1.true)
 
 pub returns : goal.returns
 returns c =
-    let s = c in cc (kind_2 s.args.kind s.args.x c.if-kind-eq0.false c.if-kind-eq1.false)
+    cc (kind_2 c.args.kind c.args.x c.if-kind-eq0.false c.if-kind-eq1.false)

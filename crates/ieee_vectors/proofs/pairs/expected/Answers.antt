@@ -12,7 +12,7 @@ wide_kind : (k y : ℕ) → 2 ≤ k → to_bits binary64 (of_bits binary64 y) �
 wide_kind k y h = rw (is_false (ltb k 2) (not_T (ltb k 2) (λ t. not-le_of_lt (ltb→lt k 2 t) h)))
 
 pub returns-then-kind-lt2 : goal.returns-then-kind-lt2
-returns-then-kind-lt2 c = let s = c in cc (narrow_kind s.args.kind s.args.y c.if-kind-lt2.true)
+returns-then-kind-lt2 c = cc (narrow_kind c.args.kind c.args.y c.if-kind-lt2.true)
 
 pub returns : goal.returns
-returns c = let s = c in cc (wide_kind s.args.kind s.args.y c.if-kind-lt2.false)
+returns c = cc (wide_kind c.args.kind c.args.y c.if-kind-lt2.false)

@@ -10,7 +10,7 @@ use borrow.Author.Rules.{rules}
 use Rattle.image_keys.proofs.group.keys_at.Goals as goal
 
 pub presses_at-requires : goal.presses_at-requires
-presses_at-requires c = let s = c in (search rules, search rules, presses_sound s.args.words.now s.requires)
+presses_at-requires c = (search rules, search rules, presses_sound c.args.words.now c.requires)
 
 pub returns : goal.returns
 unfolding value_at span size

@@ -31,12 +31,11 @@ pub loop-i-preserved : goal.loop-i-preserved
 loop-i-preserved c =
     let l = c.loop-i in
     let h = c.loop-i-test.true in
-    let s = c in
-    let a = s.args in
+    let a = c.args in
     let ws = a.words.now in
     let i = l.i in
-    let small : i < key_count = omega (arith, s.requires.0, l.invariant.1) in
-    let w = c.byte.ensures ∙ ap (λ (z : ℕ). z % 256) c.word_at.ensures ∙ byte_of ws key_count a.at s.requires.2 i small in
+    let small : i < key_count = omega (arith, c.requires.0, l.invariant.1) in
+    let w = c.byte.ensures ∙ ap (λ (z : ℕ). z % 256) c.word_at.ensures ∙ byte_of ws key_count a.at c.requires.2 i small in
     (simp length-set (omega arith), simp length-set l.invariant.1, read_more l.presses ws a.at i c.byte.result h w l.invariant.2)
 
 pub shape_of-presses : goal.shape_of-presses
@@ -44,8 +43,7 @@ shape_of-presses c = c.loop-i.invariant.1
 
 pub returns : goal.returns
 returns c =
-    let s = c in
-    let a = s.args in
+    let a = c.args in
     let l = c.loop-i in
-    let e : l.i ≡ key_count = omega (arith, s.requires.0, l.invariant.0, l.invariant.1, c.loop-i-test.false) in
+    let e : l.i ≡ key_count = omega (arith, c.requires.0, l.invariant.0, l.invariant.1, c.loop-i-test.false) in
     sym (take_all _ _ c.loop-i-test.false) ∙ l.invariant.2 ∙ ap (λ (k : ℕ). rows_at 1 (value_at press_code) k a.words.now a.at) e

@@ -44,8 +44,7 @@ shape_of-out c = rw (c.loop-i.invariant.1, length-sets)
 
 pub returns : goal.returns
 returns c =
-    let s = c in
-    let a = s.args in
+    let a = c.args in
     let l = c.loop-i.invariant in
     let e : take c.loop-i.i a.presses.now ≡ a.presses.now = take_all _ _ c.loop-i-test.false in
-    (l.1 ∙ ap (sets a.out.now a.at) e, subst (Each (In press_code)) e l.2, s.requires.0)
+    (l.1 ∙ ap (sets a.out.now a.at) e, subst (Each (In press_code)) e l.2, c.requires.0)

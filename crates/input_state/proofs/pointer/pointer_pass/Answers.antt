@@ -4,12 +4,11 @@ use Rattle.input_state.proofs.pointer.pointer_pass.Goals as goal
 
 pub returns : goal.returns
 returns c =
-    let d = c in
-    let a = d.args in
-    let press = d.press_pass-press in
+    let a = c.args in
+    let press = c.press_pass-press in
     record {
-      place_is = d.place_pass-place.ensures;
+      place_is = c.place_pass-place.ensures;
       press_is = press.ensures;
       moved_is = c.last_move_time-last.ensures press.new.1.1.0;
-      started_is = d.started_decidedly_dragging-started.ensures press.new.1.1.0 ∙ rw (d.is_decidedly_dragging-was.ensures a.places.now);
+      started_is = c.started_decidedly_dragging-started.ensures press.new.1.1.0 ∙ rw (c.is_decidedly_dragging-was.ensures a.places.now);
     }

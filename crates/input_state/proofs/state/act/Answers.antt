@@ -10,25 +10,22 @@ use Rattle.input_state.proofs.state.act.Goals as goal
 
 pub pointer_pass-pointer-requires : goal.pointer_pass-pointer-requires
 pointer_pass-pointer-requires c =
-    let start = c in
-    let p = start.requires in
-    few _ _ start.args.t10 p.lists pointer_list (omega arith) p.few
+    let p = c.requires in
+    few _ _ c.args.t10 p.lists pointer_list (omega arith) p.few
 
 pub keys_pass-keys-requires : goal.keys_pass-keys-requires
 keys_pass-keys-requires c =
-    let start = c in
-    let p = start.requires in
-    few _ _ start.args.t10 p.lists keys_list (omega arith) p.few
+    let p = c.requires in
+    few _ _ c.args.t10 p.lists keys_list (omega arith) p.few
 
 pub returns : goal.returns
 unfolding time_of decidedly_dragging
 returns c =
-    let start = c in
-    let a = start.args in
+    let a = c.args in
     let ws = a.feed.now in
     let ps = a.lists.now in
     let cs = a.t10 in
-    let ls = start.requires.lists in
+    let ls = c.requires.lists in
     let time = c.time_of-time.ensures in
     let pointer = c.pointer_pass-pointer.ensures in
     let placed = place_all ws ps cs ls (rw time at pointer.place_is) in

@@ -7,35 +7,31 @@ use Rattle.kernel_report.proofs.change.replaced.Goals as goal
 pub returns-then-is_finger-2 : goal.returns-then-is_finger-2
 unfolding replaced
 returns-then-is_finger-2 c =
-    let s = c in
     rw (
-      finger_told _ _ true s.ranges.then.sfits c.is_finger.ensures c.if-is_finger.true,
-      finger_told _ _ true s.ranges.now.sfits c.is_finger-then-is_finger.ensures c.if-is_finger-2.true,
+      finger_told _ _ true c.ranges.then.sfits c.is_finger.ensures c.if-is_finger.true,
+      finger_told _ _ true c.ranges.now.sfits c.is_finger-then-is_finger.ensures c.if-is_finger-2.true,
     )
 
 pub returns-then-is_finger : goal.returns-then-is_finger
 unfolding replaced
 returns-then-is_finger c =
-    let s = c in
     rw (
-      finger_told _ _ true s.ranges.then.sfits c.is_finger.ensures c.if-is_finger.true,
-      finger_told _ _ false s.ranges.now.sfits c.is_finger-then-is_finger.ensures c.if-is_finger-2.false,
+      finger_told _ _ true c.ranges.then.sfits c.is_finger.ensures c.if-is_finger.true,
+      finger_told _ _ false c.ranges.now.sfits c.is_finger-then-is_finger.ensures c.if-is_finger-2.false,
     )
 
 pub returns-then-is_finger-3 : goal.returns-then-is_finger-3
 unfolding replaced
 returns-then-is_finger-3 c =
-    let s = c in
     rw (
-      finger_told _ _ false s.ranges.then.sfits c.is_finger.ensures c.if-is_finger.false,
-      finger_told _ _ true s.ranges.now.sfits c.is_finger-2.ensures c.if-is_finger-3.true,
+      finger_told _ _ false c.ranges.then.sfits c.is_finger.ensures c.if-is_finger.false,
+      finger_told _ _ true c.ranges.now.sfits c.is_finger-2.ensures c.if-is_finger-3.true,
     )
 
 pub returns : goal.returns
 unfolding replaced
 returns c =
-    let s = c in
     rw (
-      finger_told _ _ false s.ranges.then.sfits c.is_finger.ensures c.if-is_finger.false,
-      finger_told _ _ false s.ranges.now.sfits c.is_finger-2.ensures c.if-is_finger-3.false,
+      finger_told _ _ false c.ranges.then.sfits c.is_finger.ensures c.if-is_finger.false,
+      finger_told _ _ false c.ranges.now.sfits c.is_finger-2.ensures c.if-is_finger-3.false,
     )

@@ -23,11 +23,10 @@ bounds-k-i c = omega arith
 pub write_slot-next-requires : goal.write_slot-next-requires
 write_slot-next-requires c =
     let now = c.loop-i in
-    let begin = c in
-    let ss = begin.args.t1.slots in
-    let l : length ss ≡ max_slots = simp length-map at begin.well_formed.0.1.1.0.1.0.1 in
+    let ss = c.args.t1.slots in
+    let l : length ss ≡ max_slots = simp length-map at c.well_formed.0.1.1.0.1.0.1 in
     let h : now.i < length ss = omega (arith, c.loop-i-test.true) in
-    omega (arith, begin.requires, now.invariant.1, now.invariant.2, next_length begin.args.device blank now.i ss h)
+    omega (arith, c.requires, now.invariant.1, now.invariant.2, next_length c.args.device blank now.i ss h)
 
 pub overflow_add-i : goal.overflow_add-i
 overflow_add-i c = omega arith
@@ -37,13 +36,11 @@ loop-i-smaller c = omega arith
 
 pub loop-i-preserved : goal.loop-i-preserved
 loop-i-preserved c =
-    let turn = c in
-    let now = turn.loop-i in
-    let begin = turn in
-    let ss = begin.args.t1.slots in
-    let d = begin.args.device in
-    let l : length ss ≡ max_slots = simp length-map at begin.well_formed.0.1.1.0.1.0.1 in
-    let h : now.i < length ss = omega (arith, turn.loop-i-test.true) in
+    let now = c.loop-i in
+    let ss = c.args.t1.slots in
+    let d = c.args.device in
+    let l : length ss ≡ max_slots = simp length-map at c.well_formed.0.1.1.0.1.0.1 in
+    let h : now.i < length ss = omega (arith, c.loop-i-test.true) in
     let wrote = c.write_slot-next.ensures in (
       omega arith,
       ap length wrote.1 ∙ length_put _ _ now.feed ∙ now.invariant.1,
@@ -58,8 +55,7 @@ pub returns : goal.returns
 unfolding put
 returns c =
     let now = c.loop-i in
-    let begin = c in
-    let ss = begin.args.t1.slots in
-    let l : length ss ≡ max_slots = simp length-map at begin.well_formed.0.1.1.0.1.0.1 in
-    let none = report_last begin.args.device now.i ss (omega (arith, c.loop-i-test.false)) in
+    let ss = c.args.t1.slots in
+    let l : length ss ≡ max_slots = simp length-map at c.well_formed.0.1.1.0.1.0.1 in
+    let none = report_last c.args.device now.i ss (omega (arith, c.loop-i-test.false)) in
     (omega (arith, now.invariant.2, ap length none), sym (ap (λ (ws : List ℕ). put now.next ws now.feed) none) ∙ now.invariant.3)

@@ -80,11 +80,10 @@ write_touch-next-requires c =
 
 pub write_touch-requires-in-Replaced : goal.write_touch-requires-in-Replaced
 write_touch-requires-in-Replaced c =
-    let first = c in
-    let at-change = first in
+    let at-change = c in
     let begin = at-change.before.before.before.before.before.before in
     let words = words-of-replaced at-change in
-    let wrote = first.write_touch-next.ensures in
+    let wrote = c.write_touch-next.ensures in
     let places = ap length wrote.1 ∙ length_put _ _ begin.args.feed.now in
     omega (arith, begin.requires, simp length-append at (ap length words), replaced-length at-change, replaced-length-2 at-change, wrote.0, places)
 
@@ -96,44 +95,39 @@ returns-in-Still c =
 
 pub returns-in-Begun : goal.returns-in-Begun
 returns-in-Begun c =
-    let call = c in
-    let at-change = call in
+    let at-change = c in
     let begin = at-change.before.before.before.before.before.before.args in
     let words = words-of-begun at-change in
-    let wrote = rw (read_back begin.s.now.id call.struct_told-1.given.0.1) at call.write_touch.ensures in
+    let wrote = rw (read_back begin.s.now.id c.struct_told-1.given.0.1) at c.write_touch.ensures in
     (omega (arith, wrote.0, ap length words, begun-length at-change), wrote.1 ∙ ap (λ (ws : List ℕ). put begin.at ws begin.feed.now) (sym words))
 
 pub returns-in-Moved : goal.returns-in-Moved
 returns-in-Moved c =
-    let call = c in
-    let at-change = call in
+    let at-change = c in
     let begin = at-change.before.before.before.before.before.before.args in
     let words = words-of-moved at-change in
-    let wrote = rw (read_back begin.s.now.id call.struct_told-in-Moved-1.given.0.1) at call.write_touch-in-Moved.ensures in
+    let wrote = rw (read_back begin.s.now.id c.struct_told-in-Moved-1.given.0.1) at c.write_touch-in-Moved.ensures in
     (omega (arith, wrote.0, ap length words, moved_length at-change), wrote.1 ∙ ap (λ (ws : List ℕ). put begin.at ws begin.feed.now) (sym words))
 
 pub returns-in-Lifted : goal.returns-in-Lifted
 returns-in-Lifted c =
-    let call = c in
-    let at-change = call in
+    let at-change = c in
     let begin = at-change.before.before.before.before.before.before.args in
     let words = words-of-lifted at-change in
-    let wrote = rw (read_back begin.s.acted.id call.struct_told-in-Lifted-1.given.0.1) at call.write_touch-in-Lifted.ensures in
+    let wrote = rw (read_back begin.s.acted.id c.struct_told-in-Lifted-1.given.0.1) at c.write_touch-in-Lifted.ensures in
     (omega (arith, wrote.0, ap length words, lifted-length at-change), wrote.1 ∙ ap (λ (ws : List ℕ). put begin.at ws begin.feed.now) (sym words))
 
 pub returns-in-Replaced : goal.returns-in-Replaced
 returns-in-Replaced c =
-    let second = c in
-    let first = second in
-    let at-change = first in
+    let at-change = c in
     let begin = at-change.before.before.before.before.before.before.args in
     let words = words-of-replaced at-change in
-    let lifted = rw (read_back begin.s.acted.id first.struct_told-in-Replaced-1.given.0.1) at first.write_touch-next.ensures in
-    let wrote = rw (read_back begin.s.now.id second.struct_told-in-Replaced-2-1.given.0.1) at second.write_touch-in-Replaced.ensures in (
+    let lifted = rw (read_back begin.s.acted.id c.struct_told-in-Replaced-1.given.0.1) at c.write_touch-next.ensures in
+    let wrote = rw (read_back begin.s.now.id c.struct_told-in-Replaced-2-1.given.0.1) at c.write_touch-in-Replaced.ensures in (
       omega (arith, wrote.0, lifted.0, simp length-append at (ap length words), replaced-length at-change, replaced-length-2 at-change),
       put_two
           begin.at
-          first.write_touch-next.result
+          c.write_touch-next.result
           (encode (touch begin.device End begin.s.acted.id begin.s.now))
           (encode (touch begin.device Start begin.s.now.id begin.s.now))
           (encode_all (slot_events begin.device begin.s))

@@ -16,18 +16,13 @@ returns-in_default c =
 
 pub key-requires : goal.key-requires
 key-requires c =
-    let e = c in
-    let r = e in
-    let start = r in
-    let a = start.args in
-    let named = rw (← r.key_at-e.ensures, e.in-Key.is) at (fields a.feed.now a.at) in
-    (named_below _ _ named, start.requires)
+    let a = c.args in
+    let named = rw (← c.key_at-e.ensures, c.in-Key.is) at (fields a.feed.now a.at) in
+    (named_below _ _ named, c.requires)
 
 pub returns-then-kind-eq-KEY_KIND : goal.returns-then-kind-eq-KEY_KIND
 returns-then-kind-eq-KEY_KIND c =
-    let e = c in
-    let r = e in
-    rw (← r.key_at-e.ensures, e.in-Key.is) c.key.ensures
+    rw (← c.key_at-e.ensures, c.in-Key.is) c.key.ensures
 
 pub returns-in_default-e : goal.returns-in_default-e
 unfolding key_event
@@ -38,9 +33,7 @@ returns-in_default-e c =
 pub returns-then-kind-eq-MODIFIERS_KIND : goal.returns-then-kind-eq-MODIFIERS_KIND
 unfolding key_event
 returns-then-kind-eq-MODIFIERS_KIND c =
-    let e = c in
-    let r = e in
-    rw (← r.modifiers_at-e.ensures, e.in-ModifiersChanged.is) (record { result = refl; places = refl })
+    rw (← c.modifiers_at-e.ensures, c.in-ModifiersChanged.is) (record { result = refl; places = refl })
 
 pub returns-in_default-e-2 : goal.returns-in_default-e-2
 unfolding key_event
@@ -50,10 +43,7 @@ returns-in_default-e-2 c =
 
 pub returns-then-kind-eq-FOCUS_KIND : goal.returns-then-kind-eq-FOCUS_KIND
 returns-then-kind-eq-FOCUS_KIND c =
-    let e = c in
-    let r = e in
-    let start = r in
-    rw (← r.focus_at-e.ensures, e.in-WindowFocused.is) (record { result = c.focus.ensures start.args.presses.now; places = refl })
+    rw (← c.focus_at-e.ensures, c.in-WindowFocused.is) (record { result = c.focus.ensures c.args.presses.now; places = refl })
 
 pub returns : goal.returns
 returns c =

@@ -18,29 +18,25 @@ loop-i-init c = (omega arith, λ j. no_more _ (cleared j), sym (key_loop.begins 
 
 pub key_at-s-requires : goal.key_at-s-requires
 key_at-s-requires c =
-    let l = c in
-    λ j. let q = l.loop-i.invariant.1 j in omega arith
+    λ j. let q = c.loop-i.invariant.1 j in omega arith
 
 pub loop-i-preserved : goal.loop-i-preserved
 loop-i-preserved c =
-    let o = c in
-    let l = o in
-    let before = l.loop-i.invariant in
+    let before = c.loop-i.invariant in
     let step = c.key_at-s.ensures in (
       omega arith,
-      more _ (keys l.loop-i.presses l.loop-i.s) _ l.loop-i.i before.1 step.result,
+      more _ (keys c.loop-i.presses c.loop-i.s) _ c.loop-i.i before.1 step.result,
       step.result ∙ rw (c.listed-at.ensures, before.2) (sym (key_loop.goes_on _ _ _ _ _)),
       step.places ∙ before.3,
     )
 
 pub returns : goal.returns
 returns c =
-    let l = c in
-    let a = l.args in
-    let e : l.loop-i.i ≡ a.count = omega arith in
+    let a = c.args in
+    let e : c.loop-i.i ≡ a.count = omega arith in
     let begins = start a.feed.now a.presses.now (replicate key_count 0) a.k cleared in
     let es = listed_events a.feed.now a.lists.now keys_list a.count in
-    let is : keys l.loop-i.presses l.loop-i.s ≡ key_events es (begun (is_empty (shaped_events a.feed.now)) (keys a.presses.now a.k)) =
-    rw e at l.loop-i.invariant.2 ∙ rw begins in
-    let long : length l.loop-i.presses ≡ key_count = l.loop-i.invariant.3 ∙ length-replicate {A = ℕ} key_count 0 in
-    record { result = is; presses_after = all_numbers l.loop-i.presses _ long (λ j. ap (λ (k : Shown.Keys). k.presses j) is) }
+    let is : keys c.loop-i.presses c.loop-i.s ≡ key_events es (begun (is_empty (shaped_events a.feed.now)) (keys a.presses.now a.k)) =
+    rw e at c.loop-i.invariant.2 ∙ rw begins in
+    let long : length c.loop-i.presses ≡ key_count = c.loop-i.invariant.3 ∙ length-replicate {A = ℕ} key_count 0 in
+    record { result = is; presses_after = all_numbers c.loop-i.presses _ long (λ j. ap (λ (k : Shown.Keys). k.presses j) is) }

@@ -7,9 +7,7 @@ use Rattle.panel.proofs.interact.interact.Goals as goal
 pub returns : goal.returns
 unfolding interact
 returns c =
-    let interacted = c in
-    let viewed = interacted in
     record {
-      own = λ p h n t edges. rw (sees_events p _ _ h.press_is (viewed.seen-view.ensures p h)) (interacted.interact.ensures h.places edges p n t);
-      model = λ p h n t edges wf. rw (looked_up _ _ _ _ wf, sees_events p _ _ h.press_is (viewed.seen-view.ensures p h)) (interacted.interact.ensures h.places edges p n t);
+      own = λ p h n t edges. rw (sees_events p _ _ h.press_is (c.seen-view.ensures p h)) (c.interact.ensures h.places edges p n t);
+      model = λ p h n t edges wf. rw (looked_up _ _ _ _ wf, sees_events p _ _ h.press_is (c.seen-view.ensures p h)) (c.interact.ensures h.places edges p n t);
     }

@@ -3,7 +3,7 @@ use borrow.Author.Rules.{rules}
 use Rattle.parking.proofs.restore.input_at.Goals as goal
 
 pub keys_at-keys-requires : goal.keys_at-keys-requires
-keys_at-keys-requires c = let s = c in keys_sound s.args.words.now (all_sound s.args.words.now s.requires).fixed
+keys_at-keys-requires c = keys_sound c.args.words.now (all_sound c.args.words.now c.requires).fixed
 
 pub returns : goal.returns
 returns c =

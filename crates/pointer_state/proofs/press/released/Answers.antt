@@ -10,9 +10,8 @@ returns c =
     let p = c.push.ensures in
     let m = c.remember_click-past.ensures in
     let k = c.click_of-click.ensures in
-    let o = c in
-    let d = o.set_down-down.ensures in
-    let q = c.could_any_button_be_click-clicked.ensures o.args.positions.now in
+    let d = c.set_down-down.ensures in
+    let q = c.could_any_button_be_click-clicked.ensures c.args.positions.now in
     record {
       result = rw (p.result, d, m, k, q);
       room = λ h. rw (pushed_room p h, d, m, k, q);

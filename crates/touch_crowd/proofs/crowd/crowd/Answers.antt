@@ -51,16 +51,14 @@ turned c =
 
 -- ---- the event
 holds-now : (c : Joined-k-device) →
-    let l = c in
-    let s = l.args in
-    Holds s.feed.now s.lists.now s.count (option s.later) l.loop-i.i (view s.ds) (view (current c.if-k-device.held c.if-k-device.k c.if-k-device.device))
+    let s = c.args in
+    Holds s.feed.now s.lists.now s.count (option s.later) c.loop-i.i (view s.ds) (view (current c.if-k-device.held c.if-k-device.k c.if-k-device.device))
 holds-now c = rw (turned c).1 c.loop-i.invariant.2
 
 -- what is told of the event's place is of all devices
 told : (c : After-is_crowded) →
-    let a = c in
     let j = c.if-k-device in
-    crowded (shaped_at a.args.feed.now a.listed-at.result) (view (current j.held j.k j.device)) ≡ c.is_crowded.result
+    crowded (shaped_at c.args.feed.now c.listed-at.result) (view (current j.held j.k j.device)) ≡ c.is_crowded.result
 told c =
     let is = sym c.touch_event_at-found.ensures ∙ c.in-Some.is in
     sym (c.is_crowded.ensures ∙ crowded_by _ _ _ _ (turned c).0 _ _ ∙ crowded_is _ _ is _)
@@ -78,21 +76,19 @@ next : (c : Else-is_crowded) (held : Devices) (k : ℕ) (device : Device) →
     Apart held k device × (view (current held k device) ≡ fits_touch e.device_id e.phase e.touch (view (current j.held j.k j.device))) →
     Next c held k device
 next c held k device t =
-    let a = c in
-    let place = a.listed-at.ensures in
-    let is = sym a.touch_event_at-found.ensures ∙ c.in-Some.is in
+    let place = c.listed-at.ensures in
+    let is = sym c.touch_event_at-found.ensures ∙ c.in-Some.is in
     let free = rw place at (told c ∙ c.if-is_crowded.false) in
-    (t.0, holds_more _ _ _ _ _ a.loop-i-test.true _ _ (holds-now c) free _ (rw place at (t.1 ∙ fits_is _ _ is _)))
+    (t.0, holds_more _ _ _ _ _ c.loop-i-test.true _ _ (holds-now c) free _ (rw place at (t.1 ∙ fits_is _ _ is _)))
 
 idle : (c : In-None) →
     let l = c.loop-i in
     Next c l.held l.k l.device
 idle c =
-    let a = c in
-    let l = a.loop-i in
-    let other = rw a.listed-at.ensures at (not_9 _ (sym a.touch_event_at-found.ensures ∙ c.in-None.is)) in
+    let l = c.loop-i in
+    let other = rw c.listed-at.ensures at (not_9 _ (sym c.touch_event_at-found.ensures ∙ c.in-None.is)) in
     let all = view (current l.held l.k l.device) in
-    (l.invariant.1, holds_more _ _ _ _ _ a.loop-i-test.true _ all l.invariant.2 (not_crowded _ all other) all (sym (fits_idle _ all other)))
+    (l.invariant.1, holds_more _ _ _ _ _ c.loop-i-test.true _ all l.invariant.2 (not_crowded _ all other) all (sym (fits_idle _ all other)))
 
 known_next : (c : After-on_touch-device) →
     let j = c.if-k-device in
@@ -111,9 +107,8 @@ added_next c =
 
 pub loop-i-init : goal.loop-i-init
 loop-i-init c =
-    let s = c in
-    let l : length s.args.ds.places ≡ 4 = simp length-map at s.well_formed.0.1.1.1.0.1.0.1 in
-    (omega arith, apart_first _ _ l, rw (none_apart s.args.ds 4 c.new-device.result l (omega arith)) (holds_first _ _ _ _ _))
+    let l : length c.args.ds.places ≡ 4 = simp length-map at c.well_formed.0.1.1.1.0.1.0.1 in
+    (omega arith, apart_first _ _ l, rw (none_apart c.args.ds 4 c.new-device.result l (omega arith)) (holds_first _ _ _ _ _))
 
 pub offset_bounds-held-k : goal.offset_bounds-held-k
 offset_bounds-held-k c = let k = c.if-k-lt-MAX_DEVICES.true in omega arith
@@ -130,13 +125,11 @@ bounds-held-k-then-k-lt-MAX_DEVICES-2 c = c.if-k-lt-MAX_DEVICES-2.true
 pub returns-then-is_crowded : goal.returns-then-is_crowded
 unfolding option
 returns-then-is_crowded c =
-    let a = c in
-    let o = a in
-    let s = o.args in
-    let place = a.listed-at.ensures in
+    let s = c.args in
+    let place = c.listed-at.ensures in
     let full = rw place at (told (goal.at.returns-then-is_crowded c).After-is_crowded ∙ c.if-is_crowded.true) in
-    let r : some (NoPlace a.listed-at.result) ≡ crowd_then s.feed.now (listed s.lists.now touch_list s.count) (λ us. option s.later) (view s.ds) =
-    rw place (no_place_at _ _ _ _ _ o.loop-i-test.true _ _ (holds-now (goal.at.returns-then-is_crowded c).Joined-k-device) full) in
+    let r : some (NoPlace c.listed-at.result) ≡ crowd_then s.feed.now (listed s.lists.now touch_list s.count) (λ us. option s.later) (view s.ds) =
+    rw place (no_place_at _ _ _ _ _ c.loop-i-test.true _ _ (holds-now (goal.at.returns-then-is_crowded c).Joined-k-device) full) in
     record { refusal = r; devices = λ z. none_some (sym z) }
 
 pub add-held-requires : goal.add-held-requires
@@ -163,18 +156,16 @@ bounds-held-k-then-k-lt-MAX_DEVICES-4 c = c.if-k-lt-MAX_DEVICES-4.true
 
 pub returns-then-k-lt-MAX_DEVICES-4 : goal.returns-then-k-lt-MAX_DEVICES-4
 returns-then-k-lt-MAX_DEVICES-4 c =
-    let l = c in
-    let s = l.args in
-    let i = l.loop-i.invariant in
-    let n : l.loop-i.i ≡ s.count = omega arith in
+    let s = c.args in
+    let i = c.loop-i.invariant in
+    let n : c.loop-i.i ≡ s.count = omega arith in
     let h = rw n at i.2 in
     record { refusal = holds_last _ _ _ _ _ _ h; devices = λ z. h.1 }
 
 pub returns-else-k-lt-MAX_DEVICES-4 : goal.returns-else-k-lt-MAX_DEVICES-4
 returns-else-k-lt-MAX_DEVICES-4 c =
-    let l = c in
-    let s = l.args in
-    let i = l.loop-i.invariant in
-    let n : l.loop-i.i ≡ s.count = omega arith in
+    let s = c.args in
+    let i = c.loop-i.invariant in
+    let n : c.loop-i.i ≡ s.count = omega arith in
     let h = rw n at i.2 in
-    record { refusal = holds_last _ _ _ _ _ _ h; devices = λ z. rw (none_apart l.loop-i.held l.loop-i.k l.loop-i.device i.1.room c.if-k-lt-MAX_DEVICES-4.false) at h.1 }
+    record { refusal = holds_last _ _ _ _ _ _ h; devices = λ z. rw (none_apart c.loop-i.held c.loop-i.k c.loop-i.device i.1.room c.if-k-lt-MAX_DEVICES-4.false) at h.1 }

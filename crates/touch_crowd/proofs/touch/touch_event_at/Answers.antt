@@ -15,8 +15,7 @@ returns-in_default c =
 pub returns-then-kind_at-eq-TOUCH_KIND : goal.returns-then-kind_at-eq-TOUCH_KIND
 unfolding touch_of
 returns-then-kind_at-eq-TOUCH_KIND c =
-    let r = c in
-    rw (← r.touch_at-e.ensures, c.in-Touch.is)
+    rw (← c.touch_at-e.ensures, c.in-Touch.is)
 
 pub returns : goal.returns
 returns c = sym (no_touch_of _ (no_event_9 _ _ (λ e. c.if-kind_at-eq-TOUCH_KIND.false (c.kind_at.ensures ∙ e))))

@@ -30,6 +30,5 @@ returns-then-low-ge8 c is =
 pub returns : goal.returns
 unfolding added_or_removed_touches shape_by_kind touch_shape clean event_or_other
 returns c is =
-    let o = c in
-    let a = o.args in
-    rw (c.adds_or_removes.ensures, c.phase_of-phase.ensures, c.id_of-id.ensures, whole_as a.feed.now a.at touch_kind is o.if-at-feed.false (omega arith), lt-ltb _ _ o.if-low-ge8.false, word_after _ _ 0, word_after _ _ 1) (or_none _)
+    let a = c.args in
+    rw (c.adds_or_removes.ensures, c.phase_of-phase.ensures, c.id_of-id.ensures, whole_as a.feed.now a.at touch_kind is c.if-at-feed.false (omega arith), lt-ltb _ _ c.if-low-ge8.false, word_after _ _ 0, word_after _ _ 1) (or_none _)

@@ -18,19 +18,16 @@ loop-i-init c =
 
 pub returns-then-a-i : goal.returns-then-a-i
 returns-then-a-i c =
-    let o = c in
-    let ds = o.args.ds in
-    index_stops self _ _ _ _ _ c.loop-i-test.true o.loop-i.invariant.1 (eq-eqb _ _ (sym c.if-a-i.true))
-    ∙ o.loop-i.invariant.3 ∙ index_ids _ ds.count _ ds.places _ o.len-n.ensures o.ids-a.ensures
+    let ds = c.args.ds in
+    index_stops self _ _ _ _ _ c.loop-i-test.true c.loop-i.invariant.1 (eq-eqb _ _ (sym c.if-a-i.true))
+    ∙ c.loop-i.invariant.3 ∙ index_ids _ ds.count _ ds.places _ c.len-n.ensures c.ids-a.ensures
 
 pub loop-i-preserved : goal.loop-i-preserved
 loop-i-preserved c =
-    let o = c in
-    (omega arith, o.loop-i.invariant.1, o.loop-i.invariant.2, index_skips self _ _ _ _ _ c.loop-i-test.true o.loop-i.invariant.1 (ne_eqb _ _ (λ e. c.if-a-i.false (sym e))) ∙ o.loop-i.invariant.3)
+    (omega arith, c.loop-i.invariant.1, c.loop-i.invariant.2, index_skips self _ _ _ _ _ c.loop-i-test.true c.loop-i.invariant.1 (ne_eqb _ _ (λ e. c.if-a-i.false (sym e))) ∙ c.loop-i.invariant.3)
 
 pub returns : goal.returns
 returns c =
-    let o = c in
-    let ds = o.args.ds in
-    index_ends self _ _ _ _ c.loop-i-test.false o.loop-i.invariant.1
-    ∙ o.loop-i.invariant.3 ∙ index_ids _ ds.count _ ds.places _ o.len-n.ensures o.ids-a.ensures
+    let ds = c.args.ds in
+    index_ends self _ _ _ _ c.loop-i-test.false c.loop-i.invariant.1
+    ∙ c.loop-i.invariant.3 ∙ index_ids _ ds.count _ ds.places _ c.len-n.ensures c.ids-a.ensures

@@ -19,7 +19,6 @@ loop-k-preserved c =
 
 pub returns : goal.returns
 returns c =
-    let o = c in
     let e = c.len-n.ensures in
     let a = c.loop-k.invariant in
-    rw (← first_of c.len-n.result o.args.ds.count o.args.ds.places e) (held_end _ _ _ _ (omega arith) a.0 c.loop-k-test.false ∙ (a.3 ∙ held_start _ _ _ _ (rw e o.requires.0)))
+    rw (← first_of c.len-n.result c.args.ds.count c.args.ds.places e) (held_end _ _ _ _ (omega arith) a.0 c.loop-k-test.false ∙ (a.3 ∙ held_start _ _ _ _ (rw e c.requires.0)))

@@ -5,15 +5,14 @@ use Rattle.trace_machine.proofs.given.options.Goals as goal
 pub returns : goal.returns
 unfolding options_given
 returns c =
-    let b = c in
     rw (
-      b.float.ensures,
+      c.float.ensures,
       c.float-2.ensures,
       c.float-3.ensures,
       c.seconds.ensures,
       c.seconds-2.ensures,
-      b.of-zoom_modifier.ensures,
-      b.of-horizontal_scroll_modifier.ensures,
-      b.of-vertical_scroll_modifier.ensures,
-      b.at-patterns.ensures,
+      c.of-zoom_modifier.ensures,
+      c.of-horizontal_scroll_modifier.ensures,
+      c.of-vertical_scroll_modifier.ensures,
+      c.at-patterns.ensures,
     )

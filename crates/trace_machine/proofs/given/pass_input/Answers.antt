@@ -5,15 +5,14 @@ use Rattle.trace_machine.proofs.given.pass_input.Goals as goal
 pub returns : goal.returns
 unfolding pass_input
 returns c =
-    let b = c in
     rw (
-      b.time_given-time.ensures,
-      b.rect_given-screen_rect.ensures,
-      b.options-options.ensures,
-      b.float.ensures,
+      c.time_given-time.ensures,
+      c.rect_given-screen_rect.ensures,
+      c.options-options.ensures,
+      c.float.ensures,
       c.float-2.ensures,
       c.float-3.ensures,
       c.bit.ensures,
       c.bit-2.ensures,
-      b.at-bits.ensures,
+      c.at-bits.ensures,
     )

@@ -10,13 +10,11 @@ use Rattle.trace_machine.proofs.given.time_given.Goals as goal
 pub returns-then-bit : goal.returns-then-bit
 unfolding time_given
 returns-then-bit c =
-    let b = c in
-    let t : bit_of 1 (word_at b.args.w.now 0) ≡ true = ap (λ (n : ℕ). bit_of 1 n) (sym b.at.ensures) ∙ sym b.bit.ensures ∙ c.if-bit.true in
+    let t : bit_of 1 (word_at c.args.w.now 0) ≡ true = ap (λ (n : ℕ). bit_of 1 n) (sym c.at.ensures) ∙ sym c.bit.ensures ∙ c.if-bit.true in
     rw (t, c.seconds.ensures)
 
 pub returns : goal.returns
 unfolding time_given
 returns c =
-    let b = c in
-    let t : bit_of 1 (word_at b.args.w.now 0) ≡ false = ap (λ (n : ℕ). bit_of 1 n) (sym b.at.ensures) ∙ sym b.bit.ensures ∙ c.if-bit.false in
+    let t : bit_of 1 (word_at c.args.w.now 0) ≡ false = ap (λ (n : ℕ). bit_of 1 n) (sym c.at.ensures) ∙ sym c.bit.ensures ∙ c.if-bit.false in
     rw t

@@ -24,13 +24,12 @@ returns-then-reply-ne0 c =
 pub returns : goal.returns
 returns c =
     let e = c.kept-2.ensures in
-    let d = c in
-    let reply = d.reset_reply-reply.ensures in
+    let reply = c.reset_reply-reply.ensures in
     record {
-      refused = λ some. let z = reply.1 some in let t = d.if-reply-ne0.false in absurd (omega (arith, t));
+      refused = λ some. let z = reply.1 some in let t = c.if-reply-ne0.false in absurd (omega (arith, t));
       taken = λ none. (
         ap (λ (s : Step). s.reply.code) e ∙ reply.0 none,
-        subst (λ (m : Machine). Starts d.fresh-started.new.0 m) (sym (ap (λ (s : Step). s.machine) e)) (again d.fresh-started.ensures.0),
+        subst (λ (m : Machine). Starts c.fresh-started.new.0 m) (sym (ap (λ (s : Step). s.machine) e)) (again c.fresh-started.ensures.0),
         ap (λ (s : Step). s.machine.parked) e,
       );
     }

@@ -12,12 +12,11 @@ returns-then-w-lt-PASS_WORDS c = record { refused = λ is-not. (c.refused.ensure
 
 pub returns : goal.returns
 returns c =
-    let b = c in
     let e = c.passed.ensures in
-    let given = b.pass_input-given.ensures in
-    let w = b.args.w.now in
+    let given = c.pass_input-given.ensures in
+    let w = c.args.w.now in
     let whole : take (length w - 18) (drop 18 w) ≡ drop 18 w = take_all (length w - 18) (drop 18 w) (omega (arith, length-drop 18 w)) in
     record {
-      refused = λ is-not. ((e.refused is-not).1, (b.pass-begun.ensures.refused (λ none. (e.refused is-not).0 (b.pass-begun.ensures.refusal ∙ none))).2);
-      taken = λ is. record { begun = b.pass-begun.result; is_begun = carried given whole b.pass-begun.ensures; machine_is = e.taken is };
+      refused = λ is-not. ((e.refused is-not).1, (c.pass-begun.ensures.refused (λ none. (e.refused is-not).0 (c.pass-begun.ensures.refusal ∙ none))).2);
+      taken = λ is. record { begun = c.pass-begun.result; is_begun = carried given whole c.pass-begun.ensures; machine_is = e.taken is };
     }

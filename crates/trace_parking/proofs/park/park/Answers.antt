@@ -9,5 +9,4 @@ returns-then-w-ne1 c = record { refused = λ is-not. (c.refused.ensures.1, refl)
 
 pub returns : goal.returns
 returns c =
-    let d = c in
-    parks _ _ _ _ _ d.park_in-done.result c.parked.ensures d.park_in-done.ensures
+    parks _ _ _ _ _ c.park_in-done.result c.parked.ensures c.park_in-done.ensures

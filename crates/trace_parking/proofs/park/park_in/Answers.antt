@@ -5,6 +5,5 @@ use Rattle.trace_parking.proofs.park.park_in.Goals as goal
 
 pub returns : goal.returns
 returns c =
-    let d = c in
-    let s = d.args in
-    part_kept _ (s.room - 0) s.out.now d.park.new.1.1.1.1.1.1.0 d.park.result d.park.ensures
+    let s = c.args in
+    part_kept _ (s.room - 0) s.out.now c.park.new.1.1.1.1.1.1.0 c.park.result c.park.ensures

@@ -7,8 +7,7 @@ pub returns : goal.returns
 returns c =
     let e = c.restored.ensures in
     let r = c.restore-read in
-    let s = c in
     record {
-      refused = λ is-not. (e.refused is-not, lent_kept s.args.w.now s.args.m.panel _ _ r.result r.result.refusal (λ z. is-not (e.code ∙ z)) r.ensures);
+      refused = λ is-not. (e.refused is-not, lent_kept c.args.w.now c.args.m.panel _ _ r.result r.result.refusal (λ z. is-not (e.code ∙ z)) r.ensures);
       taken = λ is. record { read = r.result; is_restored = r.ensures; machine_is = e.taken is };
     }

@@ -6,9 +6,7 @@ use Rattle.trace_widgets.proofs.insert.insert_into.Goals as goal
 
 pub returns-in-Refused : goal.returns-in-Refused
 returns-in-Refused c =
-    let o = c in
-    let d = o in
-    let k = gives_kept _ _ _ _ _ _ _ _ _ _ _ _ d.decide-d.ensures o.in-Refused.is in
+    let k = gives_kept _ _ _ _ _ _ _ _ _ _ _ _ c.decide-d.ensures c.in-Refused.is in
     record { refused = λ is-not. (k.0, k.1, k.2, k.3, refl) }
 
 pub returns-in-Taken : goal.returns-in-Taken
