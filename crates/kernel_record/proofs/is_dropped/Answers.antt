@@ -27,4 +27,4 @@ returns-in-Dropped c = rw c.in-Dropped.is
 
 pub returns-in_default : goal.returns-in_default
 unfolding is_dropped
-returns-in_default c = other c.args.r c.in_default.keys2
+returns-in_default c = other c.args.r c.in_default.in_default-own.keys2

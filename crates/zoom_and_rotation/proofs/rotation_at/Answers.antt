@@ -11,7 +11,7 @@ pub returns-in_default : goal.returns-in_default
 unfolding rotation_event
 returns-in_default c =
     let k = sym c.kind_at.ensures ∙ c.if-kind_at-eq-ROTATE_KIND.true in
-    rw (is_other _ _ 7 _ k c.rotate_at-e.ensures c.in_default.keys2 tt)
+    rw (is_other _ _ 7 _ k c.rotate_at-e.ensures c.in_default.in_default-own.keys2 tt)
 
 pub returns-then-kind_at-eq-ROTATE_KIND : goal.returns-then-kind_at-eq-ROTATE_KIND
 unfolding rotation_event

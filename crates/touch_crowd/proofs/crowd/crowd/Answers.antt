@@ -107,7 +107,7 @@ added_next c =
 
 pub loop-i-init : goal.loop-i-init
 loop-i-init c =
-    let l : length c.args.ds.places ≡ 4 = simp length-map at c.well_formed.0.1.1.1.0.1.0.1 in
+    let l : length c.args.ds.places ≡ 4 = c.well_formed.0.1.1.1.0.1.0.1 in
     (omega arith, apart_first _ _ l, rw (none_apart c.args.ds 4 c.new-device.result l (omega arith)) (holds_first _ _ _ _ _))
 
 pub offset_bounds-held-k : goal.offset_bounds-held-k
