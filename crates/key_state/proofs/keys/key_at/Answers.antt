@@ -18,7 +18,7 @@ pub key-requires : goal.key-requires
 key-requires c =
     let a = c.args in
     let named = rw (← c.key_at-e.ensures, c.in-Key.is) at (fields a.feed.now a.at) in
-    (named_below _ _ named, c.requires)
+    record { place_lt_key_count = named_below _ _ named; room = c.requires }
 
 pub returns-then-kind-eq-KEY_KIND : goal.returns-then-kind-eq-KEY_KIND
 returns-then-kind-eq-KEY_KIND c =
