@@ -51,6 +51,6 @@ loop-i-preserved c =
 pub returns : goal.returns
 returns c =
     let now = c.loop-i in
-    let k = c.args.t1 in
+    let k = c.args.k in
     let l : length k.slots ≡ max_slots = c.well_formed.0.1.1.0.1.0.1 in
     (λ d. omega (arith, now.invariant.2 d, ap length (report_last d now.i k.slots (omega (arith, c.loop-i-test.false)))))
