@@ -101,7 +101,7 @@ added_next : (c : After-add-held) →
     let j = c.if-k-device in
     Next c c.add-held.result j.k j.device
 added_next c =
-    let room : length c.add-held.result.places ≡ 4 = simp length-map at c.add-held.well_formed.1.1.1.0.1.0.1 in
+    let room : length c.add-held.result.places ≡ 4 = c.add-held.type_inv.1.1.1.0.1.0.1 in
     let t = added _ _ _ _ (turned c).0 _ _ c.add-held.result c.if-k-lt-MAX_DEVICES-3.false room c.add-held.ensures in
     next c _ _ _ t
 
