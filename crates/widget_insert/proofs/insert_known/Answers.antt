@@ -3,7 +3,6 @@ use Rattle.widget_insert.proofs.Cases.{moved, replaced, other_layer, short_known
 use borrow.Author.Tests.{lt-ltb, le-ltb}
 use mathlib.Core.Path.{◌≡◌, sym, ◌∙◌}
 use native.Mathlib.Omega.{arith}
-use borrow.Author.Rules.{rules}
 use Rattle.widget_insert.proofs.insert_known.Goals as goal
 
 pub returns-then-not-same_layer : goal.returns-then-not-same_layer

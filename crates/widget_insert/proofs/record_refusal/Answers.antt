@@ -1,6 +1,5 @@
 use Rattle.model.specs.Widgets.{record_refusal}
 use Rattle.widget_insert.specs.Numbers.{refusal_of}
-use borrow.Author.Rules.{rules}
 use Rattle.widget_insert.proofs.record_refusal.Goals as goal
 
 pub returns-then-not-well_shaped : goal.returns-then-not-well_shaped
