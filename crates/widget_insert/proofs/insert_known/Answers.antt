@@ -1,7 +1,7 @@
 use Rattle.widget_append.proofs.Cases.{gives, as_before}
 use Rattle.widget_insert.proofs.Cases.{moved, replaced, other_layer, short_known, moves, replaces}
 use borrow.Author.Tests.{lt-ltb, le-ltb}
-use mathlib.Core.Path.{◌≡◌, sym, ◌∙◌}
+use mathlib.Core.Path.{sym, ◌∙◌}
 use native.Mathlib.Omega.{arith}
 use Rattle.widget_insert.proofs.insert_known.Goals as goal
 
