@@ -3,7 +3,7 @@ use Prim.Native.Nat.{ℕ}
 use mathlib.Core.Path.{◌≡◌, refl, sym, ap, ◌∙◌}
 use mathlib.Core.Bool.{Bool}
 use mathlib.Core.List.{List}
-use lib.Dec.{T, leb→le}
+use lib.Dec.{T}
 use Rattle.emath.specs.History.{Sample}
 use Rattle.data.specs.Modifiers.{modifiers_number, modifiers_of}
 use Rattle.model.specs.Types.{ButtonsDown, Modifiers, PointerEvent, MaybeF64}

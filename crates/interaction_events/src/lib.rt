@@ -1,5 +1,6 @@
 // InteractionState of egui's interaction.rs: what the input does to the potential ids, before the drag is decided.
 #![tactic(auto)]
+
 ghost use Rattle.std.specs.Prelude.{◌≡◌, Bool, true, false, List, ℕ, Float};
 ghost use Rattle.std.proofs.Math.Option.{Option};
 ghost use Rattle.hit_lists.specs.Hits.{view};

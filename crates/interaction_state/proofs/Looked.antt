@@ -1,5 +1,5 @@
 -- A lookup by the index: it answers the id that it was asked for, and what the steps make of its answer. Assumes nothing.
-use Prim.Native.Nat.{ℕ, zero, suc, ◌+◌, ◌-◌, ◌<◌, ◌≤◌}
+use Prim.Native.Nat.{ℕ, zero, suc, ◌-◌, ◌<◌}
 use mathlib.Core.Path.{◌≡◌, refl, sym, ap, ◌∙◌}
 use mathlib.Core.Bool.{Bool, true, false, cond}
 use mathlib.Core.Option.{Option, none, some}
@@ -12,7 +12,7 @@ use Rattle.model.specs.Types.{WidgetRect}
 use Rattle.model.specs.Interact.{widget_id}
 use Rattle.widget_index.specs.Layout.{id_at, link_at}
 use Rattle.widget_index.specs.Table.{chain, head, find, widget_at}
-use Rattle.interaction_state.specs.Types.{WidgetRects, Found}
+use Rattle.interaction_state.specs.Types.{WidgetRects}
 use Rattle.interaction_state.specs.Lookup.{at_entry, lookup, found_of}
 
 -- along the links, only the id itself is found

@@ -1,15 +1,13 @@
 -- The devices in a pass, as its parts tell. Assumes nothing.
-use mathlib.Core.Path.{◌≡◌, refl, sym, ap, ◌∙◌}
-use mathlib.Core.List.{List, map}
-use mathlib.Core.Option.{none}
+use mathlib.Core.Path.{◌≡◌}
+use mathlib.Core.List.{List}
 use Prim.Native.Nat.{ℕ}
 use lib.Ieee.{Float}
 use Rattle.model.specs.Types.{MaybePos2}
-use Rattle.model.specs.Touch.{end_touches}
-use Rattle.event_loop.specs.Lists.{touch_list, listed, listed_events}
+use Rattle.event_loop.specs.Lists.{touch_list, listed}
 use Rattle.touch_state.specs.View.{view}
 use Rattle.touch_state.specs.declared.devices.Devices.{Devices}
-use Rattle.survey.specs.Survey.{option, fits_events, crowd_then}
+use Rattle.survey.specs.Survey.{option, crowd_then}
 use Rattle.survey.specs.declared.reading.MaybePassRefusal.{MaybePassRefusal}
 use Rattle.survey.proofs.Places.{fits_loop}
 use Rattle.touch_ends.specs.Pass.{TouchPassed}

@@ -1,5 +1,6 @@
 // What is asked of the touch devices.
 #![tactic(auto)]
+
 ghost use Rattle.std.specs.Prelude.{◌≡◌};
 ghost use Rattle.model.specs.Touch.{find_device, info_at, multi_touch, any_touches, any_touches_at, has_touch_screen};
 ghost use Rattle.touch_state.specs.View.{view};

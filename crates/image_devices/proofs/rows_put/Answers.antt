@@ -21,11 +21,11 @@ loop-i-preserved c =
     let l = c.loop-i in
     let a = c.args in
     let d = c.device_put.ensures in
-    let t : length a.t1 ≡ 4 = search rules in (
+    let t : length a.places ≡ 4 = search rules in (
       omega arith,
-      d.0 ∙ rw l.invariant.1 (put_more a.t1 l.i _ (omega arith) a.out.now a.at l.invariant.3),
-      each_device a.t1 l.i _ (omega arith) l.invariant.2 d.1,
-      more_length a.t1 l.i _ (omega arith) l.invariant.3 d.2,
+      d.0 ∙ rw l.invariant.1 (put_more a.places l.i _ (omega arith) a.out.now a.at l.invariant.3),
+      each_device a.places l.i _ (omega arith) l.invariant.2 d.1,
+      more_length a.places l.i _ (omega arith) l.invariant.3 d.2,
     )
 
 pub shape_of-out : goal.shape_of-out
@@ -36,4 +36,4 @@ returns c =
     let l = c.loop-i in
     let a = c.args in
     let e : l.i ≡ a.n = omega arith in
-    (l.invariant.1 ∙ ap (λ (k : ℕ). sets a.out.now a.at (written a.t1 k)) e, rw e at l.invariant.2)
+    (l.invariant.1 ∙ ap (λ (k : ℕ). sets a.out.now a.at (written a.places k)) e, rw e at l.invariant.2)

@@ -14,8 +14,8 @@ loop-i-preserved c =
     let w = c.device_words-words.ensures in
     let l = c.loop-i in
     let a = c.args in
-    let t : length a.t1 ≡ 4 = search rules in
-    (omega arith, omega (arith, w.0), more_length a.t1 l.i _ (omega arith) l.invariant.2 (sym w.1 ∙ w.0))
+    let t : length a.places ≡ 4 = search rules in
+    (omega arith, omega (arith, w.0), more_length a.places l.i _ (omega arith) l.invariant.2 (sym w.1 ∙ w.0))
 
 pub returns : goal.returns
 returns c =

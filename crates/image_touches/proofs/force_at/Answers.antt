@@ -3,7 +3,6 @@ use Rattle.image.specs.Places.{value_at}
 use borrow.Author.Tests.{eq-eqb, ne_eqb}
 use native.Mathlib.Numerals.{add-one}
 use mathlib.Core.Path.{sym, ◌∙◌}
-use borrow.Author.Rules.{rules}
 use Rattle.image_touches.proofs.force_at.Goals as goal
 
 pub returns-then-word_at-eq0 : goal.returns-then-word_at-eq0

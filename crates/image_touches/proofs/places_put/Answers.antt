@@ -21,10 +21,10 @@ pub loop-i-preserved : goal.loop-i-preserved
 loop-i-preserved c =
     let l = c.loop-i in
     let a = c.args in
-    let t : length a.t1 ≡ 10 = search rules in (
+    let t : length a.places ≡ 10 = search rules in (
       omega arith,
-      c.copy.ensures ∙ rw (l.invariant.1, c.touch_words-part.ensures.0) (put_more a.t1 l.i _ (omega arith) a.out.now a.at),
-      each_touch a.t1 l.i _ (omega arith) l.invariant.2 c.touch_words-part.ensures.1,
+      c.copy.ensures ∙ rw (l.invariant.1, c.touch_words-part.ensures.0) (put_more a.places l.i _ (omega arith) a.out.now a.at),
+      each_touch a.places l.i _ (omega arith) l.invariant.2 c.touch_words-part.ensures.1,
     )
 
 pub shape_of-out : goal.shape_of-out
@@ -35,4 +35,4 @@ returns c =
     let l = c.loop-i in
     let a = c.args in
     let e : l.i ≡ a.n = omega arith in
-    (l.invariant.1 ∙ ap (λ (k : ℕ). sets a.out.now a.at (written a.t1 k)) e, rw e at l.invariant.2)
+    (l.invariant.1 ∙ ap (λ (k : ℕ). sets a.out.now a.at (written a.places k)) e, rw e at l.invariant.2)

@@ -2,7 +2,6 @@ use Rattle.image.specs.Places.{value_at, span}
 use mathlib.Core.Path.{◌≡◌}
 use Prim.Native.Nat.{◌+◌}
 use native.Mathlib.Omega.{arith}
-use borrow.Author.Rules.{rules}
 use Rattle.image_touches.proofs.touch_at.Goals as goal
 
 pub returns : goal.returns

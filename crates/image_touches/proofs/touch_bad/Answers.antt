@@ -3,7 +3,6 @@ use Rattle.image_touches.proofs.Walk.{test_same}
 use mathlib.Core.Path.{◌≡◌}
 use Prim.Native.Nat.{◌+◌}
 use native.Mathlib.Omega.{arith}
-use borrow.Author.Rules.{rules}
 use Rattle.image_touches.proofs.touch_bad.Goals as goal
 
 pub returns : goal.returns

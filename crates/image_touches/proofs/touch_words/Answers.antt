@@ -1,6 +1,5 @@
 use Rattle.image_touches.specs.Touches.{force_el}
 use Rattle.image.specs.Codes.{write, entry_words, option_words, zeros, size}
-use borrow.Author.Rules.{rules}
 use Rattle.image_touches.proofs.touch_words.Goals as goal
 
 pub returns-in-None : goal.returns-in-None

@@ -1,14 +1,8 @@
-use lib.ListN.{length-map, length, take, length-set}
-use borrow.Author.Rules.{rules}
+use lib.ListN.{length, take}
 use Rattle.image_touches.specs.Touches.{touch_code, touches_of}
-use Rattle.image_touches.proofs.Walk.{read_none, read_more}
-use Rattle.image.specs.Places.{bad_at, value_at, rows_at, key_at}
-use Rattle.image.specs.Codes.{size}
-use Rattle.image.proofs.Lists.{or_else_none}
-use native.Mathlib.Numerals.{add-one}
-use mathlib.Core.Path.{◌≡◌, ◌∙◌}
+use Rattle.image.specs.Places.{value_at, rows_at, key_at}
+use mathlib.Core.Path.{◌≡◌}
 use Prim.Native.Nat.{◌≤◌, ◌-◌, ◌+◌}
-use native.Mathlib.Omega.{arith}
 use Rattle.image_touches.proofs.touches_at.Given as goal
 
 abbrev pub invariant-loop-i : goal.invariant-loop-i

@@ -2,7 +2,6 @@ use Rattle.image.specs.Places.{bad_at}
 use Rattle.image.specs.Codes.{size}
 use Rattle.image.proofs.Lists.{or_else_under}
 use native.Mathlib.Numerals.{add-one}
-use borrow.Author.Rules.{rules}
 use Rattle.image_touches.proofs.touches_bad.Goals as goal
 
 pub returns : goal.returns

@@ -1,8 +1,6 @@
-use mathlib.Core.Path.{refl}
 use Rattle.model.specs.Interact.{abort_if}
 use Rattle.id_set.specs.Ids.{option_of}
 use Rattle.interaction_state.specs.View.{interaction_of}
-use borrow.Author.Rules.{rules}
 use Rattle.interaction_events.proofs.abort_if.Goals as goal
 
 pub returns-then-escape : goal.returns-then-escape

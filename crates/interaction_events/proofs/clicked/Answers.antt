@@ -1,7 +1,6 @@
 use Rattle.model.specs.Interact.{has_click, pointer_event}
 use Rattle.interaction_events.specs.View.{going_of}
 use Rattle.interaction_events.proofs.Looked.{click_id_of}
-use borrow.Author.Rules.{rules}
 use Rattle.interaction_events.proofs.clicked.Goals as goal
 
 pub returns : goal.returns

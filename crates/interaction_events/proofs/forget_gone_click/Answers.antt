@@ -1,8 +1,6 @@
-use mathlib.Core.Path.{sym, ◌∙◌}
 use Rattle.model.specs.Interact.{forget_gone_click}
 use Rattle.interaction_state.specs.View.{interaction_of}
 use Rattle.interaction_events.proofs.Looked.{known_kept}
-use borrow.Author.Rules.{rules}
 use Rattle.interaction_events.proofs.forget_gone_click.Goals as goal
 
 pub returns : goal.returns

@@ -2,7 +2,6 @@ use mathlib.Core.Path.{refl}
 use Rattle.model.specs.Interact.{long_touch_if}
 use Rattle.id_set.specs.Ids.{option_of}
 use Rattle.interaction_events.specs.View.{going_of}
-use borrow.Author.Rules.{rules}
 use Rattle.interaction_events.proofs.going.Goals as goal
 
 pub returns : goal.returns

@@ -1,12 +1,9 @@
 use mathlib.Core.Option.{none}
 use mathlib.Core.Path.{sym, ◌∙◌, ap}
-use borrow.Author.Tests.{not-true, not-false}
 use Rattle.model.specs.Interact.{is_some, long_touch_if}
-use Rattle.id_set.specs.Ids.{option_of}
 use Rattle.interaction_state.specs.View.{interaction_of}
 use Rattle.interaction_events.specs.View.{going_of}
 use Rattle.interaction_events.proofs.Looked.{click_id_of, touches, touches_none}
-use borrow.Author.Rules.{rules}
 use Rattle.interaction_events.proofs.long_touch_if.Goals as goal
 
 pub returns-then-not-long : goal.returns-then-not-long

@@ -2,7 +2,6 @@ use mathlib.Core.Path.{refl}
 use Rattle.model.specs.Pass.{no_interaction}
 use Rattle.id_set.specs.Ids.{option_of}
 use Rattle.interaction_state.specs.View.{interaction_of}
-use borrow.Author.Rules.{rules}
 use Rattle.interaction_events.proofs.nothing.Goals as goal
 
 pub returns : goal.returns

@@ -1,7 +1,6 @@
 use mathlib.Core.Path.{sym, ◌∙◌}
 use Rattle.model.specs.Interact.{pointer_event}
 use Rattle.interaction_events.proofs.Walk.{is_moved, is_pressed, is_released, is_clicked, dragging_release}
-use borrow.Author.Rules.{rules}
 use Rattle.interaction_events.proofs.pointer_event.Goals as goal
 
 pub returns-then-kind-eq0 : goal.returns-then-kind-eq0

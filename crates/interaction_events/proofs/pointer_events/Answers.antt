@@ -1,14 +1,9 @@
-use Prim.Native.Nat.{◌≤◌, ◌-◌, min}
+use Prim.Native.Nat.{◌-◌, min}
 use mathlib.Core.Path.{◌≡◌, refl, sym, ◌∙◌}
-use mathlib.Core.List.{List}
 use native.Mathlib.Omega.{arith}
-use lib.Ieee.{Float}
 use Rattle.data.specs.Limits.{max_events}
-use Rattle.model.specs.Interact.{InteractInput, pointer_event, pointer_events}
-use Rattle.pointer_events.specs.Events.{event_of, entry_at, events_from, events}
-use Rattle.interaction_events.specs.View.{going_of, Looks}
+use Rattle.pointer_events.specs.Events.{entry_at, events}
 use Rattle.interaction_events.proofs.Walk.{one_event, no_event}
-use borrow.Author.Rules.{rules}
 use Rattle.interaction_events.proofs.pointer_events.Goals as goal
 
 pub loop-i-init : goal.loop-i-init

@@ -1,7 +1,6 @@
 use Rattle.model.specs.Interact.{pointer_event}
 use Rattle.interaction_state.specs.View.{interaction_of}
 use Rattle.interaction_events.specs.View.{going_of}
-use borrow.Author.Rules.{rules}
 use Rattle.interaction_events.proofs.pressed.Goals as goal
 
 pub returns : goal.returns

@@ -1,6 +1,5 @@
 use Rattle.model.specs.Interact.{has_click, pointer_event}
 use Rattle.interaction_events.specs.View.{going_of}
-use borrow.Author.Rules.{rules}
 use Rattle.interaction_events.proofs.released.Goals as goal
 
 pub returns : goal.returns

@@ -1,6 +1,5 @@
 use Rattle.interaction_events.specs.View.{seen_of}
 use Rattle.interaction_events.proofs.Walk.{composed}
-use borrow.Author.Rules.{rules}
 use Rattle.interaction_events.proofs.walked.Goals as goal
 
 pub returns : goal.returns

@@ -1,6 +1,5 @@
 use Rattle.pointer_place.specs.View.{place}
 use Rattle.image_pointer.proofs.Words.{place_list}
-use borrow.Author.Rules.{rules}
 use Rattle.image_pointer.proofs.place.place_words.Goals as goal
 
 pub returns : goal.returns

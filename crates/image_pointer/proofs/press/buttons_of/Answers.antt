@@ -1,4 +1,3 @@
-use borrow.Author.Rules.{rules}
 use Rattle.image_pointer.specs.Press.{buttons_of}
 use Rattle.image_pointer.proofs.press.buttons_of.Goals as goal
 

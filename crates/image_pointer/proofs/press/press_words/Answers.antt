@@ -2,7 +2,6 @@ use Rattle.image_options.proofs.Trip.{boolean_in}
 use Rattle.pointer_state.specs.View.{press}
 use Rattle.image_pointer.proofs.Trip.{buttons_in}
 use Rattle.image_pointer.proofs.Words.{press_list}
-use borrow.Author.Rules.{rules}
 use Rattle.image_pointer.proofs.press.press_words.Goals as goal
 
 pub returns : goal.returns

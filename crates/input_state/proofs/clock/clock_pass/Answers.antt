@@ -1,5 +1,4 @@
 use Rattle.model.specs.Pass.{clock_pass}
-use borrow.Author.Rules.{rules}
 use Rattle.input_state.proofs.clock.clock_pass.Goals as goal
 
 pub returns-then-i : goal.returns-then-i

@@ -1,7 +1,7 @@
 use lib.Ieee.{of_bits, div, neg}
 use Rattle.model.specs.Numbers.{sixtieth}
 use Rattle.model.specs.Pass.{fresh}
-use mathlib.Core.Path.{◌≡◌, refl, sym, ap, ◌∙◌}
+use mathlib.Core.Path.{refl}
 use Rattle.input_state.proofs.clock.fresh_clock.Goals as goal
 
 pub returns : goal.returns

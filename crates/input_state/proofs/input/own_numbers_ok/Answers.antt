@@ -1,5 +1,4 @@
 use Rattle.model.specs.Pass.{own_numbers_ok}
-use borrow.Author.Rules.{rules}
 use Rattle.input_state.proofs.input.own_numbers_ok.Goals as goal
 
 pub returns : goal.returns

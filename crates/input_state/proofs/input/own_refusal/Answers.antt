@@ -1,6 +1,5 @@
 use Rattle.survey.specs.Survey.{option}
 use Rattle.model.specs.Pass.{own_refusal, time_of}
-use borrow.Author.Rules.{rules}
 use Rattle.input_state.proofs.input.own_refusal.Goals as goal
 
 pub returns-then-time-old : goal.returns-then-time-old

@@ -1,5 +1,4 @@
 use Rattle.model.specs.Pass.{rect_given_ok}
-use borrow.Author.Rules.{rules}
 use Rattle.input_state.proofs.input.rect_given_ok.Goals as goal
 
 pub returns-in-None : goal.returns-in-None

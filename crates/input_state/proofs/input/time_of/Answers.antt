@@ -1,5 +1,4 @@
 use Rattle.model.specs.Pass.{time_or}
-use borrow.Author.Rules.{rules}
 use Rattle.input_state.proofs.input.time_of.Goals as goal
 
 pub returns-in-None : goal.returns-in-None

@@ -9,6 +9,6 @@ returns c =
     record {
       place_is = c.place_pass-place.ensures;
       press_is = press.ensures;
-      moved_is = c.last_move_time-last.ensures press.new.1.1.0;
-      started_is = c.started_decidedly_dragging-started.ensures press.new.1.1.0 ∙ rw (c.is_decidedly_dragging-was.ensures a.places.now);
+      moved_is = c.last_move_time-last.ensures press.new.positions;
+      started_is = c.started_decidedly_dragging-started.ensures press.new.positions ∙ rw (c.is_decidedly_dragging-was.ensures a.places.now);
     }

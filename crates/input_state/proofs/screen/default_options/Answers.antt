@@ -1,7 +1,6 @@
 use lib.Ieee.{of_bits, div}
 use Rattle.data.specs.Modifiers.{no_modifiers}
 use Rattle.model.specs.Options.{default_options}
-use borrow.Author.Rules.{rules}
 use Rattle.input_state.proofs.screen.default_options.Goals as goal
 
 pub returns : goal.returns

@@ -1,6 +1,5 @@
 use Rattle.model.specs.Pass.{fresh}
 use Rattle.model.specs.Numbers.{one, ten_thousand}
-use borrow.Author.Rules.{rules}
 use Rattle.input_state.proofs.screen.fresh_screen.Goals as goal
 
 pub returns : goal.returns

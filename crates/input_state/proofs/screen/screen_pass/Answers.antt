@@ -1,5 +1,4 @@
 use Rattle.model.specs.Pass.{screen_pass}
-use borrow.Author.Rules.{rules}
 use Rattle.input_state.proofs.screen.screen_pass.Goals as goal
 
 pub returns : goal.returns

@@ -1,5 +1,4 @@
 use Rattle.input_state.proofs.Whole.{fresh_is}
-use borrow.Author.Rules.{rules}
 use Rattle.input_state.proofs.state.fresh.Goals as goal
 
 pub returns : goal.returns

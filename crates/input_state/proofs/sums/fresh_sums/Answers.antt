@@ -1,7 +1,6 @@
 use lib.Ieee.{of_bits}
 use Rattle.model.specs.Pass.{fresh}
 use Rattle.model.specs.Numbers.{one}
-use borrow.Author.Rules.{rules}
 use Rattle.input_state.proofs.sums.fresh_sums.Goals as goal
 
 pub returns : goal.returns

@@ -1,6 +1,5 @@
 use lib.Ieee.{of_bits}
 use Rattle.model.specs.Pass.{sums_of}
-use borrow.Author.Rules.{rules}
 use Rattle.input_state.proofs.sums.sums_of.Goals as goal
 
 pub returns-then-matches_any : goal.returns-then-matches_any

@@ -6,7 +6,6 @@ use Rattle.model.specs.Types.{WidgetRect}
 use Rattle.model.specs.Interact.{get, new_drag, dragged_after}
 use Rattle.id_set.specs.Ids.{option_of}
 use Rattle.interaction_state.specs.View.{interaction_of}
-use borrow.Author.Rules.{rules}
 use Rattle.interaction_state.proofs.drag.dragged_after.Goals as goal
 
 pub returns-in-Some : goal.returns-in-Some

@@ -1,5 +1,4 @@
 use Rattle.interaction_state.specs.View.{interaction_of, kept_after}
-use borrow.Author.Rules.{rules}
 use Rattle.interaction_state.proofs.drag.interaction_after.Goals as goal
 
 pub returns : goal.returns

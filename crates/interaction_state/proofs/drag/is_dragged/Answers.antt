@@ -4,7 +4,6 @@ use Rattle.model.specs.Interact.{is_dragged}
 use Rattle.interaction_state.specs.Types.{Found}
 use Rattle.interaction_state.specs.Lookup.{found_of}
 use Rattle.interaction_state.proofs.Dragged.{no_drag}
-use borrow.Author.Rules.{rules}
 use Rattle.interaction_state.proofs.drag.is_dragged.Goals as goal
 
 pub returns-then-not-f : goal.returns-then-not-f

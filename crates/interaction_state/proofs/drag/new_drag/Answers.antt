@@ -5,7 +5,6 @@ use Rattle.id_set.specs.Ids.{option_of}
 use Rattle.interaction_state.specs.Types.{Found}
 use Rattle.interaction_state.proofs.Looked.{looked_up}
 use Rattle.interaction_state.proofs.Dragged.{unknown_drag, known_drag}
-use borrow.Author.Rules.{rules}
 use Rattle.interaction_state.proofs.drag.new_drag.Goals as goal
 
 pub returns-then-not-f : goal.returns-then-not-f

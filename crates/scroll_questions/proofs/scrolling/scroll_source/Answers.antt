@@ -1,5 +1,4 @@
 use Rattle.model.specs.Questions.{reply, shown, source_if}
-use borrow.Author.Rules.{rules}
 use Rattle.scroll_questions.proofs.scrolling.scroll_source.Goals as goal
 
 pub returns-then-is_scrolling : goal.returns-then-is_scrolling

@@ -1,7 +1,6 @@
 use mathlib.Core.Bool.{and-true, and-false}
 use Rattle.model.specs.Questions.{reply, shown}
 use Rattle.model.specs.Interact.{long_press}
-use borrow.Author.Rules.{rules}
 use Rattle.scroll_questions.proofs.touching.is_long_touch.Goals as goal
 
 pub returns-then-is_long_press : goal.returns-then-is_long_press

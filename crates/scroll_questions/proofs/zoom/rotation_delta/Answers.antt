@@ -1,5 +1,4 @@
 use Rattle.model.specs.Questions.{reply, shown}
-use borrow.Author.Rules.{rules}
 use Rattle.scroll_questions.proofs.zoom.rotation_delta.Goals as goal
 
 pub returns : goal.returns

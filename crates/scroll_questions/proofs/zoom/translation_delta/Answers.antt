@@ -1,5 +1,4 @@
 use Rattle.model.specs.Questions.{reply, shown, translation_reply}
-use borrow.Author.Rules.{rules}
 use Rattle.scroll_questions.proofs.zoom.translation_delta.Goals as goal
 
 pub returns-in-None : goal.returns-in-None

@@ -1,6 +1,5 @@
 use lib.Ieee.{of_bits}
 use Rattle.model.specs.Questions.{reply, shown, zoom_reply}
-use borrow.Author.Rules.{rules}
 use Rattle.scroll_questions.proofs.zoom.zoom_delta.Goals as goal
 
 pub returns-in-None : goal.returns-in-None

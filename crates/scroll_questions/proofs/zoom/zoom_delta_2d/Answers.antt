@@ -1,5 +1,4 @@
 use Rattle.model.specs.Questions.{reply, shown, zoom_2d_reply}
-use borrow.Author.Rules.{rules}
 use Rattle.scroll_questions.proofs.zoom.zoom_delta_2d.Goals as goal
 
 pub returns-in-None : goal.returns-in-None

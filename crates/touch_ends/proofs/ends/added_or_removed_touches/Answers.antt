@@ -1,10 +1,6 @@
-use Prim.Native.Nat.{◌+◌, ◌-◌, ◌≤◌}
+use Prim.Native.Nat.{◌+◌}
 use mathlib.Core.Path.{◌≡◌, sym, ◌∙◌}
-use mathlib.Core.Bool.{false}
 use native.Mathlib.Omega.{arith}
-use borrow.Author.Rules.{rules}
-use Rattle.model.specs.Touch.{added_or_removed_touches}
-use Rattle.event_loop.specs.Lists.{listed_events, touch_list}
 use Rattle.touch_ends.proofs.Ended.{adds_loop}
 use Rattle.touch_ends.proofs.ends.added_or_removed_touches.Goals as goal
 

@@ -1,11 +1,8 @@
-use Prim.Native.Nat.{◌+◌, ◌-◌, ◌≤◌}
-use mathlib.Core.Path.{◌≡◌, sym, ◌∙◌}
+use Prim.Native.Nat.{◌-◌, ◌≤◌}
+use mathlib.Core.Path.{◌≡◌}
 use mathlib.Core.Bool.{false}
-use native.Mathlib.Omega.{arith}
-use borrow.Author.Rules.{rules}
 use Rattle.model.specs.Touch.{added_or_removed_touches}
 use Rattle.event_loop.specs.Lists.{listed_events, touch_list}
-use Rattle.touch_ends.proofs.Ended.{adds_loop}
 use Rattle.touch_ends.proofs.ends.added_or_removed_touches.Given as goal
 
 abbrev pub invariant-loop-i : goal.invariant-loop-i

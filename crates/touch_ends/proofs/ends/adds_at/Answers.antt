@@ -3,7 +3,6 @@ use mathlib.Core.Path.{sym, ◌∙◌}
 use Rattle.data.specs.Kinds.{touch_kind}
 use Rattle.event_loop.proofs.OfKind.{not_of_kind}
 use Rattle.touch_ends.proofs.Ended.{adds_idle}
-use borrow.Author.Rules.{rules}
 use Rattle.touch_ends.proofs.ends.adds_at.Goals as goal
 
 pub returns-then-kind_at-eq-TOUCH_KIND : goal.returns-then-kind_at-eq-TOUCH_KIND

@@ -1,11 +1,8 @@
-use Prim.Native.Nat.{◌-◌, ◌≤◌}
 use mathlib.Core.Path.{◌≡◌, ◌∙◌, refl}
 use native.Mathlib.Omega.{arith}
-use borrow.Author.Rules.{rules}
-use lib.ListN.{length, take, length-take, length-map, length-set}
-use Rattle.event_loop.specs.Lists.{touch_list, listed_events}
+use lib.ListN.{length, take, length-take, length-set}
 use Rattle.touches.proofs.Places.{first_of, first_le}
-use Rattle.touch_ends.proofs.Ended.{ended, ended_start, ended_step, ended_end}
+use Rattle.touch_ends.proofs.Ended.{ended_start, ended_step, ended_end}
 use Rattle.touch_ends.proofs.ends.end_devices.Goals as goal
 
 pub loop-i-init : goal.loop-i-init

@@ -1,11 +1,8 @@
 use Prim.Native.Nat.{◌-◌, ◌≤◌}
-use mathlib.Core.Path.{◌≡◌, ◌∙◌, refl}
-use native.Mathlib.Omega.{arith}
-use borrow.Author.Rules.{rules}
-use lib.ListN.{length, take, length-take, length-map, length-set}
+use mathlib.Core.Path.{◌≡◌}
+use lib.ListN.{length}
 use Rattle.event_loop.specs.Lists.{touch_list, listed_events}
-use Rattle.touches.proofs.Places.{first_of, first_le}
-use Rattle.touch_ends.proofs.Ended.{ended, ended_start, ended_step, ended_end}
+use Rattle.touch_ends.proofs.Ended.{ended}
 use Rattle.touch_ends.proofs.ends.end_devices.Given as goal
 
 abbrev pub invariant-loop-i : goal.invariant-loop-i

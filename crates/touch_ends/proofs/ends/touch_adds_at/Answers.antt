@@ -8,7 +8,6 @@ use Rattle.event_loop.specs.Shaped.{event_or_other}
 use Rattle.event_loop.proofs.Walk.{at_past}
 use Rattle.event_readers.proofs.KnownKind.{whole_as, short_as}
 use Rattle.touch_ends.proofs.Ended.{or_none}
-use borrow.Author.Rules.{rules}
 use Rattle.touch_ends.proofs.ends.touch_adds_at.Goals as goal
 
 pub returns-then-at-feed : goal.returns-then-at-feed

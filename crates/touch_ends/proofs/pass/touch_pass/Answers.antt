@@ -1,7 +1,6 @@
 use mathlib.Core.Path.{◌∙◌, ap}
 use mathlib.Core.List.{map}
 use native.Mathlib.Omega.{arith}
-use borrow.Author.Rules.{rules}
 use Rattle.touch_ends.proofs.Passed.{nothing}
 use Rattle.touch_ends.proofs.pass.touch_pass.Goals as goal
 
