@@ -12,7 +12,7 @@ use lib.Ieee.{Float}
 use Rattle.data.specs.Limits.{max_touches}
 use Rattle.data.specs.declared.touch.ActiveTouch.{ActiveTouch}
 use Rattle.image.specs.Codes.{write, entry_words, option_words, zeros, all, size, In, Each, El}
-use Rattle.image.specs.Places.{or_else, two_at, two_bad, value_at, bad_at, rows_at, key_at, keys_bad, Tested}
+use Rattle.image.specs.Places.{or_else, two_at, two_bad, value_at, rows_at, key_at, keys_bad, Tested}
 use Rattle.image.proofs.Lists.{put_row, all_length, sets_at, read_row, map-append, each_more, zeros_length, keyed_of}
 use Rattle.image_words.specs.Leaves.{after}
 use Rattle.image_touches.specs.Touches.{ascending, force_code, touch_code, touches_code, touch_el, touch_of, touches_el, touches_of, seen_of}

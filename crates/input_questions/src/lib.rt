@@ -3,6 +3,7 @@
 // pixels_per_point, smooth_scroll_delta. is_scrolling stands in wheel_state; any_touches, has_touch_screen, multi_touch and the two questions by
 // device id in touch_questions; those about zoom, rotation, scrolling and touches in scroll_questions.
 #![tactic(auto)]
+
 pub mod keys;
 pub mod repaint;
 pub mod screen;

@@ -29,7 +29,6 @@ use Rattle.wheel_loop.proofs.Loops.{wheel_pass_own}
 use Rattle.key_state.specs.View.{begun, numbers_of}
 use Rattle.key_state.proofs.Idle.{key_own}
 use Rattle.zoom_and_rotation.proofs.Idle.{zoom_own, rotation_own}
-use Rattle.input_state.specs.declared.input.PassInput.{PassInput}
 use Rattle.input_state.specs.declared.state.InputState.{InputState}
 use Rattle.input_state.specs.View.{Lent, begin_by, Storage}
 

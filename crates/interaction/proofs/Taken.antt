@@ -6,7 +6,7 @@ use mathlib.Core.Option.{Option, none, some}
 use mathlib.Core.List.{List}
 use native.Mathlib.Omega.{arith}
 use lib.Dec.{leb}
-use lib.ListN.{length, take, drop}
+use lib.ListN.{length, take}
 use borrow.Author.Tests.{leb-true}
 use Rattle.data.specs.Limits.{max_tally, max_hits, id_places}
 use Rattle.model.specs.Types.{WidgetRect, PointerEvent, InteractRefusal}
@@ -15,12 +15,12 @@ use Rattle.model.specs.Pass.{Panel, or_else}
 use Rattle.model.specs.Interact as Model
 use Rattle.model.specs.Interact.{InteractInput, is_some, one_if, if_changed, walked, interaction_after, snapshot, tallied, tallied_by, tally_after, tally_refusal, interact_by, interact_seen, refused, answered, with_interaction}
 use Rattle.model.specs.Interact.{input_refusal, buffers_refusal, hits_refusal, hit_refusal, hovered_of, contains_pointer_of}
-use Rattle.hit_lists.specs.Hits.{hits_of, view}
+use Rattle.hit_lists.specs.Hits.{hits_of}
 use Rattle.hit_refusals.specs.Refusals.{input, unknown}
 use Rattle.hit_refusals.proofs.Entries.{not_too_many}
-use Rattle.id_set.specs.Ids.{option_of, Written}
+use Rattle.id_set.specs.Ids.{option_of}
 use Rattle.id_lists.specs.Ids.{hovered_ids, contains_ids}
-use Rattle.id_set.proofs.Written.{list, beyond}
+use Rattle.id_set.proofs.Written.{list}
 use lib.Ieee.{Float}
 use Rattle.interaction_state.specs.Lookup.{lookup}
 use Rattle.interaction.specs.Types.{WidgetRects, MaybeHit, MaybeId, Interaction, Seen, Going, Outcome, Answer}

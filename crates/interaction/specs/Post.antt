@@ -7,7 +7,7 @@ use Rattle.model.specs.Pass as Pass
 use Rattle.model.specs.Interact as Model
 use Rattle.id_set.specs.Ids.{option_of, Written}
 use Rattle.id_lists.specs.Ids.{hovered_ids, contains_ids}
-use Rattle.interaction.specs.Types.{MaybeHit, Interaction, Seen, Outcome, Answer, Interacted, Refused, Taken}
+use Rattle.interaction.specs.Types.{MaybeHit, Outcome, Answer, Interacted, Refused, Taken}
 use Rattle.interaction_state.specs.View.{interaction_of, snapshot_of}
 
 -- the snapshot but for the two id sets, and the interaction state after it

@@ -1,7 +1,6 @@
 use Rattle.image.specs.Places.{value_at, span}
 use Rattle.image.specs.Codes.{size}
 use Rattle.interaction_state.specs.View.{interaction_of}
-use borrow.Author.Rules.{rules}
 use Rattle.image_interaction.proofs.interaction_at.Goals as goal
 
 pub returns : goal.returns

@@ -1,6 +1,5 @@
 use Rattle.image_interaction.proofs.Trip.{interaction_list}
 use Rattle.interaction_state.specs.View.{interaction_of}
-use borrow.Author.Rules.{rules}
 use Rattle.image_interaction.proofs.interaction_words.Goals as goal
 
 pub returns : goal.returns

@@ -2,7 +2,6 @@ use Rattle.image.specs.Codes.{write, size}
 use mathlib.Core.Path.{refl}
 use lib.Dec.{le→leb}
 use native.Mathlib.Omega.{arith}
-use borrow.Author.Rules.{rules}
 use Rattle.image_interaction.proofs.tally_words.Goals as goal
 
 pub returns : goal.returns

@@ -1,9 +1,9 @@
 use borrow.Author.Rules.{rules}
-use Rattle.image_touches.proofs.Walk.{written, EachIn, put_none, each_none, six, put_more, each_touch}
+use Rattle.image_touches.proofs.Walk.{written, put_none, each_none, six, put_more, each_touch}
 use lib.Seq.{sets, length-sets}
-use lib.ListN.{length, take}
+use lib.ListN.{length}
 use mathlib.Core.Path.{◌≡◌, ap, ◌∙◌}
-use Prim.Native.Nat.{ℕ, ◌≤◌, ◌-◌}
+use Prim.Native.Nat.{ℕ}
 use native.Mathlib.Omega.{arith}
 use Rattle.image_touches.proofs.places_put.Goals as goal
 

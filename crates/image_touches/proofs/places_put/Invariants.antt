@@ -1,10 +1,8 @@
-use borrow.Author.Rules.{rules}
-use Rattle.image_touches.proofs.Walk.{written, EachIn, put_none, each_none, six, put_more, each_touch}
-use lib.Seq.{sets, length-sets}
-use lib.ListN.{length, take}
-use mathlib.Core.Path.{◌≡◌, ap, ◌∙◌}
-use Prim.Native.Nat.{ℕ, ◌≤◌, ◌-◌}
-use native.Mathlib.Omega.{arith}
+use Rattle.image_touches.proofs.Walk.{written, EachIn}
+use lib.Seq.{sets}
+use lib.ListN.{take}
+use mathlib.Core.Path.{◌≡◌}
+use Prim.Native.Nat.{◌≤◌, ◌-◌}
 use Rattle.image_touches.proofs.places_put.Given as goal
 
 abbrev pub invariant-loop-i : goal.invariant-loop-i

@@ -3,10 +3,9 @@ use Rattle.image.specs.Codes.{zeros}
 use Prim.Native.Nat.{◌+◌, ◌*◌, ◌-◌, ◌≤◌}
 use Rattle.touches.proofs.Places.{first_of}
 use lib.Seq.{length-sets}
-use lib.ListN.{length-set, length-map}
+use lib.ListN.{length-set}
 use mathlib.Core.Path.{◌∙◌}
 use native.Mathlib.Omega.{arith}
-use borrow.Author.Rules.{rules}
 use Rattle.image_touches.proofs.touches_put.Goals as goal
 
 pub overflow_cast-out : goal.overflow_cast-out

@@ -1,5 +1,4 @@
 use Rattle.model.specs.Questions.{reply, shown}
-use borrow.Author.Rules.{rules}
 use Rattle.input_questions.proofs.keys.num_presses.Goals as goal
 
 pub returns : goal.returns

@@ -8,7 +8,6 @@ use Rattle.model.specs.Questions.{some_event}
 use Rattle.model.specs.Types.{PointerEvent}
 use Rattle.pointer_clicks.specs.View.{held}
 use Rattle.pointer_events.proofs.Stored.{events_length}
-use borrow.Author.Rules.{rules}
 use Rattle.input_questions.proofs.repaint.pointer_wants_repaint.Goals as goal
 
 some : (es : List PointerEvent) → 0 < length es → some_event es ≡ true

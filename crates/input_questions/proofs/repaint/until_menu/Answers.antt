@@ -1,5 +1,4 @@
 use Rattle.model.specs.Questions.{until_menu}
-use borrow.Author.Rules.{rules}
 use Rattle.input_questions.proofs.repaint.until_menu.Goals as goal
 
 pub returns-then-duration-options : goal.returns-then-duration-options

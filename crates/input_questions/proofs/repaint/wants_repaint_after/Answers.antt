@@ -1,7 +1,6 @@
 use lib.Ieee.{of_bits}
 use Rattle.model.specs.Questions.{reply, shown, repaint_after}
 use Rattle.model.specs.Pass.{decidedly_dragging}
-use borrow.Author.Rules.{rules}
 use Rattle.input_questions.proofs.repaint.wants_repaint_after.Goals as goal
 
 pub returns-then-pointer_wants_repaint-wheel_wants_repaint : goal.returns-then-pointer_wants_repaint-wheel_wants_repaint

@@ -1,6 +1,5 @@
 use lib.Ieee.{of_bits}
 use Rattle.model.specs.Numbers.{fifth}
-use borrow.Author.Rules.{rules}
 use Rattle.input_questions.proofs.repaint.wheel_wants_repaint.Goals as goal
 
 pub returns : goal.returns

@@ -1,5 +1,4 @@
 use Rattle.model.specs.Questions.{reply, shown}
-use borrow.Author.Rules.{rules}
 use Rattle.input_questions.proofs.screen.aim_radius.Goals as goal
 
 pub returns : goal.returns

@@ -1,5 +1,4 @@
-use mathlib.Core.Path.{◌≡◌, refl, sym, ap, ◌∙◌}
-use borrow.Author.Rules.{rules}
+use mathlib.Core.Path.{◌∙◌}
 use Rattle.input_state.proofs.pointer.pointer_pass.Goals as goal
 
 pub returns : goal.returns

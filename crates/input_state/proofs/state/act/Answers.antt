@@ -5,7 +5,6 @@ use Rattle.event_loop.specs.Lists.{pointer_list, keys_list}
 use Rattle.input_state.specs.View.{lent, panel, input}
 use Rattle.model.specs.Pass.{time_of, decidedly_dragging}
 use Rattle.input_state.proofs.Whole.{acted, stored, few, place_all, press_all, wheel_all, keys_all, sums_all}
-use borrow.Author.Rules.{rules}
 use Rattle.input_state.proofs.state.act.Goals as goal
 
 pub pointer_pass-pointer-requires : goal.pointer_pass-pointer-requires

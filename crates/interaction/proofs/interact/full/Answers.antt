@@ -1,4 +1,3 @@
-use borrow.Author.Rules.{rules}
 use Rattle.interaction.proofs.interact.full.Goals as goal
 
 pub returns : goal.returns

@@ -2,7 +2,6 @@ use mathlib.Core.Path.{refl, sym, ◌∙◌, ap}
 use Rattle.hit_refusals.specs.Refusals.{refusal_of}
 use Rattle.interaction.specs.Post.{row_of}
 use Rattle.interaction.proofs.Taken.{refused_by, accepted, sized}
-use borrow.Author.Rules.{rules}
 use Rattle.interaction.proofs.interact.interact.Goals as goal
 
 pub unless_full-requires : goal.unless_full-requires

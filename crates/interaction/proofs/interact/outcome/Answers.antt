@@ -1,6 +1,5 @@
 use mathlib.Core.Path.{refl}
 use Rattle.interaction.proofs.Taken.{answers}
-use borrow.Author.Rules.{rules}
 use Rattle.interaction.proofs.interact.outcome.Goals as goal
 
 pub returns : goal.returns

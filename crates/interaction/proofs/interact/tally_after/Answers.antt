@@ -5,7 +5,6 @@ use native.Mathlib.Omega.{arith}
 use borrow.Author.Tests.{leb-false}
 use Rattle.model.specs.Interact.{is_some, one_if}
 use Rattle.id_set.specs.Ids.{option_of}
-use borrow.Author.Rules.{rules}
 use Rattle.interaction.proofs.interact.tally_after.Goals as goal
 
 pub overflow_add-result : goal.overflow_add-result

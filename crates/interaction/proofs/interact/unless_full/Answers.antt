@@ -2,7 +2,6 @@ use mathlib.Core.Path.{refl, sym, ap, ◌∙◌}
 use Rattle.id_set.proofs.Written.{beyond}
 use Rattle.interaction.specs.Post.{row_of}
 use Rattle.interaction.proofs.Taken.{refuses, taken, looks, within_is}
-use borrow.Author.Rules.{rules}
 use Rattle.interaction.proofs.interact.unless_full.Goals as goal
 
 pub returns-then-full : goal.returns-then-full
