@@ -14,7 +14,8 @@ ghost use Rattle.std.specs.Prelude.{◌*◌, ◌<◌, ◌≤◌};
 ghost use Rattle.data.specs.Limits.{max_events};
 
 use data::limits::MAX_EVENTS;
-use libc::STDOUT_FILENO;
+
+const STDOUT_FILENO: i32 = 1;
 
 // The longest feed: an event has at most 8 words.
 const WORDS: usize = 8 * MAX_EVENTS;

@@ -6,7 +6,8 @@ mod record;
 
 use cases::Tally;
 use emath_history::history::{MAX_LEN, PARTS};
-use libc::STDOUT_FILENO;
+
+const STDOUT_FILENO: i32 = 1;
 
 fn print_count(name: &[u8], t: Tally) {
     io::write_all(STDOUT_FILENO, name);

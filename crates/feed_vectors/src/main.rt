@@ -7,7 +7,8 @@ mod fields;
 mod record;
 
 use cases::Tally;
-use libc::STDOUT_FILENO;
+
+const STDOUT_FILENO: i32 = 1;
 
 // A million records at most, so that the loop ends.
 fn replay_all() -> Tally {

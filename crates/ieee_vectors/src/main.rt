@@ -5,7 +5,9 @@
 #![tactic(auto)]
 mod pairs;
 
-use libc::{STDIN_FILENO, STDOUT_FILENO};
+const STDIN_FILENO: i32 = 0;
+
+const STDOUT_FILENO: i32 = 1;
 
 #[derive(Clone, Copy)]
 struct Tally {

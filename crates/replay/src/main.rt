@@ -3,35 +3,33 @@
 //   replay sums      one checksum a call
 //   replay whole     the answers' words
 #![tactic(auto)]
-use check::same;
-use libc::STDERR_FILENO;
+use std::env::FillError;
+use std::rt::Env;
 use trace::run::{Form, replay};
+
+const STDERR_FILENO: i32 = 2;
 
 // 1 MiB, in words.
 const LIMIT: usize = 262144;
 
-fn replay_as(arg: &[u8]) {
-    if same(arg, b"whole") {
-        replay(Form::Whole, LIMIT);
-        return;
-    }
-    if same(arg, b"sums") {
-        replay(Form::Sums, LIMIT);
-        return;
-    }
-    if same(arg, b"text") {
-        replay(Form::Text, LIMIT);
-        return;
-    }
+fn say_usage() {
     io::write_all(STDERR_FILENO, b"usage: replay [text|sums|whole] < trace\n");
 }
 
-fn main() {
-    let mut arg = [0u8; 8];
-    if os::arg_count() < 2 {
-        replay(Form::Text, LIMIT);
-        return;
+fn replay_as(arg: &[u8]) {
+    match arg {
+        b"whole" => replay(Form::Whole, LIMIT),
+        b"sums" => replay(Form::Sums, LIMIT),
+        b"text" => replay(Form::Text, LIMIT),
+        _ => say_usage(),
     }
-    let n = os::arg(1, &mut arg);
-    replay_as(&arg[..n]);
+}
+
+fn main(rt: HostRuntime) {
+    let mut arg = [0u8; 8];
+    match rt.arg(1, &mut arg) {
+        Ok(n) => replay_as(&arg[..n]),
+        Err(FillError::NotPresent) => replay(Form::Text, LIMIT),
+        Err(FillError::TooLong) => say_usage(),
+    }
 }

@@ -2,7 +2,6 @@
 use crate::call::call;
 use emath_history::history::{MAX_LEN, PARTS};
 use key_state::keys::PRESSES;
-use libc::STDERR_FILENO;
 use panel::clock::time;
 use pointer_events::{CODES, PLACES};
 use trace_machine::machine::{Machine, Step, fresh};
@@ -16,6 +15,8 @@ use trace_words::records::{LENT, Lent};
 use trace_words::reply::Reply;
 use trace_words::words::{Answer, ROOM};
 use widget_index::table::{EDGES, Edges, NUMBERS, Numbers, Words};
+
+const STDERR_FILENO: i32 = 2;
 
 // How the answers are written.
 #[derive(Clone, Copy)]

@@ -1,5 +1,5 @@
 // Bytes for standard output, gathered in a lent buffer of which the first `n` wait to be written.
-use libc::STDOUT_FILENO;
+const STDOUT_FILENO: i32 = 1;
 
 pub const SIZE: usize = 65536;
 
