@@ -10,12 +10,12 @@ rt=${RT_HOME:-/opt/rattle}
 lock bench "$root"
 trap unlock EXIT
 trap 'exit 130' INT
-(cd "$root" && rt check bench_calls >/dev/null)
+(cd "$root/crates/bench_calls" && rt run <stdin >/dev/null)
 [ -d "$root/compare/egui-src" ] || NO_BUILD=1 "$root/compare/build.sh"
 target=${CARGO_TARGET_DIR:-$root/target/bench}
 (cd "$root/compare" && CARGO_TARGET_DIR=$target cargo build --release --offline --quiet --bin bench)
-libs=$rt/on/x86_64/toolchain/lib
+libs=$rt/toolchain/lib
 date +%F
-ours="$libs/ld-linux-x86-64.so.2 --inhibit-cache --library-path $libs $root/target/bin/bench_calls"
+ours="$libs/ld-linux-x86-64.so.2 --inhibit-cache --library-path $libs $root/crates/bench_calls/out/bench_calls"
 python3 "$here/table.py" "$ours" "$target/release/bench" "${1:-}"
-python3 "$here/stack.py" "$ours" "$root/target/bin/bench_calls"
+python3 "$here/stack.py" "$ours" "$root/crates/bench_calls/out/bench_calls"

@@ -2,7 +2,7 @@
 # Compares with egui where cargo and egui's sources are at hand; else says so and ends with 0.
 #   compare/run.sh [SECONDS]       default: 4,000,000 calls; EGUI_SRC: the src/ folder of egui 0.37.0
 #   BUILD_ONLY=1 compare/run.sh    builds; BUILT=1 compare/run.sh takes what is built
-# The program compared is target/bin/replay, as `rt check` leaves it. Ends with 1 at any difference.
+# The program compared is crates/replay/out/replay, as `rt run` leaves it. Ends with 1 at any difference.
 set -eu
 here=$(cd "$(dirname "$0")" && pwd)
 if [ $# -gt 0 ]; then
@@ -13,7 +13,7 @@ else
     lists=lists=600
 fi
 from=${EGUI_SRC:-$here/../../shared/docs/src/src}
-replay=${REPLAY:-$here/../target/bin/replay}
+replay=${REPLAY:-$here/../crates/replay/out/replay}
 if ! command -v cargo > /dev/null; then
     echo "compare: cargo is not at hand, nothing was compared with egui"
     exit 0
@@ -54,7 +54,7 @@ if [ ! -x "$replay" ]; then
     exit 0
 fi
 # The stored corpora with each call parked and restored: the stored answers, and those of the parkings between them.
-corpora=${CORPORA:-$here/../target/bin/trace_corpora}
+corpora=${CORPORA:-$here/../crates/trace_corpora/out/trace_corpora}
 if [ -x "$corpora" ]; then
     "$corpora" < "$work/parked.stdin" > "$work/parked.got"
     cmp -s "$work/parked.stdout" "$work/parked.got" || { echo "compare: the stored corpora are answered otherwise where each call is parked and restored"; exit 1; }

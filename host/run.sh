@@ -21,10 +21,12 @@ else
     say "python3 is not at hand, the boundary's files were not checked"
 fi
 if [ -z "${FIVVARUL_LIB:-}" ]; then
+    FIVVARUL_LIB=$work/lib
+    mkdir "$FIVVARUL_LIB"
     for archive in host host_questions; do
-        rt staticlib $archive >"$work/log" 2>&1 || { cat "$work/log"; exit 1; }
+        (cd crates/$archive && rt lib) >"$work/log" 2>&1 || { cat "$work/log"; exit 1; }
+        cp crates/$archive/out/lib$archive.a "$FIVVARUL_LIB"
     done
-    FIVVARUL_LIB=$PWD/target/staticlib
 fi
 export FIVVARUL_LIB
 if command -v cc >/dev/null; then
@@ -45,8 +47,8 @@ export CARGO_TARGET_DIR
 say "the package's tests and its documentation's examples pass"
 (cd host/rust && cargo run --release --offline --quiet --example jobs "$work/trace") >"$work/jobs"
 same "$work/jobs" host/rust/examples/jobs.txt
-if [ -x target/bin/replay ]; then
-    target/bin/replay text <"$work/trace" >"$work/replayed"
+if [ -x crates/replay/out/replay ]; then
+    crates/replay/out/replay text <"$work/trace" >"$work/replayed"
     starts=$(grep -c 'a slot is reserved' "$work/jobs")
     say "the example panel prints what is stored; its trace replays, with $starts drags started: $(tail -n 1 "$work/replayed")"
 fi
