@@ -1,13 +1,13 @@
 use mathlib.Core.Path.{◌≡◌}
 use borrow.Author.Rules.{rules}
-use lib.ListN.{length, length-map}
+use lib.ListN.{length}
 use Rattle.host_touch.proofs.Back.{kept_back}
 use Rattle.host_touch.proofs.kept.keep.Goals as goal
 
 pub returns : goal.returns
 returns c =
     let d = c.args.d in
-    let l : length d.touches.places ≡ 10 = simp length-map at c.well_formed.0.1.1.1.0.1.1.1.0.1.0.1 in
+    let l : length d.touches.places ≡ 10 = c.well_formed.0.1.1.1.0.1.1.1.0.1.0.1 in
     kept_back d _ _ _ _ _ _ _ _ _ _ _ _ _ l
     c.kept_touch-k0.ensures
     c.kept_touch-k1.ensures
