@@ -5,17 +5,16 @@
 set -eu
 here=$(cd "$(dirname "$0")" && pwd)
 root=$here/..
-rt=${RT_HOME:-/opt/rattle}
 . "$root/.ci/lock.sh"
 lock bench "$root"
 trap unlock EXIT
 trap 'exit 130' INT
-(cd "$root/crates/bench_calls" && rt run <stdin >/dev/null)
+# (one run of the program, after which it stays in out/)
+(cd "$root/crates/bench_calls" && rt run <stdin >/dev/null 2>&1)
 [ -d "$root/compare/egui-src" ] || NO_BUILD=1 "$root/compare/build.sh"
 target=${CARGO_TARGET_DIR:-$root/target/bench}
 (cd "$root/compare" && CARGO_TARGET_DIR=$target cargo build --release --offline --quiet --bin bench)
-libs=$rt/toolchain/lib
 date +%F
-ours="$libs/ld-linux-x86-64.so.2 --inhibit-cache --library-path $libs $root/crates/bench_calls/out/bench_calls"
+ours=$root/crates/bench_calls/out/bench_calls
 python3 "$here/table.py" "$ours" "$target/release/bench" "${1:-}"
 python3 "$here/stack.py" "$ours" "$root/crates/bench_calls/out/bench_calls"

@@ -2,7 +2,7 @@
 # Compares with egui where cargo and egui's sources are at hand; else says so and ends with 0.
 #   compare/run.sh [SECONDS]       default: 4,000,000 calls; EGUI_SRC: the src/ folder of egui 0.37.0
 #   BUILD_ONLY=1 compare/run.sh    builds; BUILT=1 compare/run.sh takes what is built
-# The program compared is crates/replay/out/replay, as `rt run` leaves it. Ends with 1 at any difference.
+# The program compared is crates/replay/out/replay, as `rt run` and `rt ci` leave it. Ends with 1 at any difference.
 set -eu
 here=$(cd "$(dirname "$0")" && pwd)
 if [ $# -gt 0 ]; then

@@ -10,7 +10,7 @@ use mir.Facts.{to_z-of_z}
 use Rattle.kernel_values.specs.Value.{same_number, is_finger}
 
 pub read_back : (z : ℤ) → mag z < 0x8000_0000 → to_z w32 (of_z w32 z) ≡ z
-read_back z h = to_z-of_z (record { sfits = h })
+read_back z h = to_z-of_z {w = w32} (record { sfits = h })
 
 pub same_told : (a b : ℤ) (r t : Bool) → mag a < 0x8000_0000 → mag b < 0x8000_0000 →
     r ≡ same_number (to_z w32 (of_z w32 a)) (to_z w32 (of_z w32 b)) → r ≡ t → same_number a b ≡ t

@@ -88,7 +88,7 @@ module _ (d : ℕ) (f : TouchState → TouchState) (keeps : (v : TouchState) →
   at_ascending [] a = (tt, tt)
   at_ascending (v ∷ vs) a =
       elim (order d v.device_id) [
-        | less l ↦ rw (at_less d f v vs l) (rw new_id (l, above_down device_id_of d v.device_id vs l a.0), a)
+        | less l ↦ rw (at_less d f v vs l) (subst (λ (n : ℕ). AboveAll n (v ∷ vs)) (sym new_id) (l, above_down device_id_of d v.device_id vs l a.0), a)
         | equal e ↦ rw (at_same d f v vs e) (rw (keeps v) a.0, a.1)
         | more l ↦ rw (at_more d f v vs l) (at_above v.device_id vs l a.0, at_ascending vs a.1)
       ]

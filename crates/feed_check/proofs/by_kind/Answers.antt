@@ -87,8 +87,8 @@ returns-in-12 c = rw c.in-12.is (c.bare-in-12.ensures ∙ sym (clean_is _ _ _ 1 
 
 pub returns-in-13-to-15 : goal.returns-in-13-to-15
 unfolding shape_by_kind check_floats found_at verdict_of
-returns-in-13-to-15 c = rw (ne_eqb _ _ c.in_default-1.rest.0.0.0.0.0.0.0.0.0.0.0.0.1, ne_eqb _ _ c.in_default-1.rest.0.0.0.0.0.0.0.0.0.0.0.1, ne_eqb _ _ c.in_default-1.rest.0.0.0.0.0.0.0.0.0.0.1, ne_eqb _ _ c.in_default-1.rest.0.0.0.0.0.0.0.0.0.1, ne_eqb _ _ c.in_default-1.rest.0.0.0.0.0.0.0.0.1, ne_eqb _ _ c.in_default-1.rest.0.0.0.0.0.0.0.1, ne_eqb _ _ c.in_default-1.rest.0.0.0.0.0.0.1, ne_eqb _ _ c.in_default-1.rest.0.0.0.0.0.1, ne_eqb _ _ c.in_default-1.rest.0.0.0.0.1, ne_eqb _ _ c.in_default-1.rest.0.0.0.1, ne_eqb _ _ c.in_default-1.rest.0.0.1, ne_eqb _ _ c.in_default-1.rest.0.1, ne_eqb _ _ c.in_default-1.rest.1)
+returns-in-13-to-15 c = rw (ne_eqb _ _ c.in-13-to-15.in_default-own.rest.0.0.0.0.0.0.0.0.0.0.0.0.1, ne_eqb _ _ c.in-13-to-15.in_default-own.rest.0.0.0.0.0.0.0.0.0.0.0.1, ne_eqb _ _ c.in-13-to-15.in_default-own.rest.0.0.0.0.0.0.0.0.0.0.1, ne_eqb _ _ c.in-13-to-15.in_default-own.rest.0.0.0.0.0.0.0.0.0.1, ne_eqb _ _ c.in-13-to-15.in_default-own.rest.0.0.0.0.0.0.0.0.1, ne_eqb _ _ c.in-13-to-15.in_default-own.rest.0.0.0.0.0.0.0.1, ne_eqb _ _ c.in-13-to-15.in_default-own.rest.0.0.0.0.0.0.1, ne_eqb _ _ c.in-13-to-15.in_default-own.rest.0.0.0.0.0.1, ne_eqb _ _ c.in-13-to-15.in_default-own.rest.0.0.0.0.1, ne_eqb _ _ c.in-13-to-15.in_default-own.rest.0.0.0.1, ne_eqb _ _ c.in-13-to-15.in_default-own.rest.0.0.1, ne_eqb _ _ c.in-13-to-15.in_default-own.rest.0.1, ne_eqb _ _ c.in-13-to-15.in_default-own.rest.1)
 
 pub returns-in_default : goal.returns-in_default
 unfolding shape_by_kind check_floats found_at verdict_of
-returns-in_default c = rw (ne_eqb _ _ c.in_default-1.rest.0.0.0.0.0.0.0.0.0.0.0.0.1, ne_eqb _ _ c.in_default-1.rest.0.0.0.0.0.0.0.0.0.0.0.1, ne_eqb _ _ c.in_default-1.rest.0.0.0.0.0.0.0.0.0.0.1, ne_eqb _ _ c.in_default-1.rest.0.0.0.0.0.0.0.0.0.1, ne_eqb _ _ c.in_default-1.rest.0.0.0.0.0.0.0.0.1, ne_eqb _ _ c.in_default-1.rest.0.0.0.0.0.0.0.1, ne_eqb _ _ c.in_default-1.rest.0.0.0.0.0.0.1, ne_eqb _ _ c.in_default-1.rest.0.0.0.0.0.1, ne_eqb _ _ c.in_default-1.rest.0.0.0.0.1, ne_eqb _ _ c.in_default-1.rest.0.0.0.1, ne_eqb _ _ c.in_default-1.rest.0.0.1, ne_eqb _ _ c.in_default-1.rest.0.1, ne_eqb _ _ c.in_default-1.rest.1)
+returns-in_default c = rw (ne_eqb _ _ c.in_default.in_default-own.rest.0.0.0.0.0.0.0.0.0.0.0.0.1, ne_eqb _ _ c.in_default.in_default-own.rest.0.0.0.0.0.0.0.0.0.0.0.1, ne_eqb _ _ c.in_default.in_default-own.rest.0.0.0.0.0.0.0.0.0.0.1, ne_eqb _ _ c.in_default.in_default-own.rest.0.0.0.0.0.0.0.0.0.1, ne_eqb _ _ c.in_default.in_default-own.rest.0.0.0.0.0.0.0.0.1, ne_eqb _ _ c.in_default.in_default-own.rest.0.0.0.0.0.0.0.1, ne_eqb _ _ c.in_default.in_default-own.rest.0.0.0.0.0.0.1, ne_eqb _ _ c.in_default.in_default-own.rest.0.0.0.0.0.1, ne_eqb _ _ c.in_default.in_default-own.rest.0.0.0.0.1, ne_eqb _ _ c.in_default.in_default-own.rest.0.0.0.1, ne_eqb _ _ c.in_default.in_default-own.rest.0.0.1, ne_eqb _ _ c.in_default.in_default-own.rest.0.1, ne_eqb _ _ c.in_default.in_default-own.rest.1)

@@ -14,7 +14,7 @@ returns-then-n-lt2 c = sym (few _ (rw c.len-n.ensures at c.if-n-lt2.true))
 pub recip-r-requires : goal.recip-r-requires
 recip-r-requires c =
     let ts = c.args.ts in
-    let l : length ts.places ≡ max_touches = simp length-map at c.well_formed.0.1.1.1.0.1.0.1 in
+    let l : length ts.places ≡ max_touches = c.well_formed.0.1.1.1.0.1.0.1 in
     let b : length (take ts.count ts.places) ≤ max_touches = omega (arith, length-take ts.count ts.places) in
     rw c.len-n.ensures b
 

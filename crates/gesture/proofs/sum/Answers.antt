@@ -13,7 +13,7 @@ use Rattle.gesture.proofs.sum.Goals as goal
 pub loop-i-init : goal.loop-i-init
 loop-i-init c =
     let ts = c.args.ts in
-    let l : length ts.places ≡ max_touches = simp length-map at c.well_formed.0.1.1.1.0.1.0.1 in
+    let l : length ts.places ≡ max_touches = c.well_formed.0.1.1.1.0.1.0.1 in
     let e = c.len-n.ensures in
     (omega arith, rw e (first_le ts.count ts.places), l, refl, refl)
 

@@ -24,14 +24,14 @@ pub returns-then-not-sense_ok : goal.returns-then-not-sense_ok
 unfolding refusal_of
 returns-then-not-sense_ok c =
     let l : c.loop-i.i < max_hits = omega arith in
-    sym (malformed _ _ _ c.loop-i-test.true l (sym c.sense_ok.ensures ∙ not-true c.sense_ok.result c.if-not-sense_ok.true))
+    sym (malformed _ _ _ c.loop-i-test.true l (sym c.sense_ok.ensures ∙ c.if-not-sense_ok.true))
     ∙ c.loop-i.invariant.3
 
 pub returns-then-words-i-eq0 : goal.returns-then-words-i-eq0
 unfolding refusal_of
 returns-then-words-i-eq0 c =
     let l : c.loop-i.i < max_hits = omega arith in
-    sym (zero_id _ _ _ c.loop-i-test.true l (sym c.sense_ok.ensures ∙ not-false c.sense_ok.result c.if-not-sense_ok.false) c.if-words-i-eq0.true)
+    sym (zero_id _ _ _ c.loop-i-test.true l (sym c.sense_ok.ensures ∙ c.if-not-sense_ok.false) c.if-words-i-eq0.true)
     ∙ c.loop-i.invariant.3
 
 pub loop-i-preserved : goal.loop-i-preserved
@@ -40,7 +40,7 @@ loop-i-preserved c =
       refl,
       omega arith,
       omega arith,
-      sym (passed _ _ _ c.loop-i-test.true l (sym c.sense_ok.ensures ∙ not-false c.sense_ok.result c.if-not-sense_ok.false) c.if-words-i-eq0.false)
+      sym (passed _ _ _ c.loop-i-test.true l (sym c.sense_ok.ensures ∙ c.if-not-sense_ok.false) c.if-words-i-eq0.false)
           ∙ c.loop-i.invariant.3,
     )
 

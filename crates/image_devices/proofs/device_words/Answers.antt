@@ -11,5 +11,5 @@ use Rattle.image_devices.proofs.device_words.Goals as goal
 pub returns : goal.returns
 returns c =
     let t = c.args.d.touches in
-    let few : length (list t) ≤ max_touches = len_le _ t.count t.places (simp length-map at c.well_formed.0.1.1.1.0.1.1.1.0.1.0.1) refl in
+    let few : length (list t) ≤ max_touches = len_le _ t.count t.places (c.well_formed.0.1.1.1.0.1.1.1.0.1.0.1) refl in
     (refl, sym (entry_length (device_view c.args.d) few))

@@ -16,7 +16,7 @@ use Rattle.image_devices.proofs.devices_at.Goals as goal
 
 pub loop-i-init : goal.loop-i-init
 loop-i-init c =
-    let t : length c.none-ds.result.places ≡ 4 = simp length-map at c.none-ds.well_formed.1.1.1.0.1.0.1 in
+    let t : length c.none-ds.result.places ≡ 4 = c.none-ds.type_inv.1.1.1.0.1.0.1 in
     let a = c.args in
     (omega arith, t, read_none a.words.now (a.at + 1) c.none-ds.result.places)
 

@@ -6,10 +6,10 @@ use borrow.Author.Rules.{rules}
 use Rattle.image_devices.proofs.devices_words.Goals as goal
 
 pub rows_words-requires : goal.rows_words-requires
-rows_words-requires c = count_le _ c.args.ds.count c.args.ds.places (simp length-map at c.well_formed.0.1.1.1.0.1.0.1) c.len-n.ensures
+rows_words-requires c = count_le _ c.args.ds.count c.args.ds.places (c.well_formed.0.1.1.1.0.1.0.1) c.len-n.ensures
 
 pub overflow_add-result : goal.overflow_add-result
-overflow_add-result c = let n = count_le _ c.args.ds.count c.args.ds.places (simp length-map at c.well_formed.0.1.1.1.0.1.0.1) c.len-n.ensures in omega (arith, n, c.rows_words.ensures.0)
+overflow_add-result c = let n = count_le _ c.args.ds.count c.args.ds.places (c.well_formed.0.1.1.1.0.1.0.1) c.len-n.ensures in omega (arith, n, c.rows_words.ensures.0)
 
 pub returns : goal.returns
 returns c =

@@ -8,7 +8,7 @@ use borrow.Author.Rules.{rules}
 use Rattle.image_devices.proofs.rows_put.Goals as goal
 
 pub loop-i-init : goal.loop-i-init
-loop-i-init c = (omega arith, put_none _ _ c.args.t1, each_none c.args.t1, none_length c.args.t1)
+loop-i-init c = (omega arith, put_none _ _ c.args.places, each_none c.args.places, none_length c.args.places)
 
 pub device_put-requires : goal.device_put-requires
 device_put-requires c =

@@ -7,7 +7,7 @@ use borrow.Author.Rules.{rules}
 use Rattle.image_devices.proofs.rows_words.Goals as goal
 
 pub loop-i-init : goal.loop-i-init
-loop-i-init c = (omega arith, omega arith, none_length c.args.t1)
+loop-i-init c = (omega arith, omega arith, none_length c.args.places)
 
 pub loop-i-preserved : goal.loop-i-preserved
 loop-i-preserved c =
@@ -21,4 +21,4 @@ pub returns : goal.returns
 returns c =
     let l = c.loop-i in
     let e : l.i ≡ c.args.n = omega arith in
-    (omega (arith, l.invariant.1, e), l.invariant.1 ∙ sym l.invariant.2 ∙ ap (λ (k : ℕ). length (written c.args.t1 k)) e)
+    (omega (arith, l.invariant.1, e), l.invariant.1 ∙ sym l.invariant.2 ∙ ap (λ (k : ℕ). length (written c.args.places k)) e)

@@ -26,4 +26,4 @@ returns-in-2 c =
     rw (c.first-in-2.ensures, c.zeros_bad-in-2.ensures, c.word_bad-button.ensures, c.in-2.is)
 
 pub returns-in_default : goal.returns-in_default
-returns-in_default c = let other = c.in_default.rest in rw (c.clicked_bad.ensures, other_kind _ other.0.0.1 other.0.1 other.1)
+returns-in_default c = let other = c.in_default.in_default-own.rest in rw (c.clicked_bad.ensures, other_kind _ other.0.0.1 other.0.1 other.1)

@@ -8,7 +8,7 @@ use native.Mathlib.Omega.{arith}
 use Rattle.image_touches.proofs.places_put.Goals as goal
 
 pub loop-i-init : goal.loop-i-init
-loop-i-init c = (omega arith, put_none _ _ c.args.t1, each_none c.args.t1)
+loop-i-init c = (omega arith, put_none _ _ c.args.places, each_none c.args.places)
 
 pub copy-requires : goal.copy-requires
 copy-requires c =

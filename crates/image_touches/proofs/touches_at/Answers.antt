@@ -13,7 +13,7 @@ use Rattle.image_touches.proofs.touches_at.Goals as goal
 
 pub loop-i-init : goal.loop-i-init
 loop-i-init c =
-    let t : length c.none-ts.result.places ≡ 10 = simp length-map at c.none-ts.well_formed.1.1.1.0.1.0.1 in
+    let t : length c.none-ts.result.places ≡ 10 = c.none-ts.type_inv.1.1.1.0.1.0.1 in
     let a = c.args in
     (omega arith, t, read_none a.words.now (a.at + 1) c.none-ts.result.places)
 

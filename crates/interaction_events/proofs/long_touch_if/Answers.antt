@@ -10,16 +10,16 @@ use borrow.Author.Rules.{rules}
 use Rattle.interaction_events.proofs.long_touch_if.Goals as goal
 
 pub returns-then-not-long : goal.returns-then-not-long
-returns-then-not-long c edges = rw (not-true c.args.long c.if-not-long.true) (c.going.ensures _)
+returns-then-not-long c edges = rw (c.if-not-long.true) (c.going.ensures _)
 
 pub returns-then-is_some : goal.returns-then-is_some
 unfolding long_touch_if going_of
 returns-then-is_some c edges =
     let h = ap is_some (sym (c.known_id-touched.ensures edges)) ∙ (sym c.is_some.ensures ∙ c.if-is_some.true) in
-    rw (not-false c.args.long c.if-not-long.false, click_id_of c.args.s, touches _ _ h, c.nothing-gone.ensures, c.known_id-touched.ensures edges)
+    rw (c.if-not-long.false, click_id_of c.args.s, touches _ _ h, c.nothing-gone.ensures, c.known_id-touched.ensures edges)
 
 pub returns : goal.returns
 unfolding long_touch_if interaction_of
 returns c edges =
     let h = ap is_some (sym (c.known_id-touched.ensures edges)) ∙ (sym c.is_some.ensures ∙ c.if-is_some.false) in
-    rw (not-false c.args.long c.if-not-long.false, touches_none _ _ h) (c.going-2.ensures (λ d. none))
+    rw (c.if-not-long.false, touches_none _ _ h) (c.going-2.ensures (λ d. none))

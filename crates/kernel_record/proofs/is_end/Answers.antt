@@ -1,3 +1,4 @@
+use borrow.Enum.Refused.{opened}
 use mathlib.Core.Path.{◌≡◌, refl}
 use mathlib.Core.Bool.{false}
 use mathlib.Core.List.{[], ◌∷◌}
@@ -27,4 +28,4 @@ returns-in-ReportEnd c = rw c.in-ReportEnd.is
 
 pub returns-in_default : goal.returns-in_default
 unfolding is_end
-returns-in_default c = other c.args.r c.in_default.keys2
+returns-in_default c = other c.args.r (opened c.in_default.in_default-own.keys2)

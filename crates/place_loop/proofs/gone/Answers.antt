@@ -14,13 +14,13 @@ loop-i-init c = (omega arith, gone_loop.begins _ _ _)
 pub returns-then-gone_at : goal.returns-then-gone_at
 returns-then-gone_at c =
     let l = c.loop-i in
-    let here = sym c.Gone-at.ensures ∙ c.if-gone_at.true in
+    let here = sym c.gone_at.ensures ∙ c.if-gone_at.true in
     sym (gone_loop.stays _ _ _ (l.i + 1) _ (omega arith) (gone_loop.goes_on _ _ _ _ ∙ rw l.invariant.1 (rw c.listed-at.ensures at here)))
 
 pub loop-i-preserved : goal.loop-i-preserved
 loop-i-preserved c =
     let l = c.loop-i in
-    let here = sym c.Gone-at.ensures ∙ c.if-gone_at.false in
+    let here = sym c.gone_at.ensures ∙ c.if-gone_at.false in
     (omega arith, gone_loop.goes_on _ _ _ _ ∙ rw l.invariant.1 (rw c.listed-at.ensures at here))
 
 pub returns : goal.returns

@@ -1,3 +1,4 @@
+use borrow.Enum.Refused.{opened}
 use mathlib.Core.Path.{refl, sym, ◌∙◌}
 use native.Mathlib.Omega.{arith}
 use borrow.Author.Rules.{rules}
@@ -11,25 +12,25 @@ pub returns-in_default-moved_at : goal.returns-in_default-moved_at
 unfolding place_event
 returns-in_default-moved_at c =
     let k = sym c.kind_at.ensures ∙ c.in-3.is in
-    rw (is_other _ _ 2 _ k c.moved_at.ensures c.in_default-moved_at.keys2 tt) (record { result = λ times positions. refl; start = refl })
+    rw (is_other _ _ 2 _ k c.moved_at.ensures (opened c.in_default-moved_at.in_default-moved_at-own.keys2) tt) (record { result = λ times positions. refl; start = refl })
 
 pub returns-in_default-motion_at : goal.returns-in_default-motion_at
 unfolding place_event
 returns-in_default-motion_at c =
     let k = sym c.kind_at.ensures ∙ c.in-4.is in
-    rw (is_other _ _ 3 _ k c.motion_at.ensures c.in_default-motion_at.keys2 tt) (record { result = λ times positions. refl; start = refl })
+    rw (is_other _ _ 3 _ k c.motion_at.ensures (opened c.in_default-motion_at.in_default-motion_at-own.keys2) tt) (record { result = λ times positions. refl; start = refl })
 
 pub returns-in_default-button_at : goal.returns-in_default-button_at
 unfolding place_event
 returns-in_default-button_at c =
     let k = sym c.kind_at.ensures ∙ c.in-5.is in
-    rw (is_other _ _ 4 _ k c.button_at.ensures c.in_default-button_at.keys2 tt) (record { result = λ times positions. refl; start = refl })
+    rw (is_other _ _ 4 _ k c.button_at.ensures (opened c.in_default-button_at.in_default-button_at-own.keys2) tt) (record { result = λ times positions. refl; start = refl })
 
 pub returns-in_default-gone_at : goal.returns-in_default-gone_at
 unfolding place_event
 returns-in_default-gone_at c =
     let k = sym c.kind_at.ensures ∙ c.in-6.is in
-    rw (is_other _ _ 5 _ k c.Gone-at.ensures c.in_default-gone_at.keys2 tt) (record { result = λ times positions. refl; start = refl })
+    rw (is_other _ _ 5 _ k c.gone_at.ensures (opened c.in_default-gone_at.in_default-gone_at-own.keys2) tt) (record { result = λ times positions. refl; start = refl })
 
 pub returns-in-PointerMoved : goal.returns-in-PointerMoved
 returns-in-PointerMoved c =
@@ -45,12 +46,12 @@ returns-in-PointerButton c =
 
 pub returns-in-PointerGone : goal.returns-in-PointerGone
 returns-in-PointerGone c =
-    rw (← c.Gone-at.ensures, c.in-PointerGone.is) c.gone_place.ensures
+    rw (← c.gone_at.ensures, c.in-PointerGone.is) c.gone_place.ensures
 
 pub returns-in_default : goal.returns-in_default
 returns-in_default c =
     let k = c.kind_at.ensures in
-    let r = c.in_default.rest in
+    let r = c.in_default.in_default-own.rest in
     record {
       result =
           λ times positions.

@@ -18,14 +18,14 @@ unfolding recount
 no_more n h = rw (le-ltb n button_count h)
 
 pub returns-then-count-lt-BUTTON_COUNT : goal.returns-then-count-lt-BUTTON_COUNT
-returns-then-count-lt-BUTTON_COUNT c = rw (c.if-pressed.true, not-true c.args.was c.if-not-was.true) (one_more _ (omega (arith, ltb-true)))
+returns-then-count-lt-BUTTON_COUNT c = rw (c.if-pressed.true, c.if-not-was.true) (one_more _ (omega (arith, ltb-true)))
 
 pub returns-else-count-lt-BUTTON_COUNT : goal.returns-else-count-lt-BUTTON_COUNT
-returns-else-count-lt-BUTTON_COUNT c = rw (c.if-pressed.true, not-true c.args.was c.if-not-was.true) (no_more _ (omega (arith, ltb-false)))
+returns-else-count-lt-BUTTON_COUNT c = rw (c.if-pressed.true, c.if-not-was.true) (no_more _ (omega (arith, ltb-false)))
 
 pub returns-else-not-was : goal.returns-else-not-was
 unfolding recount
-returns-else-not-was c = rw (c.if-pressed.true, not-false c.args.was c.if-not-was.false)
+returns-else-not-was c = rw (c.if-pressed.true, c.if-not-was.false)
 
 pub returns-then-count-gt0 : goal.returns-then-count-gt0
 unfolding recount

@@ -17,4 +17,4 @@ returns-in-2 c = rw (c.in-2.is, c.button_of-button.ensures)
 
 pub returns-in_default : goal.returns-in_default
 unfolding event_of click_of
-returns-in_default c = rw (ne_eqb _ _ c.in_default.rest.0.0.1, ne_eqb _ _ c.in_default.rest.0.1, ne_eqb _ _ c.in_default.rest.1, c.of-modifiers.ensures, c.button_of-button.ensures)
+returns-in_default c = rw (ne_eqb _ _ c.in_default.in_default-own.rest.0.0.1, ne_eqb _ _ c.in_default.in_default-own.rest.0.1, ne_eqb _ _ c.in_default.in_default-own.rest.1, c.of-modifiers.ensures, c.button_of-button.ensures)

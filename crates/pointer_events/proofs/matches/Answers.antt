@@ -19,5 +19,5 @@ pub returns-in_default : goal.returns-in_default
 unfolding event_of click_of
 returns-in_default c x k b n =
     rw
-    (k, ne_eqb _ _ c.in_default.rest.0.0.1, ne_eqb _ _ c.in_default.rest.0.1, ne_eqb _ _ c.in_default.rest.1, b)
+    (k, ne_eqb _ _ c.in_default.in_default-own.rest.0.0.1, ne_eqb _ _ c.in_default.in_default-own.rest.0.1, ne_eqb _ _ c.in_default.in_default-own.rest.1, b)
     (c.click_is.ensures (click_of x) n)

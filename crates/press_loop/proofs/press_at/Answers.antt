@@ -1,3 +1,4 @@
+use borrow.Enum.Refused.{opened}
 use mathlib.Core.Path.{sym, ◌∙◌}
 use native.Mathlib.Omega.{arith}
 use borrow.Author.Rules.{rules}
@@ -10,7 +11,7 @@ use Rattle.press_loop.proofs.press_at.Goals as goal
 pub returns-in_default : goal.returns-in_default
 returns-in_default c =
     let k = sym c.kind_at-kind.ensures ∙ c.if-kind-eq-MOVED_KIND.true in
-    rw (is_other _ _ 2 _ k c.moved_at-e.ensures c.in_default.keys2 tt) (press_stays _ _ Other _ _ _ (λ e. omega arith) (λ e. omega arith))
+    rw (is_other _ _ 2 _ k c.moved_at-e.ensures (opened c.in_default.in_default-own.keys2) tt) (press_stays _ _ Other _ _ _ (λ e. omega arith) (λ e. omega arith))
 
 pub returns-then-kind-eq-MOVED_KIND : goal.returns-then-kind-eq-MOVED_KIND
 returns-then-kind-eq-MOVED_KIND c =
@@ -19,7 +20,7 @@ returns-then-kind-eq-MOVED_KIND c =
 pub returns-in_default-e : goal.returns-in_default-e
 returns-in_default-e c =
     let k = sym c.kind_at-kind.ensures ∙ c.if-kind-eq-BUTTON_KIND.true in
-    rw (is_other _ _ 4 _ k c.button_at-e.ensures c.in_default-e.keys2 tt) (press_stays _ _ Other _ _ _ (λ e. omega arith) (λ e. omega arith))
+    rw (is_other _ _ 4 _ k c.button_at-e.ensures (opened c.in_default-e.in_default-e-own.keys2) tt) (press_stays _ _ Other _ _ _ (λ e. omega arith) (λ e. omega arith))
 
 pub returns-then-kind-eq-BUTTON_KIND : goal.returns-then-kind-eq-BUTTON_KIND
 returns-then-kind-eq-BUTTON_KIND c =

@@ -21,6 +21,6 @@ pub returns : goal.returns
 unfolding no_place
 returns c =
     let ts = c.args.d.touches in
-    let l : length ts.places ≡ max_touches = simp length-map at c.well_formed.0.1.1.1.0.1.1.1.0.1.0.1 in
+    let l : length ts.places ≡ max_touches = c.well_formed.0.1.1.1.0.1.1.1.0.1.0.1 in
     let full : max_touches ≤ length (list ts) = omega (arith, length-take ts.count ts.places) in
     rw (c.is_start.ensures, c.holds-held.ensures, le-leb max_touches (length (list ts)) full, and-true)

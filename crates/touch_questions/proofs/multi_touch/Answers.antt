@@ -13,7 +13,7 @@ use Rattle.touch_questions.proofs.multi_touch.Goals as goal
 pub loop-i-init : goal.loop-i-init
 loop-i-init c =
     let ds = c.args.ds in
-    let l : length ds.places ≡ 4 = simp length-map at c.well_formed.0.1.1.1.0.1.0.1 in
+    let l : length ds.places ≡ 4 = c.well_formed.0.1.1.1.0.1.0.1 in
     (omega arith, rw c.len-n.ensures (first_le ds.count ds.places), l, refl)
 
 pub returns-in-Some : goal.returns-in-Some

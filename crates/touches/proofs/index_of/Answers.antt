@@ -12,7 +12,7 @@ use Rattle.touches.proofs.index_of.Goals as goal
 
 pub loop-i-init : goal.loop-i-init
 loop-i-init c =
-    let l : length c.args.ts.places ≡ max_touches = simp length-map at c.well_formed.0.1.1.1.0.1.0.1 in
+    let l : length c.args.ts.places ≡ max_touches = c.well_formed.0.1.1.1.0.1.0.1 in
     (omega arith, rw c.len-n.ensures (first_le c.args.ts.count c.args.ts.places), l, omega arith)
 
 pub returns-then-x-id : goal.returns-then-x-id

@@ -1,7 +1,6 @@
 use Prim.Native.Nat.{◌+◌, ◌-◌, ◌≤◌}
 use mathlib.Core.Path.{◌≡◌, ◌∙◌, sym, refl}
 use mathlib.Core.Bool.{false}
-use mathlib.Core.Logic.{⊎_elim}
 use borrow.Author.Rules.{rules}
 use borrow.Author.Tests.{eq-eqb, ne_eqb}
 use native.Mathlib.Omega.{arith}
@@ -13,12 +12,13 @@ use Rattle.touches.proofs.Places.{first_of, first_le, length_set_first}
 use Rattle.touches.proofs.Upsert.{no, too_long}
 use Rattle.touches.proofs.Insertion.{grown, grown_start, not_yet, shifts, passes, replaces, grown_end, grown_length, fitting}
 use Rattle.touches.proofs.insert.Goals as goal
+use Rattle.touches.proofs.insert.Goals.{then-shifting, else-shifting+else-x-t}
 
 pub loop-i-init : goal.loop-i-init
 loop-i-init c =
     let ts = c.args.ts in
     let e = c.len-n.ensures in
-    let l : length ts.places ≡ max_touches = simp length-map at c.well_formed.0.1.1.1.0.1.0.1 in
+    let l : length ts.places ≡ max_touches = c.well_formed.0.1.1.1.0.1.0.1 in
     (omega arith, rw e (first_le ts.count ts.places), l, e, λ q. refl, rw (← first_of _ ts.count ts.places e) (grown_start _ _ _ _))
 
 pub returns-then-x-t : goal.returns-then-x-t
@@ -35,10 +35,10 @@ loop-i-preserved c =
     let v = c.loop-i.invariant in
     let h = c.loop-i-test.true in
     let same = length_set_first s.count c.loop-i.i s.places c.loop-i.carry in
-    ⊎_elim
-    (λ w. (omega arith, rw (w.1, length-set) v.1, rw (w.1, length-set) v.2, rw w.1 (v.3 ∙ sym same), λ q. no (sym q ∙ w.0.taken), rw (w.1, w.2) (shifts _ _ _ _ _ h v.1 _ _ v.4 w.0.taken ∙ v.5)))
-    (λ w. (omega arith, rw w.4 v.1, rw w.4 v.2, rw w.4 v.3, λ q. rw w.5 (v.4 (not_yet _ _ q)), rw (w.4, w.5) (passes _ _ _ _ _ h v.1 _ _ w.0.left (ne_eqb _ _ (λ e. w.3.left (sym e))) ∙ v.5)))
-    c.if-shifting.branch
+    elim c.if-shifting.branch [
+      | then-shifting w ↦ (omega arith, rw (w.s-is, length-set) v.1, rw (w.s-is, length-set) v.2, rw w.s-is (v.3 ∙ sym same), λ q. no (sym q ∙ w.if-shifting.true), rw (w.s-is, w.carry-is) (shifts _ _ _ _ _ h v.1 _ _ v.4 w.if-shifting.true ∙ v.5))
+      | else-shifting+else-x-t w ↦ (omega arith, rw w.s-is v.1, rw w.s-is v.2, rw w.s-is v.3, λ q. rw w.carry-is (v.4 (not_yet _ _ q)), rw (w.s-is, w.carry-is) (passes _ _ _ _ _ h v.1 _ _ w.if-shifting.false (ne_eqb _ _ (λ e. w.if-x-t.false (sym e))) ∙ v.5))
+    ]
 
 pub returns-then-n-ge-MAX_TOUCHES : goal.returns-then-n-ge-MAX_TOUCHES
 returns-then-n-ge-MAX_TOUCHES c =

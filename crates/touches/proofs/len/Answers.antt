@@ -6,10 +6,10 @@ use Rattle.touches.proofs.len.Goals as goal
 
 pub returns-then-n-lt-MAX_TOUCHES : goal.returns-then-n-lt-MAX_TOUCHES
 returns-then-n-lt-MAX_TOUCHES c =
-    let l : length c.args.ts.places ≡ max_touches = simp length-map at c.well_formed.0.1.1.1.0.1.0.1 in
+    let l : length c.args.ts.places ≡ max_touches = c.well_formed.0.1.1.1.0.1.0.1 in
     omega (arith, length-take c.args.ts.count c.args.ts.places)
 
 pub returns : goal.returns
 returns c =
-    let l : length c.args.ts.places ≡ max_touches = simp length-map at c.well_formed.0.1.1.1.0.1.0.1 in
+    let l : length c.args.ts.places ≡ max_touches = c.well_formed.0.1.1.1.0.1.0.1 in
     omega (arith, length-take c.args.ts.count c.args.ts.places)

@@ -15,7 +15,7 @@ pub loop-i-init : goal.loop-i-init
 loop-i-init c =
     let ts = c.args.ts in
     let e = c.len-n.ensures in
-    let l : length ts.places ≡ max_touches = simp length-map at c.well_formed.0.1.1.1.0.1.0.1 in
+    let l : length ts.places ≡ max_touches = c.well_formed.0.1.1.1.0.1.0.1 in
     (omega arith, rw e (first_le ts.count ts.places), l, e, refl, rw (first_of _ ts.count ts.places e) (omega arith))
 
 pub returns-then-x-t : goal.returns-then-x-t

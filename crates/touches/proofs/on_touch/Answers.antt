@@ -17,7 +17,7 @@ pub returns-in-Move : goal.returns-in-Move
 unfolding on_touch_if_room on_touch
 returns-in-Move c =
     let ts = c.args.ts in
-    let l : length ts.places ≡ max_touches = simp length-map at c.well_formed.0.1.1.1.0.1.0.1 in
+    let l : length ts.places ≡ max_touches = c.well_formed.0.1.1.1.0.1.0.1 in
     let b : length (take ts.count ts.places) ≤ max_touches = omega (arith, length-take ts.count ts.places) in
     rw (c.in-Move.is, c.move_to.ensures) (sym (fits _ _ (rw length_move b)))
 
@@ -25,7 +25,7 @@ pub returns-in-End : goal.returns-in-End
 unfolding on_touch_if_room on_touch
 returns-in-End c =
     let ts = c.args.ts in
-    let l : length ts.places ≡ max_touches = simp length-map at c.well_formed.0.1.1.1.0.1.0.1 in
+    let l : length ts.places ≡ max_touches = c.well_formed.0.1.1.1.0.1.0.1 in
     let b : length (take ts.count ts.places) ≤ max_touches = omega (arith, length-take ts.count ts.places) in
     rw (c.in-End.is, c.remove.ensures) (sym (fits _ _ (omega (arith, length_remove c.args.t.id (take ts.count ts.places)))))
 
@@ -33,6 +33,6 @@ pub returns-in-Cancel : goal.returns-in-Cancel
 unfolding on_touch_if_room on_touch
 returns-in-Cancel c =
     let ts = c.args.ts in
-    let l : length ts.places ≡ max_touches = simp length-map at c.well_formed.0.1.1.1.0.1.0.1 in
+    let l : length ts.places ≡ max_touches = c.well_formed.0.1.1.1.0.1.0.1 in
     let b : length (take ts.count ts.places) ≤ max_touches = omega (arith, length-take ts.count ts.places) in
     rw (c.in-Cancel.is, c.remove-in-Cancel.ensures) (sym (fits _ _ (omega (arith, length_remove c.args.t.id (take ts.count ts.places)))))

@@ -3,16 +3,16 @@ use mathlib.Core.Path.{◌≡◌, ◌∙◌, refl}
 use borrow.Author.Rules.{rules}
 use native.Mathlib.Omega.{arith}
 use lib.ListN.{length, length-map, length-set}
-use mathlib.Core.Logic.{⊎_elim}
 use Rattle.data.specs.Limits.{max_touches}
 use Rattle.touches.proofs.Places.{first_of, first_le}
 use Rattle.touches.proofs.Removal.{kept as held, kept_start, keeps, drops, kept_end}
 use Rattle.touches.proofs.remove.Goals as goal
+use Rattle.touches.proofs.remove.Goals.{then-x-id, else-x-id}
 
 pub loop-i-init : goal.loop-i-init
 loop-i-init c =
     let ts = c.args.ts in
-    let l : length ts.places ≡ max_touches = simp length-map at c.well_formed.0.1.1.1.0.1.0.1 in
+    let l : length ts.places ≡ max_touches = c.well_formed.0.1.1.1.0.1.0.1 in
     let e = c.len-n.ensures in
     (omega arith, omega arith, omega (arith, first_le ts.count ts.places), l, refl)
 
@@ -20,10 +20,10 @@ pub loop-i-preserved : goal.loop-i-preserved
 loop-i-preserved c =
     let v = c.loop-i.invariant in
     let h = c.loop-i-test.true in
-    ⊎_elim
-    (λ w. (omega arith, omega arith, v.2, rw (w.1, length-set) v.3, rw (w.1, w.2) (keeps _ _ _ _ _ _ h (omega arith) v.0 w.0.taken ∙ v.4)))
-    (λ w. (omega arith, omega arith, v.2, rw w.1 v.3, rw (w.1, w.2) (drops _ _ _ _ _ _ h (omega arith) w.0.left ∙ v.4)))
-    c.if-x-id.branch
+    elim c.if-x-id.branch [
+      | then-x-id w ↦ (omega arith, omega arith, v.2, rw (w.s-is, length-set) v.3, rw (w.s-is, w.kept-is) (keeps _ _ _ _ _ _ h (omega arith) v.0 w.if-x-id.true ∙ v.4))
+      | else-x-id w ↦ (omega arith, omega arith, v.2, rw w.s-is v.3, rw (w.s-is, w.kept-is) (drops _ _ _ _ _ _ h (omega arith) w.if-x-id.false ∙ v.4))
+    ]
 
 pub returns : goal.returns
 returns c =

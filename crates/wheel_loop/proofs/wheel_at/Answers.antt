@@ -1,3 +1,4 @@
+use borrow.Enum.Refused.{opened}
 use mathlib.Core.Path.{sym, ◌∙◌}
 use native.Mathlib.Omega.{arith}
 use borrow.Author.Rules.{rules}
@@ -11,7 +12,7 @@ pub returns-in_default : goal.returns-in_default
 unfolding wheel_event
 returns-in_default c =
     let k = sym c.kind_at.ensures ∙ c.if-kind_at-eq-WHEEL_KIND.true in
-    rw (is_other _ _ 9 _ k c.wheel_at-e.ensures c.in_default.keys2 tt)
+    rw (is_other _ _ 9 _ k c.wheel_at-e.ensures (opened c.in_default.in_default-own.keys2) tt)
 
 pub returns-then-kind_at-eq-WHEEL_KIND : goal.returns-then-kind_at-eq-WHEEL_KIND
 unfolding wheel_event

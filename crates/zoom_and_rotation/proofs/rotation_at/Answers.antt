@@ -1,3 +1,4 @@
+use borrow.Enum.Refused.{opened}
 use native.Mathlib.Omega.{arith}
 use Rattle.data.specs.Kinds.{rotate_kind}
 use Rattle.model.specs.Pass.{rotation_event}
@@ -11,7 +12,7 @@ pub returns-in_default : goal.returns-in_default
 unfolding rotation_event
 returns-in_default c =
     let k = sym c.kind_at.ensures ∙ c.if-kind_at-eq-ROTATE_KIND.true in
-    rw (is_other _ _ 7 _ k c.rotate_at-e.ensures c.in_default.keys2 tt)
+    rw (is_other _ _ 7 _ k c.rotate_at-e.ensures (opened c.in_default.in_default-own.keys2) tt)
 
 pub returns-then-kind_at-eq-ROTATE_KIND : goal.returns-then-kind_at-eq-ROTATE_KIND
 unfolding rotation_event

@@ -1,3 +1,4 @@
+use borrow.Enum.Refused.{opened}
 use native.Mathlib.Omega.{arith}
 use Rattle.data.specs.Kinds.{zoom_kind}
 use Rattle.model.specs.Pass.{zoom_event}
@@ -11,7 +12,7 @@ pub returns-in_default : goal.returns-in_default
 unfolding zoom_event
 returns-in_default c =
     let k = sym c.kind_at.ensures ∙ c.if-kind_at-eq-ZOOM_KIND.true in
-    rw (is_other _ _ 6 _ k c.zoom_at-e.ensures c.in_default.keys2 tt)
+    rw (is_other _ _ 6 _ k c.zoom_at-e.ensures (opened c.in_default.in_default-own.keys2) tt)
 
 pub returns-then-kind_at-eq-ZOOM_KIND : goal.returns-then-kind_at-eq-ZOOM_KIND
 unfolding zoom_event

@@ -10,16 +10,9 @@ use Rattle.zoom_factor.specs.Series.{below_zero, bottom, plus_terms, minus_terms
 use Rattle.zoom_factor.specs.Steps.{Cut, Under, Summed}
 use Rattle.zoom_factor.proofs.Errors.{After, cut_twice, start, next, itself}
 use Rattle.zoom_factor.proofs.Bounds.{bottom_pos, third}
+use Rattle.zoom_factor.proofs.series.Invariants.{Turning}
 use Rattle.zoom_factor.proofs.series.Goals as goal
 use Rattle.zoom_factor.proofs.series.Goals.{After-minus_part-part}
-
-record Turning (neg : Bool) (x t plus minus k : ℕ) : Type 0 where
-  turns : k ≤ 13
-  small : t ≤ 2 ^ 30
-  room : plus + t ≤ 3 * 2 ^ 30
-  at_first : k ≡ 0 → plus + t + t ≤ 3 * 2 ^ 30
-  few : minus ≤ k * 2 ^ 30
-  exact : (a b : ℕ) → a ≤ b → Cut a b x → After neg a b t plus minus k
 
 -- the next term is at most the last one over k
 fall : (t x k : ℕ) → x ≤ 2 ^ 30 → t * x / 2 ^ 30 / (k + 1) * (k + 1) ≤ t
@@ -88,10 +81,6 @@ product t x h k = le_trans (mul-le-mul h k) (omega arith)
 -- what is taken off is at most the term
 lost-le : (c : After-minus_part-part) → c.minus_part-part.result ≤ c.loop-k.term * c.args.size / 2 ^ 30 / (c.loop-k.k + 1)
 lost-le c = le_trans (le_of_eq c.minus_part-part.ensures) (part_le (below_zero c.args.negative (c.loop-k.k + 1)) (c.loop-k.term * c.args.size / 2 ^ 30 / (c.loop-k.k + 1)))
-
--- GONE: nonzero-div-term
--- div-term : tie.Need-nonzero-div-term invariant-loop decreases-loop
--- div-term c = omega arith
 
 pub loop-k-init : goal.loop-k-init
 loop-k-init c = record { turns = omega arith; small = omega arith; room = omega arith; at_first = λ e. omega arith; few = omega arith; exact = λ a b A d. start c.args.negative a b }

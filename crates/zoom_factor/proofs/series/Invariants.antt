@@ -13,6 +13,14 @@ use Rattle.zoom_factor.proofs.Errors.{After, cut_twice, start, next, itself}
 use Rattle.zoom_factor.proofs.Bounds.{bottom_pos, third}
 use Rattle.zoom_factor.proofs.series.Given as goal
 
+pub record Turning (neg : Bool) (x t plus minus k : ℕ) : Type 0 where
+  pub turns : k ≤ 13
+  pub small : t ≤ 2 ^ 30
+  pub room : plus + t ≤ 3 * 2 ^ 30
+  pub at_first : k ≡ 0 → plus + t + t ≤ 3 * 2 ^ 30
+  pub few : minus ≤ k * 2 ^ 30
+  pub exact : (a b : ℕ) → a ≤ b → Cut a b x → After neg a b t plus minus k
+
 abbrev pub invariant-loop-k : goal.invariant-loop-k
 invariant-loop-k l = Turning l.negative l.size l.term l.plus l.minus l.k
 

@@ -10,18 +10,6 @@ use Rattle.feed.proofs.Lengths.{length_least, touch_following}
 use Rattle.feed_decode.proofs.ByKind.{as_0, as_1, as_2, as_3, as_4, as_5, as_6, as_7, as_8, as_9, as_10, as_11, as_12, unknown}
 use Rattle.feed_decode.proofs.kinds.shape_at.Goals as goal
 
--- the words after the first
-module _ (s : goal.Start) where
-  sum_fits : (i : ℕ) → i ≤ 2 → Fits w64 (s.args.at + i)
-  sum_fits i h = omega arith
-
-  scaled_at : (i : ℕ) → i ≤ 2 → Fits w64 ((s.args.at + i) * 4)
-  scaled_at i h = omega arith
-
-  -- a word that the table counts
-  there : (k i : ℕ) → kind (get_or s.args.feed.now s.args.at 0) ≡ k → i ≤ get_or lengths k 0 → s.args.at + i < length s.args.feed.now
-  there k i is h = omega (arith, length_least _ k is)
-
 pub offset_bounds-feed-at : goal.offset_bounds-feed-at
 offset_bounds-feed-at c = omega arith
 
@@ -34,65 +22,11 @@ key_shape-requires c = tt
 pub modifiers_shape-requires : goal.modifiers_shape-requires
 modifiers_shape-requires c = tt
 
-pub overflow_add-at : goal.overflow_add-at
-overflow_add-at c = sum_fits c _ (lit≤ tt)
-
-pub offset_bounds-feed-at-in-3 : goal.offset_bounds-feed-at-in-3
-offset_bounds-feed-at-in-3 c = scaled_at c _ (lit≤ tt)
-
-pub bounds-feed-at-in-3 : goal.bounds-feed-at-in-3
-bounds-feed-at-in-3 c = there c _ _ c.in-3.is (lit≤ tt)
-
-pub overflow_add-at-in-3 : goal.overflow_add-at-in-3
-overflow_add-at-in-3 c = sum_fits c _ (lit≤ tt)
-
-pub offset_bounds-feed-at-in-3-2 : goal.offset_bounds-feed-at-in-3-2
-offset_bounds-feed-at-in-3-2 c = scaled_at c _ (lit≤ tt)
-
-pub bounds-feed-at-in-3-2 : goal.bounds-feed-at-in-3-2
-bounds-feed-at-in-3-2 c = there c _ _ c.in-3.is (lit≤ tt)
-
 pub moved_shape-requires : goal.moved_shape-requires
 moved_shape-requires c = tt
 
-pub overflow_add-at-in-4 : goal.overflow_add-at-in-4
-overflow_add-at-in-4 c = sum_fits c _ (lit≤ tt)
-
-pub offset_bounds-feed-at-in-4 : goal.offset_bounds-feed-at-in-4
-offset_bounds-feed-at-in-4 c = scaled_at c _ (lit≤ tt)
-
-pub bounds-feed-at-in-4 : goal.bounds-feed-at-in-4
-bounds-feed-at-in-4 c = there c _ _ c.in-4.is (lit≤ tt)
-
-pub overflow_add-at-in-4-2 : goal.overflow_add-at-in-4-2
-overflow_add-at-in-4-2 c = sum_fits c _ (lit≤ tt)
-
-pub offset_bounds-feed-at-in-4-2 : goal.offset_bounds-feed-at-in-4-2
-offset_bounds-feed-at-in-4-2 c = scaled_at c _ (lit≤ tt)
-
-pub bounds-feed-at-in-4-2 : goal.bounds-feed-at-in-4-2
-bounds-feed-at-in-4-2 c = there c _ _ c.in-4.is (lit≤ tt)
-
 pub motion_shape-requires : goal.motion_shape-requires
 motion_shape-requires c = tt
-
-pub overflow_add-at-in-5 : goal.overflow_add-at-in-5
-overflow_add-at-in-5 c = sum_fits c _ (lit≤ tt)
-
-pub offset_bounds-feed-at-in-5 : goal.offset_bounds-feed-at-in-5
-offset_bounds-feed-at-in-5 c = scaled_at c _ (lit≤ tt)
-
-pub bounds-feed-at-in-5 : goal.bounds-feed-at-in-5
-bounds-feed-at-in-5 c = there c _ _ c.in-5.is (lit≤ tt)
-
-pub overflow_add-at-in-5-2 : goal.overflow_add-at-in-5-2
-overflow_add-at-in-5-2 c = sum_fits c _ (lit≤ tt)
-
-pub offset_bounds-feed-at-in-5-2 : goal.offset_bounds-feed-at-in-5-2
-offset_bounds-feed-at-in-5-2 c = scaled_at c _ (lit≤ tt)
-
-pub bounds-feed-at-in-5-2 : goal.bounds-feed-at-in-5-2
-bounds-feed-at-in-5-2 c = there c _ _ c.in-5.is (lit≤ tt)
 
 pub button_shape-requires : goal.button_shape-requires
 button_shape-requires c = tt
@@ -100,50 +34,14 @@ button_shape-requires c = tt
 pub bare-requires : goal.bare-requires
 bare-requires c = tt
 
-pub overflow_add-at-in-7 : goal.overflow_add-at-in-7
-overflow_add-at-in-7 c = sum_fits c _ (lit≤ tt)
-
-pub offset_bounds-feed-at-in-7 : goal.offset_bounds-feed-at-in-7
-offset_bounds-feed-at-in-7 c = scaled_at c _ (lit≤ tt)
-
-pub bounds-feed-at-in-7 : goal.bounds-feed-at-in-7
-bounds-feed-at-in-7 c = there c _ _ c.in-7.is (lit≤ tt)
-
 pub zoom_shape-requires : goal.zoom_shape-requires
 zoom_shape-requires c = tt
-
-pub overflow_add-at-in-8 : goal.overflow_add-at-in-8
-overflow_add-at-in-8 c = sum_fits c _ (lit≤ tt)
-
-pub offset_bounds-feed-at-in-8 : goal.offset_bounds-feed-at-in-8
-offset_bounds-feed-at-in-8 c = scaled_at c _ (lit≤ tt)
-
-pub bounds-feed-at-in-8 : goal.bounds-feed-at-in-8
-bounds-feed-at-in-8 c = there c _ _ c.in-8.is (lit≤ tt)
 
 pub rotate_shape-requires : goal.rotate_shape-requires
 rotate_shape-requires c = tt
 
 pub touch_shape-requires : goal.touch_shape-requires
 touch_shape-requires c = omega (arith, touch_following _ c.in-9.is)
-
-pub overflow_add-at-in-10 : goal.overflow_add-at-in-10
-overflow_add-at-in-10 c = sum_fits c _ (lit≤ tt)
-
-pub offset_bounds-feed-at-in-10 : goal.offset_bounds-feed-at-in-10
-offset_bounds-feed-at-in-10 c = scaled_at c _ (lit≤ tt)
-
-pub bounds-feed-at-in-10 : goal.bounds-feed-at-in-10
-bounds-feed-at-in-10 c = there c _ _ c.in-10.is (lit≤ tt)
-
-pub overflow_add-at-in-10-2 : goal.overflow_add-at-in-10-2
-overflow_add-at-in-10-2 c = sum_fits c _ (lit≤ tt)
-
-pub offset_bounds-feed-at-in-10-2 : goal.offset_bounds-feed-at-in-10-2
-offset_bounds-feed-at-in-10-2 c = scaled_at c _ (lit≤ tt)
-
-pub bounds-feed-at-in-10-2 : goal.bounds-feed-at-in-10-2
-bounds-feed-at-in-10-2 c = there c _ _ c.in-10.is (lit≤ tt)
 
 pub wheel_shape-requires : goal.wheel_shape-requires
 wheel_shape-requires c = tt

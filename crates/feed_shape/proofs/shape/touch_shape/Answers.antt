@@ -19,17 +19,6 @@ use Rattle.feed.specs.Shape.{clean, float_of, pos_of, id_of, phase_of, force_of,
 use Rattle.feed.proofs.Words.{word_after}
 use Rattle.feed_shape.proofs.shape.touch_shape.Goals as goal
 
--- six words follow the first
-module _ (s : goal.Start) (i : ℕ) (h : i ≤ 6) where
-  there : s.args.at + i < length s.args.feed.now
-  there = omega arith
-
-  sum_fits : Fits w64 (s.args.at + i)
-  sum_fits = omega (arith, there)
-
-  scaled_at : Fits w64 ((s.args.at + i) * 4)
-  scaled_at = scaled_Fits _ _ 4 there s.good.0.1
-
 -- a touch by its words' places in the feed
 touched : (ws : List ℕ) (at low : ℕ) (device id : ℕ) (phase : TouchPhase) (pos : Pos2) (force : MaybeF32) → low < 8 →
     device ≡ id_of (get_or ws (at + 1) 0) (get_or ws (at + 2) 0) →
@@ -50,68 +39,14 @@ unforced : (n w : ℕ) → (n ≡ 1 → ⊥) → no_force ≡ force_of n w
 unfolding force_of
 unforced n w h = rw (ne_eqb _ _ h)
 
-pub overflow_add-at : goal.overflow_add-at
-overflow_add-at c = sum_fits c _ (lit≤ tt)
-
-pub offset_bounds-feed-at : goal.offset_bounds-feed-at
-offset_bounds-feed-at c = scaled_at c _ (lit≤ tt)
-
-pub bounds-feed-at : goal.bounds-feed-at
-bounds-feed-at c = there c _ (lit≤ tt)
-
-pub overflow_add-at-then-low-lt8 : goal.overflow_add-at-then-low-lt8
-overflow_add-at-then-low-lt8 c = sum_fits c _ (lit≤ tt)
-
-pub offset_bounds-feed-at-then-low-lt8 : goal.offset_bounds-feed-at-then-low-lt8
-offset_bounds-feed-at-then-low-lt8 c = scaled_at c _ (lit≤ tt)
-
-pub bounds-feed-at-then-low-lt8 : goal.bounds-feed-at-then-low-lt8
-bounds-feed-at-then-low-lt8 c = there c _ (lit≤ tt)
-
 pub id_of-device-requires : goal.id_of-device-requires
 id_of-device-requires c = tt
-
-pub overflow_add-at-then-low-lt8-2 : goal.overflow_add-at-then-low-lt8-2
-overflow_add-at-then-low-lt8-2 c = sum_fits c _ (lit≤ tt)
-
-pub offset_bounds-feed-at-then-low-lt8-2 : goal.offset_bounds-feed-at-then-low-lt8-2
-offset_bounds-feed-at-then-low-lt8-2 c = scaled_at c _ (lit≤ tt)
-
-pub bounds-feed-at-then-low-lt8-2 : goal.bounds-feed-at-then-low-lt8-2
-bounds-feed-at-then-low-lt8-2 c = there c _ (lit≤ tt)
-
-pub overflow_add-at-then-low-lt8-3 : goal.overflow_add-at-then-low-lt8-3
-overflow_add-at-then-low-lt8-3 c = sum_fits c _ (lit≤ tt)
-
-pub offset_bounds-feed-at-then-low-lt8-3 : goal.offset_bounds-feed-at-then-low-lt8-3
-offset_bounds-feed-at-then-low-lt8-3 c = scaled_at c _ (lit≤ tt)
-
-pub bounds-feed-at-then-low-lt8-3 : goal.bounds-feed-at-then-low-lt8-3
-bounds-feed-at-then-low-lt8-3 c = there c _ (lit≤ tt)
 
 pub id_of-id-requires : goal.id_of-id-requires
 id_of-id-requires c = tt
 
 pub phase_of-phase-requires : goal.phase_of-phase-requires
 phase_of-phase-requires c = tt
-
-pub overflow_add-at-then-low-lt8-4 : goal.overflow_add-at-then-low-lt8-4
-overflow_add-at-then-low-lt8-4 c = sum_fits c _ (lit≤ tt)
-
-pub offset_bounds-feed-at-then-low-lt8-4 : goal.offset_bounds-feed-at-then-low-lt8-4
-offset_bounds-feed-at-then-low-lt8-4 c = scaled_at c _ (lit≤ tt)
-
-pub bounds-feed-at-then-low-lt8-4 : goal.bounds-feed-at-then-low-lt8-4
-bounds-feed-at-then-low-lt8-4 c = there c _ (lit≤ tt)
-
-pub overflow_add-at-then-low-lt8-5 : goal.overflow_add-at-then-low-lt8-5
-overflow_add-at-then-low-lt8-5 c = sum_fits c _ (lit≤ tt)
-
-pub offset_bounds-feed-at-then-low-lt8-5 : goal.offset_bounds-feed-at-then-low-lt8-5
-offset_bounds-feed-at-then-low-lt8-5 c = scaled_at c _ (lit≤ tt)
-
-pub bounds-feed-at-then-low-lt8-5 : goal.bounds-feed-at-then-low-lt8-5
-bounds-feed-at-then-low-lt8-5 c = there c _ (lit≤ tt)
 
 pub pos_of-pos-requires : goal.pos_of-pos-requires
 pos_of-pos-requires c = tt

@@ -11,12 +11,12 @@ use Rattle.input_state.proofs.state.act.Goals as goal
 pub pointer_pass-pointer-requires : goal.pointer_pass-pointer-requires
 pointer_pass-pointer-requires c =
     let p = c.requires in
-    few _ _ c.args.t10 p.lists pointer_list (omega arith) p.few
+    few _ _ c.args.counts p.lists pointer_list (omega arith) p.few
 
 pub keys_pass-keys-requires : goal.keys_pass-keys-requires
 keys_pass-keys-requires c =
     let p = c.requires in
-    few _ _ c.args.t10 p.lists keys_list (omega arith) p.few
+    few _ _ c.args.counts p.lists keys_list (omega arith) p.few
 
 pub returns : goal.returns
 unfolding time_of decidedly_dragging

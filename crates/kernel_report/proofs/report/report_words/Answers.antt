@@ -17,7 +17,7 @@ abbrev slots-of : tie.After-slot-words invariant-loop decreases-loop → List Sl
 slots-of c = c.before.before.before.before.args.t1.slots
 
 slots-are : (c : After-slot_words-words) → length (slots-of c) ≡ max_slots
-slots-are c = simp length-map at c.well_formed.0.1.1.0.1.0.1
+slots-are c = c.well_formed.0.1.1.0.1.0.1
 
 pub loop-i-init : goal.loop-i-init
 loop-i-init c = (omega arith, omega arith, λ d. omega arith)
@@ -51,6 +51,6 @@ loop-i-preserved c =
 pub returns : goal.returns
 returns c =
     let now = c.loop-i in
-    let k = c.args.t1 in
-    let l : length k.slots ≡ max_slots = simp length-map at c.well_formed.0.1.1.0.1.0.1 in
+    let k = c.args.k in
+    let l : length k.slots ≡ max_slots = c.well_formed.0.1.1.0.1.0.1 in
     (λ d. omega (arith, now.invariant.2 d, ap length (report_last d now.i k.slots (omega (arith, c.loop-i-test.false)))))

@@ -80,12 +80,11 @@ write_touch-next-requires c =
 
 pub write_touch-requires-in-Replaced : goal.write_touch-requires-in-Replaced
 write_touch-requires-in-Replaced c =
-    let at-change = c in
-    let begin = at-change.before.before.before.before.before.before in
-    let words = words-of-replaced at-change in
+    let at-change = (goal.at.write_touch-requires-in-Replaced c).In-Replaced in
+        let words = words-of-replaced at-change in
     let wrote = c.write_touch-next.ensures in
-    let places = ap length wrote.1 ∙ length_put _ _ begin.args.feed.now in
-    omega (arith, begin.requires, simp length-append at (ap length words), replaced-length at-change, replaced-length-2 at-change, wrote.0, places)
+    let places = ap length wrote.1 ∙ length_put _ _ c.args.feed.now in
+    omega (arith, c.requires, simp length-append at (ap length words), replaced-length at-change, replaced-length-2 at-change, wrote.0, places)
 
 pub returns-in-Still : goal.returns-in-Still
 unfolding put
@@ -95,32 +94,32 @@ returns-in-Still c =
 
 pub returns-in-Begun : goal.returns-in-Begun
 returns-in-Begun c =
-    let at-change = c in
-    let begin = at-change.before.before.before.before.before.before.args in
+    let at-change = (goal.at.returns-in-Begun c).In-Begun in
+    let begin = c.args in
     let words = words-of-begun at-change in
     let wrote = rw (read_back begin.s.now.id c.struct_told-1.given.0.1) at c.write_touch.ensures in
     (omega (arith, wrote.0, ap length words, begun-length at-change), wrote.1 ∙ ap (λ (ws : List ℕ). put begin.at ws begin.feed.now) (sym words))
 
 pub returns-in-Moved : goal.returns-in-Moved
 returns-in-Moved c =
-    let at-change = c in
-    let begin = at-change.before.before.before.before.before.before.args in
+    let at-change = (goal.at.returns-in-Moved c).In-Moved in
+    let begin = c.args in
     let words = words-of-moved at-change in
     let wrote = rw (read_back begin.s.now.id c.struct_told-in-Moved-1.given.0.1) at c.write_touch-in-Moved.ensures in
     (omega (arith, wrote.0, ap length words, moved_length at-change), wrote.1 ∙ ap (λ (ws : List ℕ). put begin.at ws begin.feed.now) (sym words))
 
 pub returns-in-Lifted : goal.returns-in-Lifted
 returns-in-Lifted c =
-    let at-change = c in
-    let begin = at-change.before.before.before.before.before.before.args in
+    let at-change = (goal.at.returns-in-Lifted c).In-Lifted in
+    let begin = c.args in
     let words = words-of-lifted at-change in
     let wrote = rw (read_back begin.s.acted.id c.struct_told-in-Lifted-1.given.0.1) at c.write_touch-in-Lifted.ensures in
     (omega (arith, wrote.0, ap length words, lifted-length at-change), wrote.1 ∙ ap (λ (ws : List ℕ). put begin.at ws begin.feed.now) (sym words))
 
 pub returns-in-Replaced : goal.returns-in-Replaced
 returns-in-Replaced c =
-    let at-change = c in
-    let begin = at-change.before.before.before.before.before.before.args in
+    let at-change = (goal.at.returns-in-Replaced c).In-Replaced in
+    let begin = c.args in
     let words = words-of-replaced at-change in
     let lifted = rw (read_back begin.s.acted.id c.struct_told-in-Replaced-1.given.0.1) at c.write_touch-next.ensures in
     let wrote = rw (read_back begin.s.now.id c.struct_told-in-Replaced-2-1.given.0.1) at c.write_touch-in-Replaced.ensures in (

@@ -13,7 +13,7 @@ use Rattle.kernel_report.proofs.touch.write_words.Goals as goal
 
 pub loop-i-init : goal.loop-i-init
 loop-i-init c =
-    (omega arith, refl, ap (λ (k : ℕ). put k (take touch_words c.args.t1) c.args.feed.now) (omega arith))
+    (omega arith, refl, ap (λ (k : ℕ). put k (take touch_words c.args.words) c.args.feed.now) (omega arith))
 
 pub offset_bounds-words-i : goal.offset_bounds-words-i
 offset_bounds-words-i c = omega arith
@@ -36,7 +36,7 @@ loop-i-smaller c = omega arith
 pub loop-i-preserved : goal.loop-i-preserved
 loop-i-preserved c =
     let now = c.loop-i in
-    let words = c.args.t1 in
+    let words = c.args.words in
     let at = c.args.at in
     let l : length words ≡ 8 = c.well_formed.0.1.0.1 in
     let h : now.i < length (take touch_words words) = omega (arith, length-take-le touch_words words (omega arith)) in (
@@ -58,7 +58,7 @@ pub returns : goal.returns
 unfolding put
 returns c =
     let now = c.loop-i in
-    let words = c.args.t1 in
+    let words = c.args.words in
     let l : length words ≡ 8 = c.well_formed.0.1.0.1 in
     let none : drop now.i (take touch_words words) ≡ [] = drop_of_length-le (take touch_words words) {i = now.i} (omega (arith, c.loop-i-test.false, length-take-le touch_words words (omega arith))) in
     (omega arith, sym (ap (λ (ws : List ℕ). put (c.args.at + now.i) ws now.feed) none) ∙ now.invariant.2)

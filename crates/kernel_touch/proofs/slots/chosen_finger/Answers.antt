@@ -11,14 +11,14 @@ use Rattle.kernel_touch.proofs.slots.chosen_finger.Goals as goal
 pub returns-then-at-lt-MAX_SLOTS : goal.returns-then-at-lt-MAX_SLOTS
 unfolding chosen_finger no_finger
 returns-then-at-lt-MAX_SLOTS c =
-    let k = c.args.t1 in
-    let l : length k.slots ≡ max_slots = simp length-map at c.well_formed.0.1.1.0.1.0.1 in
+    let k = c.args.k in
+    let l : length k.slots ≡ max_slots = c.well_formed.0.1.1.0.1.0.1 in
     let h : k.chosen < length k.slots = omega arith in
     finger_is _ k.chosen k.slots h
 
 pub returns : goal.returns
 unfolding chosen_finger no_finger
 returns c =
-    let k = c.args.t1 in
-    let l : length k.slots ≡ max_slots = simp length-map at c.well_formed.0.1.1.0.1.0.1 in
+    let k = c.args.k in
+    let l : length k.slots ≡ max_slots = c.well_formed.0.1.1.0.1.0.1 in
     no_finger_is k.chosen k.slots (omega arith)

@@ -13,14 +13,14 @@ use Rattle.kernel_touch.proofs.slots.put_finger.Goals as goal
 pub returns-then-at-lt-MAX_SLOTS : goal.returns-then-at-lt-MAX_SLOTS
 unfolding put_finger
 returns-then-at-lt-MAX_SLOTS c =
-    let k = c.args.t1 in
-    let l : length k.slots ≡ max_slots = simp length-map at c.well_formed.0.1.1.0.1.0.1 in
+    let k = c.args.k in
+    let l : length k.slots ≡ max_slots = c.well_formed.0.1.1.0.1.0.1 in
     let h : k.chosen < length k.slots = omega arith in
     ap (λ (ss : List Slot). record { slots = ss; chosen = k.chosen; skipping = k.skipping }) (put_is _ _ k.chosen k.slots h)
 
 pub returns-else-at-lt-MAX_SLOTS : goal.returns-else-at-lt-MAX_SLOTS
 unfolding put_finger
 returns-else-at-lt-MAX_SLOTS c =
-    let k = c.args.t1 in
-    let l : length k.slots ≡ max_slots = simp length-map at c.well_formed.0.1.1.0.1.0.1 in
+    let k = c.args.k in
+    let l : length k.slots ≡ max_slots = c.well_formed.0.1.1.0.1.0.1 in
     ap (λ (ss : List Slot). record { slots = ss; chosen = k.chosen; skipping = k.skipping }) (put_nothing c.args.finger k.chosen k.slots (omega arith))

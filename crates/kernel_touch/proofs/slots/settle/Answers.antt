@@ -11,7 +11,7 @@ use Rattle.kernel_touch.proofs.slots.settle.Goals as goal
 
 pub loop-i-init : goal.loop-i-init
 loop-i-init c =
-    let l : length c.args.k.slots ≡ max_slots = simp length-map at c.well_formed.0.1.1.0.1.0.1 in
+    let l : length c.args.k.slots ≡ max_slots = c.well_formed.0.1.1.0.1.0.1 in
     (omega arith, l, from_first c.args.k.slots, refl, refl)
 
 pub offset_bounds-next-i : goal.offset_bounds-next-i

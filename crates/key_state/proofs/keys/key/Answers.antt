@@ -14,7 +14,7 @@ returns-then-pressed c =
     record {
       result =
           rw counted
-          (is_pressed a.presses.now a.k _ a.place _ (omega arith) c.set-down.ensures (omega arith) (c.requires.1 a.place) c.if-pressed.true);
+          (is_pressed a.presses.now a.k _ a.place _ (omega arith) c.set-down.ensures (omega arith) (c.requires.room a.place) c.if-pressed.true);
       places = rw counted (length-set a.presses.now a.place _);
     }
 

@@ -1,3 +1,4 @@
+use borrow.Enum.Refused.{opened}
 use Rattle.data.specs.Kinds.{key_kind, modifiers_kind, focus_kind}
 use Rattle.model.specs.Pass.{key_event}
 use Rattle.key_state.proofs.Idle.{key_idle}
@@ -12,13 +13,13 @@ pub returns-in_default : goal.returns-in_default
 unfolding key_event
 returns-in_default c =
     let k = sym c.kind_at-kind.ensures ∙ c.if-kind-eq-KEY_KIND.true in
-    rw (is_other _ _ 0 _ k c.key_at-e.ensures c.in_default.keys2 tt) (record { result = refl; places = refl })
+    rw (is_other _ _ 0 _ k c.key_at-e.ensures (opened c.in_default.in_default-own.keys2) tt) (record { result = refl; places = refl })
 
 pub key-requires : goal.key-requires
 key-requires c =
     let a = c.args in
     let named = rw (← c.key_at-e.ensures, c.in-Key.is) at (fields a.feed.now a.at) in
-    (named_below _ _ named, c.requires)
+    record { place_lt_key_count = named_below _ _ named; room = c.requires }
 
 pub returns-then-kind-eq-KEY_KIND : goal.returns-then-kind-eq-KEY_KIND
 returns-then-kind-eq-KEY_KIND c =
@@ -28,7 +29,7 @@ pub returns-in_default-e : goal.returns-in_default-e
 unfolding key_event
 returns-in_default-e c =
     let k = sym c.kind_at-kind.ensures ∙ c.if-kind-eq-MODIFIERS_KIND.true in
-    rw (is_other _ _ 1 _ k c.modifiers_at-e.ensures c.in_default-e.keys2 tt) (record { result = refl; places = refl })
+    rw (is_other _ _ 1 _ k c.modifiers_at-e.ensures (opened c.in_default-e.in_default-e-own.keys2) tt) (record { result = refl; places = refl })
 
 pub returns-then-kind-eq-MODIFIERS_KIND : goal.returns-then-kind-eq-MODIFIERS_KIND
 unfolding key_event
@@ -39,7 +40,7 @@ pub returns-in_default-e-2 : goal.returns-in_default-e-2
 unfolding key_event
 returns-in_default-e-2 c =
     let k = sym c.kind_at-kind.ensures ∙ c.if-kind-eq-FOCUS_KIND.true in
-    rw (is_other _ _ 10 _ k c.focus_at-e.ensures c.in_default-e-2.keys2 tt) (record { result = refl; places = refl })
+    rw (is_other _ _ 10 _ k c.focus_at-e.ensures (opened c.in_default-e-2.in_default-e-2-own.keys2) tt) (record { result = refl; places = refl })
 
 pub returns-then-kind-eq-FOCUS_KIND : goal.returns-then-kind-eq-FOCUS_KIND
 returns-then-kind-eq-FOCUS_KIND c =

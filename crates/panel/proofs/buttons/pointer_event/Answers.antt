@@ -4,7 +4,7 @@ use borrow.Author.Rules.{rules}
 use Rattle.panel.proofs.buttons.pointer_event.Goals as goal
 
 pub returns : goal.returns
-returns c = (
-  (λ p e l h. rw (← listed p l h, e) c.pointer_event.ensures),
-  (λ p e l h x k y j. same_event (rw (← listed p l h, e) c.pointer_event.ensures) k j),
-)
+returns c = record {
+  of_event_at = λ p e l h. rw (← listed p l h, e) c.pointer_event.ensures;
+  numbered = λ p e l h x k y j. same_event (rw (← listed p l h, e) c.pointer_event.ensures) k j;
+}

@@ -5,4 +5,7 @@ use Rattle.panel.proofs.scrolling.scroll_source.Goals as goal
 
 pub returns : goal.returns
 unfolding ask reply shown
-returns c = ((λ p e. c.scroll_source.ensures p e), (λ p e x h s k. same_source (c.scroll_source.ensures p e) h k))
+returns c = record {
+  of_wheel = λ p e. c.scroll_source.ensures p e;
+  numbered = λ p e x h s k. same_source (c.scroll_source.ensures p e) h k;
+}

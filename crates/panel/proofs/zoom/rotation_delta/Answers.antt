@@ -5,7 +5,7 @@ use Rattle.panel.proofs.zoom.rotation_delta.Goals as goal
 
 pub returns : goal.returns
 unfolding ask reply shown
-returns c = (
-  (λ p d s. c.rotation_delta.ensures p d (rw s)),
-  (λ p d s x h. same_rotation (c.rotation_delta.ensures p d (rw s)) h),
-)
+returns c = record {
+  of_gesture = λ p d s. c.rotation_delta.ensures p d (rw s);
+  numbered = λ p d s x h. same_rotation (c.rotation_delta.ensures p d (rw s)) h;
+}

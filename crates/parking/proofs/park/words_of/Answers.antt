@@ -22,7 +22,7 @@ pub overflow_add-result-2 : goal.overflow_add-result-2
 overflow_add-result-2 c = let e = is_count _ c.args.panel.input.pointer.place.history [] [] (c.len-samples.ensures [] []) in let v = c.counted-events.ensures in omega arith
 
 pub overflow_add-result-3 : goal.overflow_add-result-3
-overflow_add-result-3 c = let few = length-take c.args.panel.devices.count c.args.panel.devices.places in let four : length c.args.panel.devices.places ≡ 4 = simp length-map at c.well_formed.0.1.1.1.0.1.1.1.0.1.0.1 in let d = c.devices_words.ensures.0 in let e = is_count _ c.args.panel.input.pointer.place.history [] [] (c.len-samples.ensures [] []) in let v = c.counted-events.ensures in omega (arith, few, four, d, e, v)
+overflow_add-result-3 c = let few = length-take c.args.panel.devices.count c.args.panel.devices.places in let four : length c.args.panel.devices.places ≡ 4 = c.well_formed.0.1.1.1.0.1.1.1.0.1.0.1 in let d = c.devices_words.ensures.0 in let e = is_count _ c.args.panel.input.pointer.place.history [] [] (c.len-samples.ensures [] []) in let v = c.counted-events.ensures in omega (arith, few, four, d, e, v)
 
 pub returns : goal.returns
 unfolding words_of

@@ -1,3 +1,4 @@
+use borrow.Enum.Refused.{opened}
 use Rattle.event_loop.proofs.OfKind.{is_other}
 use Rattle.touch_crowd.specs.Touch.{touch_of}
 use Rattle.survey.proofs.Places.{no_event_9}
@@ -10,7 +11,7 @@ pub returns-in_default : goal.returns-in_default
 unfolding touch_of
 returns-in_default c =
     let k = sym c.kind_at.ensures ∙ c.if-kind_at-eq-TOUCH_KIND.true in
-    rw (is_other _ _ 8 _ k c.touch_at-e.ensures c.in_default.keys2 tt)
+    rw (is_other _ _ 8 _ k c.touch_at-e.ensures (opened c.in_default.in_default-own.keys2) tt)
 
 pub returns-then-kind_at-eq-TOUCH_KIND : goal.returns-then-kind_at-eq-TOUCH_KIND
 unfolding touch_of

@@ -11,7 +11,7 @@ use Rattle.touch_ends.proofs.ends.end_devices.Goals as goal
 pub loop-i-init : goal.loop-i-init
 loop-i-init c =
     let ds = c.args.ds in
-    let l : length ds.places ≡ 4 = simp length-map at c.well_formed.0.1.1.1.0.1.0.1 in
+    let l : length ds.places ≡ 4 = c.well_formed.0.1.1.1.0.1.0.1 in
     (omega arith, rw c.len-n.ensures (first_le ds.count ds.places), l, refl, refl)
 
 pub loop-i-preserved : goal.loop-i-preserved
@@ -26,6 +26,6 @@ returns c =
     let out = c.loop-i.out in
     let len = c.len-n in
     let v = c.loop-i.invariant in
-    let l : length ds.places ≡ 4 = simp length-map at c.well_formed.0.1.1.1.0.1.0.1 in
+    let l : length ds.places ≡ 4 = c.well_formed.0.1.1.1.0.1.0.1 in
     let n : len.result ≡ length (take ds.count out.places) = omega (arith, len.ensures, length-take ds.count ds.places, length-take ds.count out.places) in
     rw (v.3, ← first_of len.result ds.count out.places n, ← first_of len.result ds.count ds.places len.ensures) (ended_end _ _ _ _ _ _ v.0 c.loop-i-test.false v.1 ∙ (v.4 ∙ ended_start _ _ _ _ _))

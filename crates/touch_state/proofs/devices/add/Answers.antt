@@ -14,7 +14,7 @@ insert_at-requires c = (rw c.place_of-i.ensures (place_le device_id _ _), rw c.l
 pub returns-then-len-lt-MAX_DEVICES : goal.returns-then-len-lt-MAX_DEVICES
 returns-then-len-lt-MAX_DEVICES c =
     let ds = c.args.ds in
-    let l : length ds.places ≡ 4 = simp length-map at c.well_formed.0.1.1.1.0.1.0.1 in
+    let l : length ds.places ≡ 4 = c.well_formed.0.1.1.1.0.1.0.1 in
     let m : length (take ds.count ds.places) ≤ 4 = omega (arith, length-take ds.count ds.places) in
     let e = c.place_of-i.ensures in
     rw c.insert_at.ensures
@@ -23,7 +23,7 @@ returns-then-len-lt-MAX_DEVICES c =
 pub returns : goal.returns
 returns c =
     let ds = c.args.ds in
-    let l : length ds.places ≡ 4 = simp length-map at c.well_formed.0.1.1.1.0.1.0.1 in
+    let l : length ds.places ≡ 4 = c.well_formed.0.1.1.1.0.1.0.1 in
     let m : length (take ds.count ds.places) ≤ 4 = omega (arith, length-take ds.count ds.places) in
     let e = c.place_of-i.ensures in
     touched_full _ _ ds.count ds.places _ _ e (unknown _ _ ds.count ds.places e m c.requires) (rw c.len.ensures at c.if-len-lt-MAX_DEVICES.false)

@@ -8,7 +8,7 @@ use Rattle.touch_state.proofs.devices.insert_at.Goals as goal
 
 pub loop-k-init : goal.loop-k-init
 loop-k-init c =
-    let l : length c.args.ds.places ≡ 4 = simp length-map at c.well_formed.0.1.1.1.0.1.0.1 in
+    let l : length c.args.ds.places ≡ 4 = c.well_formed.0.1.1.1.0.1.0.1 in
     let e = c.len-n.ensures in
     (rw e c.requires.0, rw e c.requires.1, l, refl)
 

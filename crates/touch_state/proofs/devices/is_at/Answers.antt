@@ -10,19 +10,19 @@ use Rattle.touch_state.proofs.devices.is_at.Goals as goal
 pub offset_bounds-a-i : goal.offset_bounds-a-i
 offset_bounds-a-i c =
     let ds = c.args.ds in
-    let l : length ds.places ≡ 4 = simp length-map at c.well_formed.0.1.1.1.0.1.0.1 in
+    let l : length ds.places ≡ 4 = c.well_formed.0.1.1.1.0.1.0.1 in
     omega (arith, c.if-i-len.true, c.len.ensures, length-take ds.count ds.places)
 
 pub bounds-a-i : goal.bounds-a-i
 bounds-a-i c =
     let ds = c.args.ds in
-    let l : length ds.places ≡ 4 = simp length-map at c.well_formed.0.1.1.1.0.1.0.1 in
+    let l : length ds.places ≡ 4 = c.well_formed.0.1.1.1.0.1.0.1 in
     omega (arith, c.if-i-len.true, c.len.ensures, length-take ds.count ds.places)
 
 pub returns-then-i-len : goal.returns-then-i-len
 returns-then-i-len c =
     let a = c.args in
-    let l : length a.ds.places ≡ 4 = simp length-map at c.well_formed.0.1.1.1.0.1.0.1 in
+    let l : length a.ds.places ≡ 4 = c.well_formed.0.1.1.1.0.1.0.1 in
     let n = c.len.result in
     let count = c.len.ensures in
     let are = c.ids-a.ensures in

@@ -21,13 +21,13 @@ returns-then-n-i c = rw (lost_at _ c.args.ds.count _ c.args.ds.places c.index_of
 pub offset_bounds-a-i : goal.offset_bounds-a-i
 offset_bounds-a-i c =
     let ds = c.args.ds in
-    let l : length ds.places ≡ 4 = simp length-map at c.well_formed.0.1.1.1.0.1.0.1 in
+    let l : length ds.places ≡ 4 = c.well_formed.0.1.1.1.0.1.0.1 in
     omega (arith, c.if-n-i.false, c.len-n.ensures, length-take ds.count ds.places)
 
 pub bounds-a-i : goal.bounds-a-i
 bounds-a-i c =
     let ds = c.args.ds in
-    let l : length ds.places ≡ 4 = simp length-map at c.well_formed.0.1.1.1.0.1.0.1 in
+    let l : length ds.places ≡ 4 = c.well_formed.0.1.1.1.0.1.0.1 in
     omega (arith, c.if-n-i.false, c.len-n.ensures, length-take ds.count ds.places)
 
 pub returns-then-is_start : goal.returns-then-is_start

@@ -12,7 +12,7 @@ use Rattle.touch_state.proofs.devices.place_of.Goals as goal
 pub loop-i-init : goal.loop-i-init
 loop-i-init c =
     let ds = c.args.ds in
-    let l : length ds.places ≡ 4 = simp length-map at c.well_formed.0.1.1.1.0.1.0.1 in
+    let l : length ds.places ≡ 4 = c.well_formed.0.1.1.1.0.1.0.1 in
     let e = enough _ ds.count 0 ds.places _ c.len-n.ensures c.ids-a.ensures l in
     (omega arith, e.0, e.1, omega arith)
 

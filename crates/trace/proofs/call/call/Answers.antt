@@ -68,7 +68,7 @@ returns-in-14 c =
 pub returns-in_default : goal.returns-in_default
 returns-in_default c =
     let e = c.stepped.ensures in
-    let other = c.in_default.rest in
+    let other = c.in_default.in_default-own.rest in
     record {
       refused = λ is-not. (when_refused _ _ _ _ e is-not, same_rest (c.change-c.ensures.refused (λ z. is-not (same_code _ _ _ _ e ∙ z))));
       reset = λ kind. absurd (other.0.0.0.0.1 kind);
