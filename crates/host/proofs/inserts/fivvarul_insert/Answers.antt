@@ -1,5 +1,5 @@
-use mathlib.Core.Path.{◌≡◌, ap, ◌∙◌}
-use Rattle.std.proofs.Common.{◌≤◌, length}
+use mathlib.Core.Path.{ap, ◌∙◌}
+use Rattle.std.proofs.Common.{length}
 use Rattle.host_widgets.specs.declared.HostInsertion.{HostInsertion}
 use Rattle.host_widgets.specs.Insert.{set_of}
 use Rattle.widget_append.specs.Append.{settled}

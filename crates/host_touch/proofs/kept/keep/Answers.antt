@@ -1,5 +1,4 @@
 use mathlib.Core.Path.{◌≡◌}
-use borrow.Author.Rules.{rules}
 use lib.ListN.{length}
 use Rattle.host_touch.proofs.Back.{kept_back}
 use Rattle.host_touch.proofs.kept.keep.Goals as goal
