@@ -21,16 +21,17 @@ else
     say "python3 is not at hand, the boundary's files were not checked"
 fi
 if [ -z "${FIVVARUL_LIB:-}" ]; then
-    FIVVARUL_LIB=$work/lib
-    mkdir "$FIVVARUL_LIB"
+    unset FIVVARUL_LIB
     for archive in host host_questions; do
         (cd crates/$archive && rt lib) >"$work/log" 2>&1 || { cat "$work/log"; exit 1; }
-        cp crates/$archive/out/lib$archive.a "$FIVVARUL_LIB"
     done
+    set -- crates/host/out/libhost.a crates/host_questions/out/libhost_questions.a
+else
+    export FIVVARUL_LIB
+    set -- "$FIVVARUL_LIB/libhost.a" "$FIVVARUL_LIB/libhost_questions.a"
 fi
-export FIVVARUL_LIB
 if command -v cc >/dev/null; then
-    cc -std=c11 -Wall -Wextra -Werror -O2 -Ihost/c host/c/example.c "$FIVVARUL_LIB/libhost.a" "$FIVVARUL_LIB/libhost_questions.a" -o "$work/example"
+    cc -std=c11 -Wall -Wextra -Werror -O2 -Ihost/c host/c/example.c "$@" -o "$work/example"
     "$work/example" >"$work/c"
     same "$work/c" host/c/expected.txt
     say "the example in C prints what is stored"
