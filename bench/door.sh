@@ -1,7 +1,7 @@
 #!/bin/sh
 # Prints the table of calls through the linked library beside egui, both called from Rust.
 #   bench/door.sh
-# Needs cargo, valgrind, egui's sources (EGUI_SRC, see compare/build.sh) and the archives of `rt staticlib host` and `rt staticlib host_questions`, or FIVVARUL_LIB.
+# Needs cargo, valgrind, egui's sources (EGUI_SRC, see compare/build.sh) and the archives that `rt lib` writes in crates/host and crates/host_questions, or FIVVARUL_LIB.
 set -eu
 root=$(cd "$(dirname "$0")/.." && pwd)
 [ -d "$root/compare/egui-src" ] || NO_BUILD=1 "$root/compare/build.sh"

@@ -33,16 +33,25 @@ class Module:
         self.crate = crate
         text = open(path, encoding='utf-8').read()
         self.head = (re.match(r'// (.*)', text) or [None, ''])[1]
-        self.uses = {m[2] or m[1].split('::')[-1]: m[1].replace('crate::', crate + '::')
-                     for m in re.finditer(r'^(?:pub )?use ([\w:]+)(?: as (\w+))?;', text, re.M)}
+        self.uses = {here: path for m in re.finditer(r'^(?:pub )?use ([^;]+);', text, re.M) for here, path in names(m[1].replace('crate::', crate + '::'))}
         self.consts = dict(re.findall(r'^(?:pub )?const (\w+): \w+ = ([^;]+);', text, re.M))
         self.types = dict(re.findall(r'^pub type (\w+) = (.+);$', text, re.M))
         self.structs = {m[2]: (comment(m[1]), re.findall(r'^    pub (\w+): ([^,]+),', m[3], re.M))
-                        for m in re.finditer(r'^((?://[^\n]*\n)*)#\[repr\(C\)\]\npub struct (\w+) \{\n(.*?)^\}', text, re.M | re.S)}
+                        for m in re.finditer(r'^((?://[^\n]*\n)*)#\[repr\(C\)\]\n(?:#\[derive\([^\n]*\)\]\n)?pub struct (\w+) \{\n(.*?)^\}', text, re.M | re.S)}
         self.exports = [(m[2], comment(m[1]), parameters(m[3]), m[4])
-                        for m in re.finditer(r'^((?://[^\n]*\n)*)#\[no_mangle\]\npub extern "C" fn (\w+)\(([^)]*)\)(?: -> (\w+))?', text, re.M)]
-        if len(self.exports) != text.count('#[no_mangle]'):
+                        for m in re.finditer(r'^((?://[^\n]*\n)*)#\[unsafe\(no_mangle\)\]\npub extern "C" fn (\w+)\(([^)]*)\)(?: -> (\w+))?', text, re.M)]
+        if len(self.exports) != text.count('#[unsafe(no_mangle)]'):
             refuse(f'{path}: an exported function is not in the form that is read here')
+
+
+def names(text):
+    """what a `use` brings in, each with its path: of `a::b`, `a::b as c` or `a::{b, c as d}`"""
+    above, _, listed = text.partition('{')
+    for word in (listed.rstrip('} \n') if listed else above).split(','):
+        path, _, here = word.strip().partition(' as ')
+        if path:
+            path = above + path if listed else path
+            yield here or path.split('::')[-1], path
 
 
 def comment(lines):

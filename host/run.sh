@@ -21,14 +21,17 @@ else
     say "python3 is not at hand, the boundary's files were not checked"
 fi
 if [ -z "${FIVVARUL_LIB:-}" ]; then
+    unset FIVVARUL_LIB
     for archive in host host_questions; do
-        rt staticlib $archive >"$work/log" 2>&1 || { cat "$work/log"; exit 1; }
+        (cd crates/$archive && rt lib) >"$work/log" 2>&1 || { cat "$work/log"; exit 1; }
     done
-    FIVVARUL_LIB=$PWD/target/staticlib
+    set -- crates/host/out/libhost.a crates/host_questions/out/libhost_questions.a
+else
+    export FIVVARUL_LIB
+    set -- "$FIVVARUL_LIB/libhost.a" "$FIVVARUL_LIB/libhost_questions.a"
 fi
-export FIVVARUL_LIB
 if command -v cc >/dev/null; then
-    cc -std=c11 -Wall -Wextra -Werror -O2 -Ihost/c host/c/example.c "$FIVVARUL_LIB/libhost.a" "$FIVVARUL_LIB/libhost_questions.a" -o "$work/example"
+    cc -std=c11 -Wall -Wextra -Werror -O2 -Ihost/c host/c/example.c "$@" -o "$work/example"
     "$work/example" >"$work/c"
     same "$work/c" host/c/expected.txt
     say "the example in C prints what is stored"
@@ -45,8 +48,8 @@ export CARGO_TARGET_DIR
 say "the package's tests and its documentation's examples pass"
 (cd host/rust && cargo run --release --offline --quiet --example jobs "$work/trace") >"$work/jobs"
 same "$work/jobs" host/rust/examples/jobs.txt
-if [ -x target/bin/replay ]; then
-    target/bin/replay text <"$work/trace" >"$work/replayed"
+if [ -x crates/replay/out/replay ]; then
+    crates/replay/out/replay text <"$work/trace" >"$work/replayed"
     starts=$(grep -c 'a slot is reserved' "$work/jobs")
     say "the example panel prints what is stored; its trace replays, with $starts drags started: $(tail -n 1 "$work/replayed")"
 fi

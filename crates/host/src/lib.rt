@@ -1,4 +1,4 @@
-// The library that Rust or C links: `rt staticlib host` has the operations, `rt staticlib host_questions` the questions; each archive has all that it uses.
+// The library that Rust or C links: the archive of `host` has the operations, that of `host_questions` the questions; each has all that it uses.
 // What crosses are numbers, arrays of numbers, slices of numbers and `repr(C)` records of numbers.
 // The host keeps a panel in the arrays below and lends them; it need not look into them. Any contents mean some panel, so no function asks anything of
 // them. `fivvarul_fresh` makes a fresh panel. A refused call leaves every place as before.
@@ -20,6 +20,7 @@
 // Each function of `panel` is exported as fivvarul_ and its name; after_pass and after_interact are none, since fivvarul_pass and fivvarul_interact
 // write the memory. Beside them: fivvarul_zoom_factor (02 A.5); fivvarul_kernel_fresh and fivvarul_read_records (02 A.1).
 #![tactic(auto)]
+
 pub mod factor;
 pub mod fresh;
 pub mod inserts;

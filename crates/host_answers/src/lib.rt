@@ -1,5 +1,6 @@
 // An answer as it crosses to the host: a record of plain numbers. Where `given` is false there is none, and the other fields are 0.
 #![tactic(auto)]
+
 ghost use Rattle.std.specs.Prelude.{◌≡◌};
 ghost use Rattle.model.specs.Types.{no_info, some_info};
 ghost use Rattle.host_answers.specs.Answers.{vector_of, maybe_vector_of, position_of, seconds_of, number_of, id_of, source_of, zoom_of, zoom_2d_of, rotation_of, gesture_of, event_of, widget_of, order_of, layer_of};

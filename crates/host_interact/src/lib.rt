@@ -1,5 +1,6 @@
 // What an interact is given and what it answers, as they cross to and from the host, and the interaction as the host's memory holds it.
 #![tactic(auto)]
+
 ghost use Rattle.std.specs.Prelude.{◌≡◌};
 ghost use Rattle.host_interact.specs.Held.{hit_of, maybe_id, id_or_zero, id_given, interaction_at, ids_of, flags_of};
 ghost use Rattle.host_interact.specs.Answers.{index_of, refusal_of, snapshot_of};

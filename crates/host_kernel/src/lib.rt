@@ -1,5 +1,6 @@
 // What the reading of kernel touch records (02 A.1) answers, as it crosses to the host.
 #![tactic(auto)]
+
 ghost use Rattle.std.specs.Prelude.{◌≡◌};
 ghost use Rattle.kernel_read.specs.Read.{kernel_row};
 ghost use Rattle.host_kernel.specs.Kernel.{Crosses};

@@ -10,7 +10,6 @@ use Rattle.model.specs.Pass as Model
 use Rattle.touches.proofs.Upsert.{no}
 use Rattle.touch_state.specs.declared.devices.Devices.{Devices}
 use Rattle.touch_state.specs.View.{view}
-use Rattle.survey.specs.declared.reading.MaybePassRefusal.{MaybePassRefusal}
 use Rattle.survey.specs.declared.reading.MaybePassRefusal.TheVariants.{None as taken, Some as refused}
 use Rattle.survey.specs.Survey.{option, fits_events}
 use Rattle.input_state.specs.declared.input.PassInput.{PassInput}

@@ -1,5 +1,6 @@
 // What a pass is given beside its feed, and the answer that it gives, as they cross to and from the host.
 #![tactic(auto)]
+
 ghost use Rattle.std.specs.Prelude.{◌≡◌};
 ghost use Rattle.std.proofs.Math.Option.{none};
 ghost use Rattle.host_pass.specs.Given.{rect_of, given_of, index_of, refusal_of, answer_of};

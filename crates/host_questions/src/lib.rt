@@ -2,6 +2,7 @@
 // Each function of `panel` is exported as fivvarul_ and its name; primary_pressed, secondary_pressed .. middle_down are fivvarul_button_pressed,
 // _released, _clicked and _down, with button 0, 1, 2.
 #![tactic(auto)]
+
 pub mod buttons;
 pub mod clock;
 pub mod dragging;

@@ -1,6 +1,7 @@
 // A touch device as the host's memory holds it: three arrays of plain numbers, and the time at which its gesture started, which stands beside.
 // Any contents mean some device.
 #![tactic(auto)]
+
 ghost use Rattle.std.specs.Prelude.{◌≡◌, ◌+◌, ◌<◌};
 ghost use Rattle.data.specs.Limits.{max_touches};
 ghost use Rattle.host_touch.specs.Device.{float_count, touch_of, touch_at, touches_of, state_at, previous_of, gesture_of, device_of};

@@ -1,5 +1,6 @@
 // A widget set and an insertion as they cross to and from the host, which keeps the counts of the set and its three arrays.
 #![tactic(auto)]
+
 ghost use Rattle.std.specs.Prelude.{◌≡◌};
 ghost use Rattle.host_widgets.specs.Insert.{inserted_of, Decides};
 

@@ -2,7 +2,6 @@ use mathlib.Core.Path.{ap, ◌∙◌}
 use Rattle.pointer_events.specs.Events.{event_of}
 use Rattle.pointer_events.specs.declared.MaybePointerEvent.TheVariants.{Some as some_event}
 use Rattle.pointer_events.proofs.Stored.{event_back}
-use borrow.Author.Rules.{rules}
 use Rattle.host_answers.proofs.event.Goals as goal
 
 pub returns-in-None : goal.returns-in-None

@@ -1,4 +1,3 @@
-use borrow.Author.Rules.{rules}
 use Rattle.host_answers.proofs.number.Goals as goal
 
 pub returns-in-None : goal.returns-in-None

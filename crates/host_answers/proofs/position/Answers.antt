@@ -1,4 +1,3 @@
-use borrow.Author.Rules.{rules}
 use Rattle.host_answers.proofs.position.Goals as goal
 
 pub returns-in-None : goal.returns-in-None

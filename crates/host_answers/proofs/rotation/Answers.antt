@@ -1,4 +1,3 @@
-use borrow.Author.Rules.{rules}
 use Rattle.host_answers.proofs.rotation.Goals as goal
 
 pub returns-in-Radians : goal.returns-in-Radians

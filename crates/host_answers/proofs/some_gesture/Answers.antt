@@ -1,4 +1,3 @@
-use borrow.Author.Rules.{rules}
 use Rattle.host_answers.proofs.some_gesture.Goals as goal
 
 pub returns : goal.returns

@@ -1,5 +1,4 @@
 use Rattle.host_answers.proofs.Back.{source_back}
-use borrow.Author.Rules.{rules}
 use Rattle.host_answers.proofs.source.Goals as goal
 
 pub returns-in-None : goal.returns-in-None

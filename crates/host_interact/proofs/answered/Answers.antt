@@ -1,5 +1,4 @@
 use mathlib.Core.Path.{refl}
-use borrow.Author.Rules.{rules}
 use Rattle.host_interact.proofs.answered.Goals as goal
 
 pub returns : goal.returns

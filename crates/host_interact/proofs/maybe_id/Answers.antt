@@ -1,4 +1,3 @@
-use borrow.Author.Rules.{rules}
 use Rattle.host_interact.proofs.maybe_id.Goals as goal
 
 pub returns-then-given : goal.returns-then-given

@@ -1,5 +1,4 @@
 use mathlib.Core.Path.{refl}
-use borrow.Author.Rules.{rules}
 use Rattle.host_kernel.proofs.crossing.Goals as goal
 
 pub returns-in-Taken : goal.returns-in-Taken

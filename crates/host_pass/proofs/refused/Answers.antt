@@ -1,4 +1,3 @@
-use borrow.Author.Rules.{rules}
 use Rattle.host_pass.proofs.refused.Goals as goal
 
 pub returns : goal.returns

@@ -1,4 +1,3 @@
-use borrow.Author.Rules.{rules}
 use Rattle.host_touch.proofs.gesture.Goals as goal
 
 pub returns-then-flags-offset10 : goal.returns-then-flags-offset10

@@ -1,4 +1,3 @@
-use borrow.Author.Rules.{rules}
 use Rattle.host_touch.proofs.touches_held.Goals as goal
 
 pub returns : goal.returns

@@ -1,4 +1,3 @@
-use borrow.Author.Rules.{rules}
 use Rattle.host_values.proofs.time.Goals as goal
 
 pub returns-then-given : goal.returns-then-given

@@ -1,4 +1,3 @@
-use borrow.Author.Rules.{rules}
 use Rattle.host_widgets.proofs.decided.Goals as goal
 
 pub returns : goal.returns

@@ -1,5 +1,4 @@
 use mathlib.Core.Path.{refl}
-use borrow.Author.Rules.{rules}
 use Rattle.host.proofs.factor.fivvarul_zoom_factor.Goals as goal
 
 pub returns-in-Factor : goal.returns-in-Factor

@@ -3,7 +3,6 @@ use Rattle.interaction_state.specs.View.{interaction_of}
 use Rattle.host_pass.proofs.Passing.{written}
 use Rattle.host_interact.proofs.Back.{written as interaction_written}
 use Rattle.host.proofs.Starting.{starts, no_button_down}
-use borrow.Author.Rules.{rules}
 use Rattle.host.proofs.fresh.fivvarul_fresh.Goals as goal
 
 pub returns : goal.returns

@@ -1,6 +1,5 @@
 use mathlib.Core.Path.{refl}
 use Rattle.host_interact.proofs.Back.{written}
-use borrow.Author.Rules.{rules}
 use Rattle.host.proofs.interacts.fivvarul_interact.Goals as goal
 
 pub returns-in-Refused : goal.returns-in-Refused

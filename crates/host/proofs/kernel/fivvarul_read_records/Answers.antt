@@ -1,4 +1,3 @@
-use borrow.Author.Rules.{rules}
 use Rattle.host.proofs.kernel.fivvarul_read_records.Goals as goal
 
 pub returns : goal.returns

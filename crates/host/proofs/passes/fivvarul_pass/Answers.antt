@@ -1,5 +1,4 @@
 use Rattle.host_pass.proofs.Passing.{when_refused, when_kept}
-use borrow.Author.Rules.{rules}
 use Rattle.host.proofs.passes.fivvarul_pass.Goals as goal
 
 pub returns-in-Some : goal.returns-in-Some

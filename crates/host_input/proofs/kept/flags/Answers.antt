@@ -1,4 +1,3 @@
-use borrow.Author.Rules.{rules}
 use Rattle.host_input.proofs.Back.{flags_same}
 use Rattle.host_input.proofs.kept.flags.Goals as goal
 

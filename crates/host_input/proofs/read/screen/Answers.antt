@@ -1,4 +1,3 @@
-use borrow.Author.Rules.{rules}
 use Rattle.host_input.proofs.read.screen.Goals as goal
 
 pub returns : goal.returns

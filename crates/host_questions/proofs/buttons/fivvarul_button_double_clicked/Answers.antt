@@ -1,4 +1,3 @@
-use borrow.Author.Rules.{rules}
 use Rattle.host_questions.proofs.buttons.fivvarul_button_double_clicked.Goals as goal
 
 pub returns : goal.returns

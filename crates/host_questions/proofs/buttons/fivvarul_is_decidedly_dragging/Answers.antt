@@ -1,4 +1,3 @@
-use borrow.Author.Rules.{rules}
 use Rattle.host_questions.proofs.buttons.fivvarul_is_decidedly_dragging.Goals as goal
 
 pub returns : goal.returns

@@ -1,4 +1,3 @@
-use borrow.Author.Rules.{rules}
 use Rattle.host_questions.proofs.buttons.fivvarul_is_long_press.Goals as goal
 
 pub returns : goal.returns

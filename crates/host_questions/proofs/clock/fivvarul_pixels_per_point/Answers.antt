@@ -1,4 +1,3 @@
-use borrow.Author.Rules.{rules}
 use Rattle.host_questions.proofs.clock.fivvarul_pixels_per_point.Goals as goal
 
 pub returns : goal.returns

@@ -1,4 +1,3 @@
-use borrow.Author.Rules.{rules}
 use Rattle.host_questions.proofs.clock.fivvarul_predicted_dt.Goals as goal
 
 pub returns : goal.returns

@@ -1,4 +1,3 @@
-use borrow.Author.Rules.{rules}
 use Rattle.host_questions.proofs.dragging.fivvarul_potential_drag_id.Goals as goal
 
 pub returns : goal.returns

@@ -1,6 +1,5 @@
 use mathlib.Core.Path.{ap}
 use Rattle.model.specs.Questions.{ask, count}
-use borrow.Author.Rules.{rules}
 use Rattle.host_questions.proofs.dragging.fivvarul_tally.Goals as goal
 
 pub returns : goal.returns

@@ -1,4 +1,3 @@
-use borrow.Author.Rules.{rules}
 use Rattle.host_questions.proofs.events.fivvarul_pointer_event.Goals as goal
 
 pub returns : goal.returns

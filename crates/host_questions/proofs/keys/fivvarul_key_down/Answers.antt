@@ -1,4 +1,3 @@
-use borrow.Author.Rules.{rules}
 use Rattle.host_questions.proofs.keys.fivvarul_key_down.Goals as goal
 
 pub returns : goal.returns

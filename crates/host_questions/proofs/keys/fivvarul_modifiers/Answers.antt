@@ -1,6 +1,5 @@
 use native.Mathlib.Omega.{arith}
 use Rattle.feed.proofs.RoundTrip.{modifiers_back}
-use borrow.Author.Rules.{rules}
 use Rattle.host_questions.proofs.keys.fivvarul_modifiers.Goals as goal
 
 pub returns : goal.returns

@@ -1,4 +1,3 @@
-use borrow.Author.Rules.{rules}
 use Rattle.host_questions.proofs.pointer.fivvarul_motion.Goals as goal
 
 pub returns : goal.returns

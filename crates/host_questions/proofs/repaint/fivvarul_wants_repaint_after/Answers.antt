@@ -1,4 +1,3 @@
-use borrow.Author.Rules.{rules}
 use Rattle.host_questions.proofs.repaint.fivvarul_wants_repaint_after.Goals as goal
 
 pub returns : goal.returns

@@ -1,4 +1,3 @@
-use borrow.Author.Rules.{rules}
 use Rattle.host_questions.proofs.scrolling.fivvarul_time_since_last_scroll.Goals as goal
 
 pub returns : goal.returns

@@ -1,4 +1,3 @@
-use borrow.Author.Rules.{rules}
 use Rattle.host_questions.proofs.touching.fivvarul_any_touches_of.Goals as goal
 
 pub returns : goal.returns

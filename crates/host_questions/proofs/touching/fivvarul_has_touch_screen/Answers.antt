@@ -1,4 +1,3 @@
-use borrow.Author.Rules.{rules}
 use Rattle.host_questions.proofs.touching.fivvarul_has_touch_screen.Goals as goal
 
 pub returns : goal.returns

@@ -1,4 +1,3 @@
-use borrow.Author.Rules.{rules}
 use Rattle.host_questions.proofs.touching.fivvarul_is_long_touch.Goals as goal
 
 pub returns : goal.returns

@@ -1,4 +1,3 @@
-use borrow.Author.Rules.{rules}
 use Rattle.host_questions.proofs.widgets.fivvarul_get.Goals as goal
 
 pub returns : goal.returns

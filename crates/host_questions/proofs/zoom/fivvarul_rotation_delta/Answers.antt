@@ -1,4 +1,3 @@
-use borrow.Author.Rules.{rules}
 use Rattle.host_questions.proofs.zoom.fivvarul_rotation_delta.Goals as goal
 
 pub returns : goal.returns

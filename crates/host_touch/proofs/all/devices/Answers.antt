@@ -1,4 +1,3 @@
-use borrow.Author.Rules.{rules}
 use borrow.Author.Tests.{lt-ltb}
 use Rattle.host_touch.proofs.Back.{same_four}
 use Rattle.host_touch.proofs.all.devices.Goals as goal

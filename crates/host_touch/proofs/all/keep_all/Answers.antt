@@ -1,7 +1,6 @@
 use mathlib.Core.Path.{◌≡◌}
-use borrow.Author.Rules.{rules}
 use borrow.Author.Tests.{lt-ltb}
-use lib.ListN.{length, length-map}
+use lib.ListN.{length}
 use Rattle.host_touch.proofs.Back.{kept_four}
 use Rattle.host_touch.proofs.all.keep_all.Goals as goal
 

@@ -1,5 +1,4 @@
 use mathlib.Core.Path.{sym, ◌∙◌}
-use borrow.Author.Rules.{rules}
 use Rattle.touches.proofs.Upsert.{no}
 use Rattle.host_touch.proofs.all.keep_if.Goals as goal
 

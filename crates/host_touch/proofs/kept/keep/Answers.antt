@@ -1,6 +1,5 @@
 use mathlib.Core.Path.{◌≡◌}
-use borrow.Author.Rules.{rules}
-use lib.ListN.{length, length-map}
+use lib.ListN.{length}
 use Rattle.host_touch.proofs.Back.{kept_back}
 use Rattle.host_touch.proofs.kept.keep.Goals as goal
 

@@ -1,4 +1,3 @@
-use borrow.Author.Rules.{rules}
 use Rattle.host_touch.proofs.kept.kept_touch.Goals as goal
 
 pub returns : goal.returns

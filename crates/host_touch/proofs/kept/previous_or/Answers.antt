@@ -1,4 +1,3 @@
-use borrow.Author.Rules.{rules}
 use Rattle.host_touch.proofs.kept.previous_or.Goals as goal
 
 pub returns-in-Some : goal.returns-in-Some
