@@ -1,21 +1,21 @@
 -- Edges of the definitions of a pass that 01 names no case for: the wheel, touches, the pointer, keys and sums, refusals. Definitions only.
 use Rattle.std.specs.Prelude.{ℕ, zero, suc, ◌+◌, ◌*◌, Bool, true, false, List, [], ◌∷◌, ◌++◌, replicate, Float}
-use Rattle.std.proofs.Math.Option.{Option, none, some}
+use Rattle.std.proofs.Math.Option.{none, some}
 use Rattle.std.specs.Float.{binary32, binary64}
 use Rattle.std.specs.Float.Ieee.{round, of_bits, to_bits}
 use Rattle.data.specs.Modifiers.{no_modifiers}
 use Rattle.data.specs.Numbers.{Row}
 use Rattle.feed.specs.Encode.{encode_all}
 use Rattle.model.specs.Options.{default_options}
-use Rattle.model.specs.Types.{Pos2, Vec2, Rect, Modifiers, InputOptions, Primary, Secondary, Point, Line, Page, Unknown, Wheel, Trackpad, Momentum, Start, Move, End, Cancel}
+use Rattle.model.specs.Types.{Pos2, Vec2, Modifiers, Primary, Secondary, Point, Line, Page, Unknown, Wheel, Trackpad, Momentum, Start, Move, End, Cancel}
 use Rattle.model.specs.Types.{TouchPhase, MouseWheelUnit, MouseWheelSource, no_force, some_force, no_pos, some_pos, no_vec, some_vec, no_time, some_time, no_number, Some_number, no_source, some_source}
-use Rattle.model.specs.Types.{MultiTouchInfo, no_info, some_info, Radians, Headings, no_click, some_click, Moved, Pressed, Released}
-use Rattle.model.specs.Types.{Event, Key, ModifiersChanged, PointerMoved, MouseMoved, Button, PointerGone, Zoom, Rotate, Touch, MouseWheel, WindowFocused, Other}
+use Rattle.model.specs.Types.{MultiTouchInfo, no_info, some_info, Radians, Headings, some_click, Pressed, Released}
+use Rattle.model.specs.Types.{Event, Key, ModifiersChanged, PointerMoved, MouseMoved, Button, PointerGone, Zoom, Rotate, Touch, MouseWheel, WindowFocused}
 use Rattle.model.specs.Pass.{PassInput}
 use Rattle.model.specs.Questions.{bool, count, number, vector, maybe_vector, maybe_position, maybe_seconds, maybe_number, rectangle, flags, source, zoom, zoom_2d, rotation, gesture, events, has_touch_screen}
 use Rattle.model.specs.Questions as Q
 use Rattle.edges.specs.Steps.{Step, passes, refuses_pass, answers, replies, unprocessed}
-use Rattle.edges.specs.Cases.{dec, pos, vec, given, pass_at, at, options, click_distance, click_duration, delay, press, release, clicks, click, point, finger_starts, finger_moves}
+use Rattle.edges.specs.Cases.{dec, pos, vec, given, pass_at, at, click_distance, click_duration, delay, press, release, click, point, finger_starts, finger_moves}
 
 -- ---- how a case is written
 

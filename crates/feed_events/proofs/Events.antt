@@ -13,7 +13,7 @@ use Rattle.data.specs.Numbers.{button_number, phase_number, unit_number, source_
 use Rattle.feed.specs.Types.{no_force, some_force}
 use Rattle.feed.specs.Types.{Event, Key, ModifiersChanged, PointerMoved, MouseMoved, Button, PointerGone, Zoom, Rotate, Touch, MouseWheel, WindowFocused, Other}
 use Rattle.feed.specs.Split.{Piece, pieces, pieces_from, piece_length, following, kind, lengths}
-use Rattle.feed.specs.Decode.{Decoded, good, Item, item_of, items}
+use Rattle.feed.specs.Decode.{good, Item, item_of, items}
 use Rattle.feed.specs.Feed.{events_of, then_events}
 use Rattle.feed.specs.Encode.{encode, fields, words_after, pos_words, vec_words, id_words, force_words, join, encode_all}
 use Rattle.feed.proofs.RoundTrip.{decode_after_encode, bit_le, modifiers_lt, button_le, phase_le, unit_le, source_le}

@@ -3,7 +3,7 @@ use Rattle.std.specs.Prelude.{ℕ, ◌≡◌, List, [], ◌∷◌, map, T, lengt
 use Rattle.data.specs.Limits.{event_ok}
 use Rattle.feed.specs.Types.{Event}
 use Rattle.feed.specs.Split.{Piece, following, pieces}
-use Rattle.feed.specs.Decode.{Decoded, good, Item, items}
+use Rattle.feed.specs.Decode.{good, Item, items}
 use Rattle.feed.specs.Feed.{events_of}
 use Rattle.feed.specs.Encode.{join, encode_all, fields_ok}
 

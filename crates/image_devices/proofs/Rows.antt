@@ -11,7 +11,7 @@ use Rattle.data.specs.Limits.{max_touches, max_devices}
 use Rattle.model.specs.Touch.{TouchState}
 use Rattle.touch_device.specs.declared.Device.{Device}
 use Rattle.touch_device.specs.View.{device_view}
-use Rattle.image.specs.Codes.{Code, El, write, entry_words, all, size, half, Each, count_of, table_ok}
+use Rattle.image.specs.Codes.{write, entry_words, all, size, half, Each, count_of, table_ok}
 use Rattle.image.specs.Places.{or_else, word_bad, two_at, two_bad, value_at, bad_at, rows_at, key_at, keys_bad, span}
 use Rattle.image.proofs.Lists.{sets_at, all_append, read_row, map-append, each_more, or_else_none}
 use Rattle.image_touches.specs.Touches.{ascending, touches_code, touches_el}

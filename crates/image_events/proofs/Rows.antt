@@ -4,7 +4,6 @@ use native.Mathlib.Numerals.{add-one}
 use native.Mathlib.Omega.{arith}
 use mathlib.Core.Path.{◌≡◌, refl, sym, ap, ◌∙◌, subst}
 use mathlib.Core.Bool.{Bool, true, false}
-use mathlib.Core.Option.{Option}
 use mathlib.Core.List.{List, [], ◌∷◌, ◌++◌, map}
 use lib.Dec.{T, leb, ltb, le→leb, eqb}
 use lib.ListN.{length, get_or, set, take, drop, length-map, length-append}
@@ -20,7 +19,7 @@ use Rattle.feed.proofs.RoundTrip.{modifiers_lt}
 use Rattle.model.specs.Types.{no_click, some_click, PointerEvent, Moved, Pressed, Released, PointerButton, Primary, Secondary, Middle, Extra1, Extra2}
 use Rattle.pointer_events.specs.Events.{event_of, entry_of, entry_at, click_of, events_from, events, counted, codes_of, positions_of, Pushed}
 use Rattle.pointer_events.proofs.Stored as stored
-use Rattle.image.specs.Codes.{Code, write, zeros, all, size, In, Each, El}
+use Rattle.image.specs.Codes.{write, zeros, all, size, In, Each, El}
 use Rattle.image.specs.Places.{word_bad, value_at, rows_at, span}
 use Rattle.image.proofs.Lists.{put_row, read_row, rows_length, map-append, each_more}
 use Rattle.image_words.specs.Leaves.{any_id, upto}

@@ -1,5 +1,6 @@
 // Group 11 of an image (02 A.6): the pass's pointer events. Six words each: kind, button, count and flags, position.
 #![tactic(auto)]
+
 ghost use Rattle.std.specs.Prelude.{◌≡◌, ◌+◌, ◌*◌, ◌<◌, ◌≤◌, length};
 ghost use Rattle.std.proofs.Math.Option.{none};
 ghost use Rattle.std.proofs.lemmas.List.Edits.{sets};

@@ -1,5 +1,6 @@
 // Groups 7 to 9 of an image (02 A.6): the sums of the pass, "dragged and potential ids", the tally. Written, checked, read.
 #![tactic(auto)]
+
 ghost use Rattle.std.specs.Prelude.{◌≡◌};
 ghost use Rattle.image.specs.Codes.{write, In};
 ghost use Rattle.image.specs.Places.{bad_at, value_at};

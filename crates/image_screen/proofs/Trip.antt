@@ -1,5 +1,5 @@
 -- Group 2: what stands for a record gives it back, and every value in range stands for one. Assumes nothing.
-use mathlib.Core.Path.{◌≡◌, refl}
+use mathlib.Core.Path.{◌≡◌}
 use Rattle.model.specs.Pass.{Screen}
 use Rattle.image.specs.Codes.{El, In}
 use Rattle.image_options.proofs.Trip.{boolean_back, boolean_forth, modifiers_again, modifiers_forth}

@@ -1,5 +1,6 @@
 // Group 2 of an image (02 A.6), the screen and the options: written, checked, read.
 #![tactic(auto)]
+
 ghost use Rattle.std.specs.Prelude.{◌≡◌, T};
 ghost use Rattle.data.specs.Limits.{options_ok, rect_ok};
 ghost use Rattle.image.specs.Codes.{write, In};

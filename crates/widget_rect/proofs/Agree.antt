@@ -1,16 +1,16 @@
 -- For a well-formed set, what `decide` leaves is what the model's `insert` leaves, and the set is well-formed again. Assumes nothing.
-use mathlib.Core.Path.{◌≡◌, refl, sym, ◌∙◌, ap, subst}
+use mathlib.Core.Path.{◌≡◌, refl, sym, ◌∙◌, ap}
 use Prim.Native.Nat.{ℕ, zero, suc, ◌+◌, ◌-◌, ◌<◌, ◌≤◌}
 use native.Mathlib.Omega.{arith}
 use native.Mathlib.Numerals.{add-one}
-use mathlib.Core.Bool.{Bool, true, false, ◌||◌, cond}
+use mathlib.Core.Bool.{Bool, true, false, cond}
 use mathlib.Core.Option.{Option, none, some}
 use mathlib.Core.List.{List, [], ◌∷◌, ◌++◌, map}
-use lib.Dec.{eqb, leb, ltb, eqb-suc-zero}
+use lib.Dec.{leb, ltb, eqb-suc-zero}
 use lib.Ieee.{Float}
-use lib.ListN.{length, take, drop, set, length-set, length-take, drop_of_length-le}
+use lib.ListN.{length, take, drop, set, length-set, drop_of_length-le}
 use lib.Seq.{set_split, length-take-le}
-use borrow.Author.Tests.{eq-eqb, ne_eqb, lt-ltb, le-ltb, le-leb, lt-leb, ltb-true, ltb-false, leb-true, leb-false}
+use borrow.Author.Tests.{lt-ltb, lt-leb, ltb-false, leb-false}
 use Rattle.data.specs.Limits.{max_widgets, max_layers}
 use Rattle.data.specs.declared.widget.WidgetRect.{WidgetRect}
 use Rattle.data.specs.declared.refusal.InsertRefusal.{InsertRefusal}
@@ -19,9 +19,8 @@ use Rattle.model.specs.Pass.{or_else}
 use Rattle.model.specs.Widgets.{Known, Layer, same_layer, updated, record_refusal, move_to_end}
 use Rattle.model.specs.Widgets as M
 use Rattle.widget_index.specs.declared.table.WidgetRects.{WidgetRects}
-use Rattle.widget_append.specs.declared.Inserted.TheVariants.{Refused, Taken}
 use Rattle.widget_index.specs.Layout.{span, place, place_at, layer_of, position_of, count_at}
-use Rattle.widget_index.specs.Table.{at_most, firsts, last, widgets_of, layers_of, layer_at, widget_at, known_at, layer_entry_at, view, head, find, find_layer}
+use Rattle.widget_index.specs.Table.{last, widgets_of, layers_of, layer_at, widget_at, known_at, layer_entry_at, view, head, find, find_layer}
 use Rattle.widget_append.specs.declared.Decision.{Decision}
 use Rattle.widget_append.specs.Append.{Outcome, Gives, refuse, unchanged, number_of, count_of, append, insert_new, with_traits, settled}
 use Rattle.widget_insert.specs.Insert.{at_least, replace, move_to_top, moved_numbers, fall, insert_known, insert_checked, decide}

@@ -1,27 +1,26 @@
 -- A new widget in a well-formed set: each number after the stores, and that the set stays well-formed. Assumes nothing.
 use mathlib.Core.Path.{◌≡◌, refl, sym, ◌∙◌, ap, subst}
-use Prim.Native.Nat.{ℕ, zero, suc, ◌+◌, ◌-◌, ◌*◌, ◌<◌, ◌≤◌, ◌/◌, ◌%◌}
+use Prim.Native.Nat.{ℕ, suc, ◌+◌, ◌-◌, ◌*◌, ◌<◌, ◌≤◌, ◌%◌}
 use native.Mathlib.Omega.{arith}
 use native.Mathlib.Nat.{eq-or-lt_of_le, le_refl}
 use native.Mathlib.Numerals.{add-one}
 use mathlib.Core.Bool.{Bool, true, false, cond}
 use mathlib.Core.Logic.{⊎_elim}
-use mathlib.Core.List.{List, [], ◌∷◌, ◌++◌}
-use lib.Dec.{eqb, leb, ltb}
-use lib.Ieee.{Float}
+use mathlib.Core.List.{List, [], ◌∷◌}
+use lib.Dec.{eqb, leb}
 use lib.ListN.{length, get_or}
-use borrow.Author.Tests.{eq-eqb, ne_eqb, eqb-true, eqb-false, leb-true, leb-false, le-leb, lt-leb, lt-ltb, le-ltb}
+use borrow.Author.Tests.{eq-eqb, ne_eqb, eqb-true, eqb-false, leb-true, leb-false, le-leb, lt-ltb, le-ltb}
 use Rattle.data.specs.Limits.{max_widgets, max_layers}
 use Rattle.data.specs.declared.layers.LayerId.{LayerId}
 use Rattle.data.specs.declared.widget.WidgetRect.{WidgetRect}
 use Rattle.model.specs.Widgets.{same_layer}
 use Rattle.widget_index.specs.declared.table.WidgetRects.{WidgetRects}
 use Rattle.widget_index.specs.Layout.{parents, layer_ids, links, places, traits, orders, counts, span, id_at, parent_at, link_at, place_at, layer_of, position_of, place, count_at, packed}
-use Rattle.widget_index.specs.Table.{at_most, last, widgets_of, layer_at, bucket, head, find, find_layer}
+use Rattle.widget_index.specs.Table.{last, widgets_of, layer_at, bucket, head, find, find_layer}
 use Rattle.widget_append.specs.Append.{appended_words, appended_numbers, layers_after}
 use Rattle.widget_rect.specs.WellFormed.{Indexed}
 use Rattle.widget_rect.proofs.Lists.{kept, stored, last_here, last_before, last_le, last_cong}
-use Rattle.widget_rect.proofs.Index.{unclamped, not_so, same_layer_is, finds_id}
+use Rattle.widget_rect.proofs.Index.{unclamped, same_layer_is, finds_id}
 
 -- the layer's number and count that a new widget of the layer is given
 pub record Home (h : WidgetRects) (words numbers : List ℕ) (layer : LayerId) (l count : ℕ) : Type 0 where

@@ -1,27 +1,27 @@
 -- A new widget, in the model's terms: the view after the stores is the model's set with the widget appended. Assumes nothing.
-use mathlib.Core.Path.{◌≡◌, refl, sym, ◌∙◌, ap, subst}
-use Prim.Native.Nat.{ℕ, zero, suc, ◌+◌, ◌-◌, ◌*◌, ◌<◌, ◌≤◌, ◌/◌, ◌%◌}
+use mathlib.Core.Path.{◌≡◌, refl, sym, ◌∙◌, ap}
+use Prim.Native.Nat.{ℕ, suc, ◌+◌, ◌<◌, ◌/◌, ◌%◌}
 use native.Mathlib.Omega.{arith}
 use native.Mathlib.Numerals.{add-one}
-use mathlib.Core.Bool.{Bool, true, false, cond}
+use mathlib.Core.Bool.{Bool, true, false}
 use mathlib.Core.Option.{none, some}
 use mathlib.Core.List.{List, [], ◌∷◌, ◌++◌}
 use lib.Dec.{eqb}
 use lib.Ieee.{Float}
 use lib.ListN.{length, get_or}
-use borrow.Author.Tests.{eq-eqb, ne_eqb, eqb-true, eqb-false}
+use borrow.Author.Tests.{eqb-true, eqb-false}
 use Rattle.data.specs.Limits.{max_widgets, max_layers}
 use Rattle.data.specs.declared.layers.LayerId.{LayerId}
 use Rattle.data.specs.declared.widget.WidgetRect.{WidgetRect}
-use Rattle.model.specs.Widgets.{Known, Layer, same_layer, count_in}
+use Rattle.model.specs.Widgets.{Layer, same_layer, count_in}
 use Rattle.widget_index.specs.declared.table.WidgetRects.{WidgetRects}
-use Rattle.widget_index.specs.Layout.{span, counts, place_at, layer_of, position_of, place, count_at, packed}
-use Rattle.widget_index.specs.Table.{at_most, firsts, last, widgets_of, layers_of, layer_at, widget_at, known_at, layer_entry_at, view, head, find, find_layer}
+use Rattle.widget_index.specs.Layout.{span, place_at, layer_of, position_of, place, count_at, packed}
+use Rattle.widget_index.specs.Table.{firsts, last, layer_at, known_at, layer_entry_at, view, head, find, find_layer}
 use Rattle.widget_append.specs.Append.{appended_words, appended_numbers, layers_after, with_edges}
 use Rattle.widget_rect.specs.Questions.{at_entry}
 use Rattle.widget_rect.specs.WellFormed.{Indexed}
 use Rattle.widget_rect.proofs.Lists.{last_is, firsts_cong, first_such, change_such, finds, changes, but}
-use Rattle.widget_rect.proofs.Index.{unclamped, unlike, same_layer_is, layer_once, layer_plain}
+use Rattle.widget_rect.proofs.Index.{unclamped, layer_once}
 use Rattle.widget_rect.proofs.Records.{rect_kept, interact_rect_kept, rect_new, interact_rect_new, sense_back, enabled_back, visible_back, widget_parts, known_parts}
 use Rattle.widget_rect.proofs.Append as A
 use Rattle.widget_rect.proofs.Append.{Home}

@@ -1,20 +1,19 @@
 -- What the questions answer of a well-formed set, and that the empty set is one. Assumes nothing.
 use mathlib.Core.Path.{◌≡◌, refl, sym, ◌∙◌, ap}
-use Prim.Native.Nat.{ℕ, zero, suc, ◌-◌, ◌<◌, ◌≤◌}
+use Prim.Native.Nat.{ℕ, zero, suc, ◌-◌, ◌<◌}
 use native.Mathlib.Omega.{arith}
-use mathlib.Core.Bool.{Bool, true, false, not, cond}
-use mathlib.Core.Option.{Option, none, some}
-use mathlib.Core.List.{List, map}
+use mathlib.Core.Bool.{Bool, not, cond}
+use mathlib.Core.Option.{none, some}
+use mathlib.Core.List.{List}
 use lib.Dec.{eqb, leb, ltb, eqb-suc-zero}
 use lib.Ieee.{Float}
-use lib.ListN.{length}
-use borrow.Author.Tests.{eq-eqb, ne_eqb, le-leb, lt-leb}
+use borrow.Author.Tests.{lt-leb}
 use Rattle.data.specs.Limits.{max_layers}
 use Rattle.data.specs.declared.layers.LayerId.{LayerId}
 use Rattle.model.specs.Widgets as M
 use Rattle.widget_index.specs.declared.table.WidgetRects.{WidgetRects}
-use Rattle.widget_index.specs.Layout.{head_at, id_at, count_at}
-use Rattle.widget_index.specs.Table.{at_most, firsts, last, layers_of, layer_at, layer_entry_at, known_at, view, bucket, head, find, find_layer}
+use Rattle.widget_index.specs.Layout.{head_at, id_at}
+use Rattle.widget_index.specs.Table.{at_most, firsts, layers_of, layer_at, layer_entry_at, known_at, view, bucket, head, find, find_layer}
 use Rattle.widget_append.specs.Append.{count_of}
 use Rattle.widget_rect.specs.Questions.{Empty, Contains, Gets, Orders, Counts, Layers, at_entry, widget_option, order_option, layer_option}
 use Rattle.widget_rect.specs.declared.questions.MaybeWidgetRect.{MaybeWidgetRect}

@@ -1,13 +1,13 @@
 -- Whatever the set and its arrays hold, what is decided fits the lent slice. Assumes nothing.
-use mathlib.Core.Path.{◌≡◌, refl, sym, ◌∙◌, ap}
-use Prim.Native.Nat.{ℕ, zero, suc, ◌+◌, ◌-◌, ◌<◌, ◌≤◌, zero-le}
+use mathlib.Core.Path.{◌≡◌, refl}
+use Prim.Native.Nat.{ℕ, ◌+◌, ◌≤◌, zero-le}
 use native.Mathlib.Omega.{arith}
 use mathlib.Core.Bool.{Bool, true, false}
 use mathlib.Core.Option.{Option, none, some}
 use mathlib.Core.List.{List}
 use lib.Dec.{leb, ltb, eqb}
 use lib.Ieee.{Float}
-use borrow.Author.Tests.{eqb-true, eqb-false, ltb-true, ltb-false, lt-ltb, le-ltb}
+use borrow.Author.Tests.{eqb-true, eqb-false, ltb-false}
 use Rattle.data.specs.Limits.{max_widgets, max_layers}
 use Rattle.data.specs.declared.widget.WidgetRect.{WidgetRect}
 use Rattle.data.specs.declared.refusal.InsertRefusal.{InsertRefusal}
@@ -15,7 +15,7 @@ use Rattle.model.specs.Widgets.{same_layer, record_refusal}
 use Rattle.widget_index.specs.declared.table.WidgetRects.{WidgetRects}
 use Rattle.widget_index.specs.Layout.{place_at, layer_of, position_of, count_at}
 use Rattle.widget_index.specs.Table.{layers_of, layer_at, find, find_layer}
-use Rattle.widget_append.specs.Append.{Outcome, refuse, unchanged, number_of, count_of, append, insert_new}
+use Rattle.widget_append.specs.Append.{Outcome, number_of, count_of, append, insert_new}
 use Rattle.widget_insert.specs.Insert.{at_least, replace, move_to_top, insert_known, insert_checked, decide}
 use Rattle.widget_append.proofs.Cases as New
 use Rattle.widget_insert.proofs.Cases as C

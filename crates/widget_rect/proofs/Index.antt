@@ -1,20 +1,20 @@
 -- In a well-formed set the index finds what the model finds: the slot of an id, and the number of a layer. Assumes nothing.
-use mathlib.Core.Path.{◌≡◌, refl, sym, ◌∙◌, ap, subst}
-use Prim.Native.Nat.{ℕ, zero, suc, ◌+◌, ◌-◌, ◌<◌, ◌≤◌}
+use mathlib.Core.Path.{◌≡◌, refl, sym, ◌∙◌, ap}
+use Prim.Native.Nat.{ℕ, zero, suc, ◌-◌, ◌<◌, ◌≤◌}
 use native.Mathlib.Omega.{arith}
 use mathlib.Core.Bool.{Bool, true, false, ◌&&◌, cond}
-use mathlib.Core.Option.{Option, none, some}
+use mathlib.Core.Option.{some}
 use mathlib.Core.List.{List, [], ◌∷◌}
-use lib.Dec.{eqb, leb, eqb-suc-zero}
+use lib.Dec.{eqb, eqb-suc-zero}
 use lib.Ieee.{Float}
-use borrow.Author.Tests.{eq-eqb, ne_eqb, eqb-true, eqb-false, le-leb}
+use borrow.Author.Tests.{eq-eqb, eqb-true, le-leb}
 use Rattle.data.specs.Limits.{max_widgets, max_layers}
 use Rattle.data.specs.declared.layers.LayerId.{LayerId}
 use Rattle.model.specs.Widgets.{Known, Layer, find_known, same_layer}
 use Rattle.model.specs.Widgets as M
 use Rattle.widget_index.specs.declared.table.WidgetRects.{WidgetRects}
-use Rattle.widget_index.specs.Layout.{id_at, link_at, count_at}
-use Rattle.widget_index.specs.Table.{at_most, last, firsts, widgets_of, layers_of, layer_at, known_at, layer_entry_at, view, bucket, head, chain, find, find_layer}
+use Rattle.widget_index.specs.Layout.{id_at, link_at}
+use Rattle.widget_index.specs.Table.{at_most, last, firsts, widgets_of, layers_of, layer_at, known_at, layer_entry_at, view, bucket, chain, find, find_layer}
 use Rattle.widget_index.proofs.Chain.{enough}
 use Rattle.widget_rect.specs.Questions.{at_entry}
 use Rattle.widget_rect.specs.WellFormed.{Indexed}

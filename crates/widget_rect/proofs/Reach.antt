@@ -1,16 +1,15 @@
 -- Every set that the model's insertions reach is what some well-formed table holds, and of those it is known. Assumes nothing.
-use mathlib.Core.Path.{◌≡◌, refl, sym, ◌∙◌, ap, subst}
-use Prim.Native.Nat.{ℕ, zero, suc, ◌+◌, ◌-◌, ◌*◌, ◌<◌, ◌≤◌}
+use mathlib.Core.Path.{◌≡◌, sym, ◌∙◌, ap, subst}
+use Prim.Native.Nat.{ℕ, zero, suc, ◌<◌, ◌≤◌}
 use native.Mathlib.Omega.{arith}
 use native.Mathlib.Nat.{eq-or-lt_of_le}
-use mathlib.Core.Bool.{Bool, true, false}
 use mathlib.Core.Logic.{◌⊎◌, ⊎_elim}
-use mathlib.Core.List.{List, [], ◌∷◌, ◌++◌}
+use mathlib.Core.List.{List, [], ◌∷◌}
 use lib.Dec.{eqb}
 use lib.Ieee.{Float, nan}
 use lib.ListN.{length, get_or, replicate, length-replicate, get_or-append}
 use lib.Seq.{get_or_at}
-use borrow.Author.Tests.{eq-eqb, eqb-true}
+use borrow.Author.Tests.{eq-eqb}
 use Rattle.data.specs.Limits.{max_widgets, max_layers}
 use Rattle.data.specs.declared.widget.WidgetRect.{WidgetRect}
 use Rattle.model.specs.Widgets as M
@@ -19,7 +18,7 @@ use Rattle.widget_index.specs.declared.table.WidgetRects.{WidgetRects}
 use Rattle.widget_append.specs.declared.Inserted.{Inserted}
 use Rattle.widget_append.specs.declared.Inserted.TheVariants.{Refused, Taken}
 use Rattle.widget_index.specs.Layout.{id_at, place_at, layer_of, position_of, place, count_at}
-use Rattle.widget_index.specs.Table.{firsts, last, widgets_of, layers_of, layer_at, known_at, layer_entry_at, view}
+use Rattle.widget_index.specs.Table.{firsts, widgets_of, layers_of, layer_at, known_at, layer_entry_at, view}
 use Rattle.widget_append.specs.Append.{Outcome, settled}
 use Rattle.widget_insert.specs.Insert.{decide}
 use Rattle.widget_rect.specs.Reached.{Reached, starts, inserts, Orderly, nobody, nowhere, known, layer, EveryReachedSetIsOrderly}

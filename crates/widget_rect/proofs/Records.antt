@@ -1,8 +1,8 @@
 -- A record stored in a slot is read back, and the other slots keep theirs: rectangles and traits. Assumes nothing.
-use mathlib.Core.Path.{◌≡◌, refl, sym, ◌∙◌, ap, subst}
+use mathlib.Core.Path.{◌≡◌, refl, subst}
 use Prim.Native.Nat.{ℕ, ◌+◌, ◌*◌, ◌<◌, ◌/◌, ◌%◌}
 use native.Mathlib.Omega.{arith}
-use mathlib.Core.Bool.{Bool, true, false, ◌&&◌, cond}
+use mathlib.Core.Bool.{Bool, true, false}
 use mathlib.Core.Option.{none, some}
 use mathlib.Core.List.{List, [], ◌∷◌, ◌++◌}
 use lib.Dec.{eqb, leb, ltb}
@@ -16,12 +16,11 @@ use Rattle.data.specs.Limits.{max_order}
 use Rattle.data.specs.Sense.{sense_ok}
 use Rattle.data.specs.declared.refusal.InsertRefusal.{InsertRefusal}
 use Rattle.data.specs.declared.refusal.InsertRefusal.TheVariants.{Malformed}
-use Rattle.model.specs.Widgets.{Known, well_shaped, some_id_zero, edges_ok, record_refusal}
+use Rattle.model.specs.Widgets.{Known, well_shaped, record_refusal}
 use Rattle.widget_index.specs.Layout.{bit, packed, sense_of, enabled_of, visible_of, edge_at}
 use Rattle.widget_index.specs.Table.{rect_at}
 use Rattle.widget_append.specs.Append.{with_edges, appended_words, appended_numbers}
 use Rattle.widget_rect.proofs.Lists.{kept, stored}
-use Rattle.widget_rect.proofs.Index.{unlike}
 
 -- ---- rectangles
 

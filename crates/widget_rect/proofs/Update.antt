@@ -1,17 +1,17 @@
 -- A known widget in a well-formed set: replaced in its place, or moved to the top. The set stays well-formed, and its view is the model's. Assumes nothing.
 use mathlib.Core.Path.{◌≡◌, refl, sym, ◌∙◌, ap, subst}
-use Prim.Native.Nat.{ℕ, zero, suc, ◌+◌, ◌-◌, ◌*◌, ◌<◌, ◌≤◌, ◌/◌, ◌%◌}
+use Prim.Native.Nat.{ℕ, suc, ◌+◌, ◌-◌, ◌*◌, ◌<◌, ◌≤◌, ◌/◌, ◌%◌}
 use native.Mathlib.Omega.{arith}
 use native.Mathlib.Nat.{eq-or-lt_of_le}
 use mathlib.Core.Bool.{Bool, true, false, ◌&&◌, ◌||◌, cond}
 use mathlib.Core.Logic.{◌⊎◌, inl, inr, ⊎_elim}
-use mathlib.Core.List.{List, [], ◌∷◌, ◌++◌, map}
-use lib.Dec.{eqb, leb, ltb}
+use mathlib.Core.List.{List, [], ◌∷◌, map}
+use lib.Dec.{eqb, ltb}
 use lib.Ieee.{Float}
 use lib.ListN.{length, get_or, set, length-set}
 use lib.Seq.{get_or-set_same, get_or-set_other}
-use borrow.Author.Tests.{eq-eqb, ne_eqb, eqb-true, eqb-false, lt-ltb, le-ltb, ltb-true, ltb-false}
-use Rattle.data.specs.Limits.{max_widgets, max_layers}
+use borrow.Author.Tests.{eq-eqb, ne_eqb, eqb-true, eqb-false, le-ltb, ltb-true, ltb-false}
+use Rattle.data.specs.Limits.{max_widgets}
 use Rattle.data.specs.Bits.{bit_number}
 use Rattle.data.specs.Sense.{sense_or, senses_click, senses_drag, is_focusable}
 use Rattle.data.specs.declared.layers.LayerId.{LayerId}
@@ -20,9 +20,9 @@ use Rattle.model.specs.Widgets.{Known, same_layer, updated, with_known}
 use Rattle.model.specs.Widgets as M
 use Rattle.widget_index.specs.declared.table.WidgetRects.{WidgetRects}
 use Rattle.widget_index.specs.Layout.{places, traits, counts, orders, span, id_at, link_at, place_at, layer_of, position_of, place, count_at, packed}
-use Rattle.widget_index.specs.Table.{firsts, last, widgets_of, layer_at, widget_at, known_at, layer_entry_at, view, bucket, head, find, find_layer}
+use Rattle.widget_index.specs.Table.{firsts, last, layer_at, widget_at, known_at, layer_entry_at, view, bucket, head, find, find_layer}
 use Rattle.widget_append.specs.Append.{with_edges, with_traits}
-use Rattle.widget_insert.specs.Insert.{at_least, fall, fallen, moved_numbers}
+use Rattle.widget_insert.specs.Insert.{at_least, fall, fallen}
 use Rattle.widget_rect.specs.WellFormed.{Indexed}
 use Rattle.widget_rect.proofs.Lists.{last_is, last_none, last_cong, firsts_cong, map_firsts, change_such, changes, but}
 use Rattle.widget_rect.proofs.Index.{unclamped, not_so, unlike, same_layer_is, same_layer_refl, finds_id}

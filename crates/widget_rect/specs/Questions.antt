@@ -1,5 +1,5 @@
 -- What each question answers: for every set by the index's own way, and for a well-formed one what the model answers.
-use Rattle.std.specs.Prelude.{ℕ, zero, suc, ◌-◌, ◌≡◌, Bool, not, cond, List, eqb, ltb, Float, length}
+use Rattle.std.specs.Prelude.{ℕ, zero, suc, ◌≡◌, Bool, not, cond, List, eqb, ltb, Float, length}
 use Rattle.std.proofs.Math.Option.{Option, none, some}
 use Rattle.data.specs.declared.layers.LayerId.{LayerId}
 use Rattle.data.specs.declared.widget.WidgetRect.{WidgetRect}

@@ -2,7 +2,6 @@
 use Rattle.std.specs.Prelude.{ℕ, ◌<◌, ◌≤◌, ◌≡◌, Bool, false, List, length, get_or}
 use Rattle.std.specs.Float.{nan}
 use Rattle.data.specs.Limits.{max_widgets, max_layers}
-use Rattle.data.specs.declared.layers.LayerId.{LayerId}
 use Rattle.data.specs.declared.widget.WidgetRect.{WidgetRect}
 use Rattle.model.specs.Widgets as M
 use Rattle.model.specs.Widgets.{Known, Layer}

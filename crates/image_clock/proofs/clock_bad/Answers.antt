@@ -1,7 +1,6 @@
 use Rattle.image.specs.Places.{bad_at, span}
 use Rattle.image.specs.Codes.{size}
 use Rattle.data.specs.Limits.{time_ok, unit_interval_ok}
-use borrow.Author.Rules.{rules}
 use Rattle.image_clock.proofs.clock_bad.Goals as goal
 
 pub returns : goal.returns

@@ -2,7 +2,6 @@ use Prim.Native.Nat.{◌+◌}
 use mathlib.Core.Path.{◌≡◌}
 use native.Mathlib.Omega.{arith}
 use Rattle.image_devices.proofs.Rows.{value_device}
-use borrow.Author.Rules.{rules}
 use Rattle.image_devices.proofs.device_at.Goals as goal
 
 pub returns : goal.returns

@@ -3,7 +3,6 @@ use mathlib.Core.Path.{◌≡◌}
 use native.Mathlib.Omega.{arith}
 use Rattle.image_touches.proofs.Walk.{test_same}
 use Rattle.image_devices.proofs.Rows.{bad_device}
-use borrow.Author.Rules.{rules}
 use Rattle.image_devices.proofs.device_bad.Goals as goal
 
 pub returns : goal.returns

@@ -3,7 +3,6 @@ use lib.ListN.{length-set}
 use lib.Seq.{length-sets}
 use Rattle.touch_device.specs.View.{device_view}
 use Rattle.image_devices.proofs.Rows.{entry_length, put_device}
-use borrow.Author.Rules.{rules}
 use Rattle.image_devices.proofs.device_put.Goals as goal
 
 pub bounds-out-at-2 : goal.bounds-out-at-2

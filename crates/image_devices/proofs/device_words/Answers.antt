@@ -1,6 +1,6 @@
 use Prim.Native.Nat.{◌≤◌}
 use mathlib.Core.Path.{refl, sym}
-use lib.ListN.{length, length-map}
+use lib.ListN.{length}
 use Rattle.data.specs.Limits.{max_touches}
 use Rattle.touches.specs.Touches.{list}
 use Rattle.touch_device.specs.View.{device_view}

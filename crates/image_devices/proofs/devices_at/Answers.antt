@@ -1,17 +1,12 @@
-use Prim.Native.Nat.{◌≤◌, ◌-◌, ◌+◌}
+use Prim.Native.Nat.{◌+◌}
 use mathlib.Core.Path.{◌≡◌, ◌∙◌}
-use mathlib.Core.List.{map}
 use native.Mathlib.Numerals.{add-one}
 use native.Mathlib.Omega.{arith}
-use lib.ListN.{length-map, length, take, length-set}
-use Rattle.data.specs.Limits.{max_touches}
-use Rattle.touch_device.specs.View.{device_view}
+use lib.ListN.{length, length-set}
 use Rattle.image.specs.Codes.{size}
-use Rattle.image.specs.Places.{bad_at, value_at, rows_at, key_at}
+use Rattle.image.specs.Places.{bad_at, value_at}
 use Rattle.image.proofs.Lists.{or_else_none}
-use Rattle.image_devices.specs.Devices.{device_code, devices_of}
 use Rattle.image_devices.proofs.Rows.{read_none, read_more, sound_touches}
-use borrow.Author.Rules.{rules}
 use Rattle.image_devices.proofs.devices_at.Goals as goal
 
 pub loop-i-init : goal.loop-i-init

@@ -8,7 +8,6 @@ use Rattle.image.specs.Places.{bad_at, keys_bad}
 use Rattle.image.proofs.Lists.{or_else_under}
 use Rattle.image_touches.specs.Touches.{ascending}
 use Rattle.image_devices.specs.Devices.{device_code}
-use borrow.Author.Rules.{rules}
 use Rattle.image_devices.proofs.devices_bad.Goals as goal
 
 pub returns : goal.returns

@@ -1,11 +1,10 @@
 use Prim.Native.Nat.{◌≤◌}
 use mathlib.Core.Path.{◌∙◌}
 use native.Mathlib.Omega.{arith}
-use lib.ListN.{length-set, length-map}
+use lib.ListN.{length-set}
 use lib.Seq.{length-sets}
 use Rattle.touches.proofs.Places.{first_of}
 use Rattle.image_devices.proofs.Rows.{count_le, put_all}
-use borrow.Author.Rules.{rules}
 use Rattle.image_devices.proofs.devices_put.Goals as goal
 
 pub overflow_cast-out : goal.overflow_cast-out

@@ -1,8 +1,6 @@
 use native.Mathlib.Omega.{arith}
-use lib.ListN.{length-map}
 use Rattle.touches.proofs.Places.{first_of}
 use Rattle.image_devices.proofs.Rows.{count_le, group_length}
-use borrow.Author.Rules.{rules}
 use Rattle.image_devices.proofs.devices_words.Goals as goal
 
 pub rows_words-requires : goal.rows_words-requires

@@ -1,14 +1,13 @@
-use borrow.Author.Rules.{rules}
 use Rattle.image_touches.specs.Touches.{ascending, seen_of}
 use Rattle.image_devices.specs.Devices.{device_code}
 use Rattle.data.specs.Limits.{max_touches}
 use Rattle.image_devices.proofs.Rows.{keys_last}
 use Rattle.image_words.specs.Leaves.{found}
-use Rattle.image.specs.Places.{or_else, two_at, bad_at, keys_bad}
+use Rattle.image.specs.Places.{or_else, two_at, bad_at}
 use Rattle.image.proofs.Lists.{check_key, keys_end}
 use mathlib.Core.List.{[]}
-use mathlib.Core.Path.{◌≡◌, refl, sym, ◌∙◌}
-use Prim.Native.Nat.{◌+◌, ◌*◌, ◌-◌}
+use mathlib.Core.Path.{refl, sym, ◌∙◌}
+use Prim.Native.Nat.{◌+◌, ◌-◌}
 use native.Mathlib.Omega.{arith}
 use Rattle.image_devices.proofs.rows_bad.Goals as goal
 

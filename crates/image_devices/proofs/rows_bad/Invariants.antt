@@ -1,15 +1,11 @@
-use borrow.Author.Rules.{rules}
 use Rattle.image_touches.specs.Touches.{ascending, seen_of}
 use Rattle.image_devices.specs.Devices.{device_code}
 use Rattle.data.specs.Limits.{max_touches}
-use Rattle.image_devices.proofs.Rows.{keys_last}
 use Rattle.image_words.specs.Leaves.{found}
-use Rattle.image.specs.Places.{or_else, two_at, bad_at, keys_bad}
-use Rattle.image.proofs.Lists.{check_key, keys_end}
+use Rattle.image.specs.Places.{or_else, bad_at, keys_bad}
 use mathlib.Core.List.{[]}
-use mathlib.Core.Path.{◌≡◌, refl, sym, ◌∙◌}
-use Prim.Native.Nat.{◌+◌, ◌*◌, ◌-◌}
-use native.Mathlib.Omega.{arith}
+use mathlib.Core.Path.{◌≡◌}
+use Prim.Native.Nat.{◌+◌, ◌*◌}
 use Rattle.image_devices.proofs.rows_bad.Given as goal
 
 abbrev pub invariant-loop-left : goal.invariant-loop-left

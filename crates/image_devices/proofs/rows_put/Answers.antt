@@ -1,9 +1,9 @@
-use Prim.Native.Nat.{ℕ, ◌≤◌, ◌-◌, ◌*◌}
+use Prim.Native.Nat.{ℕ}
 use mathlib.Core.Path.{◌≡◌, ap, ◌∙◌}
 use native.Mathlib.Omega.{arith}
 use lib.ListN.{length}
 use lib.Seq.{sets, length-sets}
-use Rattle.image_devices.proofs.Rows.{written, EachIn, put_none, none_length, each_none, put_more, more_length, each_device}
+use Rattle.image_devices.proofs.Rows.{written, put_none, none_length, each_none, put_more, more_length, each_device}
 use borrow.Author.Rules.{rules}
 use Rattle.image_devices.proofs.rows_put.Goals as goal
 

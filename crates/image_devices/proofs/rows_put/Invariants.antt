@@ -1,10 +1,8 @@
-use Prim.Native.Nat.{ℕ, ◌≤◌, ◌-◌, ◌*◌}
-use mathlib.Core.Path.{◌≡◌, ap, ◌∙◌}
-use native.Mathlib.Omega.{arith}
+use Prim.Native.Nat.{◌≤◌, ◌-◌, ◌*◌}
+use mathlib.Core.Path.{◌≡◌}
 use lib.ListN.{length}
-use lib.Seq.{sets, length-sets}
-use Rattle.image_devices.proofs.Rows.{written, EachIn, put_none, none_length, each_none, put_more, more_length, each_device}
-use borrow.Author.Rules.{rules}
+use lib.Seq.{sets}
+use Rattle.image_devices.proofs.Rows.{written, EachIn}
 use Rattle.image_devices.proofs.rows_put.Given as goal
 
 abbrev pub invariant-loop-i : goal.invariant-loop-i

@@ -1,9 +1,7 @@
-use Prim.Native.Nat.{ℕ, ◌≤◌, ◌-◌, ◌*◌}
-use mathlib.Core.Path.{◌≡◌, sym, ap, ◌∙◌}
-use native.Mathlib.Omega.{arith}
+use Prim.Native.Nat.{◌≤◌, ◌-◌, ◌*◌}
+use mathlib.Core.Path.{◌≡◌}
 use lib.ListN.{length}
-use Rattle.image_devices.proofs.Rows.{written, none_length, more_length}
-use borrow.Author.Rules.{rules}
+use Rattle.image_devices.proofs.Rows.{written}
 use Rattle.image_devices.proofs.rows_words.Given as goal
 
 abbrev pub invariant-loop-i : goal.invariant-loop-i

@@ -2,7 +2,6 @@ use mathlib.Core.Path.{◌≡◌}
 use Prim.Native.Nat.{◌+◌}
 use native.Mathlib.Omega.{arith}
 use Rattle.image.specs.Places.{bad_at, span}
-use borrow.Author.Rules.{rules}
 use Rattle.image_events.proofs.clicked_bad.Goals as goal
 
 pub pos_bad-requires : goal.pos_bad-requires

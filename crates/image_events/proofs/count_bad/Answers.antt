@@ -1,6 +1,5 @@
 use mathlib.Core.Path.{◌∙◌}
 use Rattle.image_events.proofs.Rows.{any_word}
-use borrow.Author.Rules.{rules}
 use Rattle.image_events.proofs.count_bad.Goals as goal
 
 pub returns : goal.returns

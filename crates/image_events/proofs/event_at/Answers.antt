@@ -1,6 +1,5 @@
 use Rattle.image.specs.Places.{value_at}
 use Rattle.image_events.proofs.Rows.{read_there}
-use borrow.Author.Rules.{rules}
 use Rattle.image_events.proofs.event_at.Goals as goal
 
 pub returns : goal.returns

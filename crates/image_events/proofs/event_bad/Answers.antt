@@ -1,8 +1,6 @@
-use mathlib.Core.Path.{◌≡◌}
 use native.Mathlib.Numerals.{add-one}
 use Rattle.image.specs.Places.{bad_at}
 use Rattle.image_events.proofs.Rows.{kind_bad}
-use borrow.Author.Rules.{rules}
 use Rattle.image_events.proofs.event_bad.Goals as goal
 
 pub returns : goal.returns

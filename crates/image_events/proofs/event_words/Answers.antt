@@ -1,6 +1,4 @@
-use mathlib.Core.Path.{◌∙◌}
 use Rattle.image_events.proofs.Rows.{words_of, in_event}
-use borrow.Author.Rules.{rules}
 use Rattle.image_events.proofs.event_words.Goals as goal
 
 pub returns : goal.returns

@@ -6,7 +6,6 @@ use Rattle.image.specs.Places.{bad_at, value_at, rows_at}
 use Rattle.image.proofs.Lists.{or_else_none}
 use Rattle.image_events.specs.Events.{event_code}
 use Rattle.image_events.proofs.Rows.{moved_stored}
-use borrow.Author.Rules.{rules}
 use Rattle.image_events.proofs.events_at.Goals as goal
 
 pub returns : goal.returns

@@ -3,7 +3,6 @@ use lib.ListN.{length-set}
 use mathlib.Core.Path.{◌∙◌}
 use native.Mathlib.Omega.{arith}
 use Rattle.image_events.proofs.Rows.{put_all, in_events}
-use borrow.Author.Rules.{rules}
 use Rattle.image_events.proofs.events_put.Goals as goal
 
 pub rows_put-requires : goal.rows_put-requires

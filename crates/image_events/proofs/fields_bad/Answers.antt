@@ -3,7 +3,6 @@ use Prim.Native.Nat.{◌+◌}
 use native.Mathlib.Omega.{arith}
 use Rattle.image.specs.Places.{bad_at, span}
 use Rattle.image_events.proofs.Rows.{other_kind}
-use borrow.Author.Rules.{rules}
 use Rattle.image_events.proofs.fields_bad.Goals as goal
 
 pub pos_bad-pos-requires : goal.pos_bad-pos-requires

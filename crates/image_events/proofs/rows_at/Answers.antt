@@ -1,10 +1,8 @@
-use Prim.Native.Nat.{ℕ, ◌≤◌, ◌-◌}
 use native.Mathlib.Omega.{arith}
 use mathlib.Core.Path.{◌≡◌}
 use lib.ListN.{length}
-use borrow.Author.Rules.{rules}
 use Rattle.image.specs.Places.{value_at, rows_at}
-use Rattle.image_events.specs.Events.{event_code, events_of_el, Stored}
+use Rattle.image_events.specs.Events.{event_code, events_of_el}
 use Rattle.image_events.proofs.Rows.{rows_none, rows_count, rows_more, store_more}
 use Rattle.image_events.proofs.rows_at.Goals as goal
 

@@ -1,7 +1,6 @@
-use Rattle.image_events.proofs.Rows.{six, written, EachIn, put_none, each_none, put_more, each_event}
+use Rattle.image_events.proofs.Rows.{six, written, put_none, each_none, put_more, each_event}
 use lib.ListN.{length}
-use Prim.Native.Nat.{ℕ, ◌≤◌, ◌-◌}
-use borrow.Author.Rules.{rules}
+use Prim.Native.Nat.{ℕ}
 use lib.Seq.{sets, length-sets}
 use mathlib.Core.Path.{◌≡◌, ap, ◌∙◌}
 use native.Mathlib.Omega.{arith}

@@ -1,10 +1,7 @@
-use Rattle.image_events.proofs.Rows.{six, written, EachIn, put_none, each_none, put_more, each_event}
-use lib.ListN.{length}
-use Prim.Native.Nat.{ℕ, ◌≤◌, ◌-◌}
-use borrow.Author.Rules.{rules}
-use lib.Seq.{sets, length-sets}
-use mathlib.Core.Path.{◌≡◌, ap, ◌∙◌}
-use native.Mathlib.Omega.{arith}
+use Rattle.image_events.proofs.Rows.{written, EachIn}
+use Prim.Native.Nat.{◌≤◌, ◌-◌}
+use lib.Seq.{sets}
+use mathlib.Core.Path.{◌≡◌}
 use Rattle.image_events.proofs.rows_put.Given as goal
 
 abbrev pub invariant-loop-i : goal.invariant-loop-i

@@ -1,6 +1,4 @@
 use Rattle.image_fixed.proofs.Chain.{groups_bad}
-use Rattle.image_words.specs.Leaves.{found}
-use borrow.Author.Rules.{rules}
 use Rattle.image_fixed.proofs.fixed_bad.Goals as goal
 
 pub returns : goal.returns

@@ -2,7 +2,6 @@ use Rattle.image_fixed.proofs.Chain.{two, place_length}
 use mathlib.Core.Path.{refl}
 use mathlib.Core.List.{[]}
 use Rattle.pointer_place.specs.View.{place}
-use borrow.Author.Rules.{rules}
 use Rattle.image_fixed.proofs.pointer_put.Goals as goal
 
 pub returns : goal.returns

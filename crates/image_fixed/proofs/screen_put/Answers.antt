@@ -2,7 +2,6 @@ use Rattle.image_fixed.proofs.Chain.{two, clock_length}
 use mathlib.Core.Path.{refl}
 use Rattle.input_state.specs.View.{clock}
 use Rattle.image_clock.specs.Clock.{clock_el}
-use borrow.Author.Rules.{rules}
 use Rattle.image_fixed.proofs.screen_put.Goals as goal
 
 pub returns : goal.returns

@@ -4,7 +4,6 @@ use Rattle.interaction_state.specs.View.{interaction_of}
 use Rattle.image_interaction.specs.Groups.{sums_el}
 use Rattle.image_fixed.proofs.Chain.{sums_length, interaction_length}
 use mathlib.Core.Path.{refl}
-use borrow.Author.Rules.{rules}
 use Rattle.image_fixed.proofs.sums_put.Goals as goal
 
 pub returns : goal.returns

@@ -1,7 +1,6 @@
 use Rattle.image_fixed.proofs.Chain.{two, wheel_length}
 use mathlib.Core.Path.{refl}
 use Rattle.image_wheel.specs.Wheel.{wheel_el}
-use borrow.Author.Rules.{rules}
 use Rattle.image_fixed.proofs.wheel_put.Goals as goal
 
 pub returns : goal.returns

@@ -1,7 +1,6 @@
 use Rattle.image.specs.Places.{bad_at, span}
 use Rattle.image.specs.Codes.{size}
-use Rattle.data.specs.Limits.{coordinate_ok, length_ok, unit_interval_ok, duration_ok, scale_ok}
-use borrow.Author.Rules.{rules}
+use Rattle.data.specs.Limits.{length_ok, unit_interval_ok, duration_ok}
 use Rattle.image_screen.proofs.options_bad.Goals as goal
 
 pub returns : goal.returns

@@ -1,6 +1,5 @@
 use Rattle.image_screen.proofs.Words.{options_list, options_parts}
 use Rattle.image_options.proofs.Trip.{modifiers_in}
-use borrow.Author.Rules.{rules}
 use Rattle.image_screen.proofs.options_words.Goals as goal
 
 pub returns : goal.returns

@@ -1,6 +1,5 @@
 use Rattle.image.specs.Codes.{write}
 use Rattle.image_screen.proofs.Words.{rect_parts}
-use borrow.Author.Rules.{rules}
 use Rattle.image_screen.proofs.rect_words.Goals as goal
 
 pub returns : goal.returns

@@ -1,7 +1,6 @@
 use Rattle.image_screen.proofs.Words.{screen_list}
 use Rattle.image_options.proofs.Trip.{boolean_in}
 use Rattle.input_state.specs.View.{screen}
-use borrow.Author.Rules.{rules}
 use Rattle.image_screen.proofs.screen_words.Goals as goal
 
 pub returns : goal.returns

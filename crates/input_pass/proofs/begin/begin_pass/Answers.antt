@@ -1,7 +1,6 @@
 use mathlib.Core.Path.{refl, sym}
 use Rattle.survey.specs.Survey.{option}
 use Rattle.input_pass.proofs.Passed.{surveys, refused_pass, taken_pass}
-use borrow.Author.Rules.{rules}
 use Rattle.input_pass.proofs.begin.begin_pass.Goals as goal
 
 pub act-state-requires : goal.act-state-requires

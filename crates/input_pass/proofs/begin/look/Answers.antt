@@ -1,7 +1,6 @@
-use mathlib.Core.Path.{◌≡◌, refl, sym, ◌∙◌}
+use mathlib.Core.Path.{refl, sym, ◌∙◌}
 use Rattle.survey.specs.Survey.{option}
 use Rattle.input_pass.proofs.Passed.{some_none}
-use borrow.Author.Rules.{rules}
 use Rattle.input_pass.proofs.begin.look.Goals as goal
 
 pub returns-in-None : goal.returns-in-None

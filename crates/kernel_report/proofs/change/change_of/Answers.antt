@@ -3,7 +3,6 @@ use Rattle.kernel_values.specs.Value.{same_number}
 use mathlib.Core.Bool.{true, false}
 use Rattle.kernel_report.proofs.Told.{read_back, same_told}
 use Rattle.kernel_report.specs.Report.{change}
-use borrow.Author.Rules.{rules}
 use Rattle.kernel_report.proofs.change.change_of.Goals as goal
 
 pub returns-then-same_number : goal.returns-then-same_number

@@ -2,7 +2,6 @@ use mathlib.Core.Path.{sym, ◌∙◌}
 use mathlib.Core.Bool.{true, false}
 use Rattle.kernel_report.proofs.Told.{finger_told}
 use Rattle.kernel_report.specs.Report.{moved}
-use borrow.Author.Rules.{rules}
 use Rattle.kernel_report.proofs.change.moved.Goals as goal
 
 pub returns-then-same_place : goal.returns-then-same_place

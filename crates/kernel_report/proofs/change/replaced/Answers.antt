@@ -1,7 +1,6 @@
 use mathlib.Core.Bool.{true, false}
 use Rattle.kernel_report.proofs.Told.{finger_told}
 use Rattle.kernel_report.specs.Report.{replaced}
-use borrow.Author.Rules.{rules}
 use Rattle.kernel_report.proofs.change.replaced.Goals as goal
 
 pub returns-then-is_finger-2 : goal.returns-then-is_finger-2

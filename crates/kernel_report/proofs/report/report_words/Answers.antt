@@ -11,13 +11,6 @@ use Rattle.kernel_touch.specs.declared.slots.Slot.{Slot}
 use Rattle.kernel_report.specs.Report.{report}
 use Rattle.kernel_report.proofs.Written.{blank, slot_le, next_length, report_last}
 use Rattle.kernel_report.proofs.report.report_words.Goals as goal
-use Rattle.kernel_report.proofs.report.report_words.Goals.{After-slot_words-words}
-
-abbrev slots-of : tie.After-slot-words invariant-loop decreases-loop → List Slot
-slots-of c = c.before.before.before.before.args.t1.slots
-
-slots-are : (c : After-slot_words-words) → length (slots-of c) ≡ max_slots
-slots-are c = c.well_formed.0.1.1.0.1.0.1
 
 pub loop-i-init : goal.loop-i-init
 loop-i-init c = (omega arith, omega arith, λ d. omega arith)
@@ -31,7 +24,7 @@ bounds-k-i c = omega arith
 pub overflow_add-words : goal.overflow_add-words
 overflow_add-words c =
     let now = c.loop-i in
-    omega (arith, now.invariant.1, c.slot_words-words.ensures 0, slot_le 0 (get_or (slots-of c) now.i blank))
+    omega (arith, now.invariant.1, c.slot_words-words.ensures 0, slot_le 0 (get_or c.args.k.slots now.i blank))
 
 pub overflow_add-i : goal.overflow_add-i
 overflow_add-i c = omega arith
@@ -42,10 +35,11 @@ loop-i-smaller c = omega arith
 pub loop-i-preserved : goal.loop-i-preserved
 loop-i-preserved c =
     let now = c.loop-i in
-    let h : now.i < length (slots-of c) = omega (arith, slots-are c) in (
+    let l : length c.args.k.slots ≡ max_slots = c.well_formed.0.1.1.0.1.0.1 in
+    let h : now.i < length c.args.k.slots = omega arith in (
       omega arith,
-      omega (arith, now.invariant.1, c.slot_words-words.ensures 0, slot_le 0 (get_or (slots-of c) now.i blank)),
-      λ d. rw (add-one now.i) (omega (arith, now.invariant.2 d, c.slot_words-words.ensures d, next_length d blank now.i (slots-of c) h)),
+      omega (arith, now.invariant.1, c.slot_words-words.ensures 0, slot_le 0 (get_or c.args.k.slots now.i blank)),
+      λ d. rw (add-one now.i) (omega (arith, now.invariant.2 d, c.slot_words-words.ensures d, next_length d blank now.i c.args.k.slots h)),
     )
 
 pub returns : goal.returns

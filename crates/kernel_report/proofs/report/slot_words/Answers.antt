@@ -3,7 +3,6 @@ use Rattle.feed.specs.Encode.{encode_all, join, encode, words_after, id_words, p
 use Rattle.kernel_report.specs.declared.change.Change.TheVariants.{Still, Begun, Moved, Lifted, Replaced}
 use Rattle.kernel_report.proofs.Written.{change_words}
 use Rattle.kernel_report.specs.Report.{change, change_events, touch}
-use borrow.Author.Rules.{rules}
 use Rattle.kernel_report.proofs.report.slot_words.Goals as goal
 
 pub returns-in-Still : goal.returns-in-Still

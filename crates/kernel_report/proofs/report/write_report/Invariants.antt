@@ -1,14 +1,10 @@
-use Prim.Native.Nat.{ℕ, ◌+◌, ◌-◌, ◌<◌, ◌≤◌}
-use mathlib.Core.Path.{◌≡◌, refl, sym, ap, ◌∙◌}
-use mathlib.Core.List.{List}
-use native.Mathlib.Numerals.{add-one}
-use native.Mathlib.Omega.{arith}
-use lib.ListN.{length, drop, length-map}
+use Prim.Native.Nat.{◌+◌, ◌-◌, ◌≤◌}
+use mathlib.Core.Path.{◌≡◌}
+use lib.ListN.{length, drop}
 use Rattle.feed.specs.Encode.{encode_all}
 use Rattle.kernel_values.specs.Value.{max_slots}
 use Rattle.kernel_report.specs.Put.{put}
 use Rattle.kernel_report.specs.Report.{report}
-use Rattle.kernel_report.proofs.Written.{blank, length_put, next_length, report_last, put_step}
 use Rattle.kernel_report.proofs.report.write_report.Given as goal
 
 -- the slots before i are written; those from i on are left

@@ -9,7 +9,6 @@ use Rattle.kernel_report.specs.Put.{put}
 use Rattle.kernel_report.specs.Report.{touch, touch_words, slot_events}
 use Rattle.kernel_report.proofs.Told.{read_back}
 use Rattle.kernel_report.proofs.Written.{still_words, begun_words, moved_words, lifted_words, replaced_words, touch_length, put_two, length_put}
-use borrow.Author.Rules.{rules}
 use Rattle.kernel_report.proofs.report.write_slot.Goals as goal
 use Rattle.kernel_report.proofs.report.write_slot.Goals.{In-Begun, In-Lifted, In-Moved, In-Replaced}
 

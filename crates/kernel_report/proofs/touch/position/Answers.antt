@@ -2,7 +2,6 @@ use mathlib.Core.Path.{◌≡◌, ap, ◌∙◌}
 use lib.Ieee.{of_int, binary32}
 use Rattle.kernel_report.proofs.Told.{read_back}
 use Rattle.kernel_report.specs.Report.{position}
-use borrow.Author.Rules.{rules}
 use Rattle.kernel_report.proofs.touch.position.Goals as goal
 
 pub returns : goal.returns

@@ -1,6 +1,5 @@
 use Rattle.kernel_report.proofs.Told.{read_back}
 use Rattle.kernel_report.specs.Report.{touch}
-use borrow.Author.Rules.{rules}
 use Rattle.kernel_report.proofs.touch.touch.Goals as goal
 
 pub returns : goal.returns

@@ -1,7 +1,7 @@
 use Prim.Native.Nat.{ℕ}
 use mathlib.Core.Path.{◌≡◌, ap, ◌∙◌}
 use mathlib.Core.List.{List}
-use lib.ListN.{length, length-map, take}
+use lib.ListN.{length, take}
 use lib.IntN.{ℤ}
 use mir.Facts.{to_z-of_z}
 use Rattle.feed.specs.Encode.{encode}
@@ -9,7 +9,6 @@ use Rattle.feed_encode.specs.Words.{words_of}
 use Rattle.kernel_report.proofs.Written.{seven, touch_length}
 use Rattle.kernel_report.specs.Put.{put}
 use Rattle.kernel_report.specs.Report.{touch}
-use borrow.Author.Rules.{rules}
 use Rattle.kernel_report.proofs.touch.write_touch.Goals as goal
 
 pub returns : goal.returns

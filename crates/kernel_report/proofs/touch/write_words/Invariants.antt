@@ -1,14 +1,8 @@
-use mathlib.Core.List.{List, []}
-use Prim.Native.Nat.{ℕ, suc, ◌+◌, ◌-◌, ◌<◌, ◌≤◌}
-use mathlib.Core.Path.{◌≡◌, refl, ap, sym, ◌∙◌}
-use borrow.Author.Rules.{rules}
-use native.Mathlib.Numerals.{add-one}
-use native.Mathlib.Omega.{arith}
-use lib.ListN.{length, drop, take, set, length-set, drop_of_length-le}
-use lib.Seq.{length-take-le, get_or-take}
+use Prim.Native.Nat.{◌+◌, ◌-◌, ◌≤◌}
+use mathlib.Core.Path.{◌≡◌}
+use lib.ListN.{length, drop, take}
 use Rattle.kernel_report.specs.Put.{put}
 use Rattle.kernel_report.specs.Report.{touch_words}
-use Rattle.kernel_report.proofs.Written.{put_next}
 use Rattle.kernel_report.proofs.touch.write_words.Given as goal
 
 -- the words before i are written; those from i on are left

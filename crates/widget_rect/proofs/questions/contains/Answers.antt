@@ -1,5 +1,4 @@
 use Rattle.widget_rect.proofs.Asked.{answers_contains}
-use borrow.Author.Rules.{rules}
 use Rattle.widget_rect.proofs.questions.contains.Goals as goal
 
 pub returns : goal.returns

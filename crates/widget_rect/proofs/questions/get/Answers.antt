@@ -1,7 +1,6 @@
 use Rattle.widget_rect.proofs.Asked.{answers_get, no_entry, an_entry}
 use Rattle.widget_rect.specs.Questions.{widget_option}
 use Rattle.model.specs.Widgets as M
-use borrow.Author.Rules.{rules}
 use Rattle.widget_rect.proofs.questions.get.Goals as goal
 
 pub returns-then-e-eq0 : goal.returns-then-e-eq0

@@ -1,7 +1,6 @@
 use Rattle.widget_rect.proofs.Asked.{answers_layer}
 use Rattle.widget_rect.specs.Questions.{layer_option}
 use borrow.Author.Tests.{lt-ltb, le-ltb}
-use borrow.Author.Rules.{rules}
 use Rattle.widget_rect.proofs.questions.layer_id.Goals as goal
 
 pub returns-then-i-layers_of : goal.returns-then-i-layers_of
