@@ -1,6 +1,6 @@
 -- Written by compare/vectors/model_calls.py: calls of egui, with its answers.
 use Rattle.std.specs.Prelude.{List, [], ◌∷◌, ◌++◌}
-use Rattle.model_calls.specs.Exchanges.{Exchange, resets, passes, inserts, clears_widgets, interacts, asks, dumps, sets_tally, ◌zeros◌}
+use Rattle.model_calls.specs.Exchanges.{Exchange, resets, passes, inserts, interacts, asks, dumps, ◌zeros◌}
 
 -- 30 calls by chance, seed 0
 unfoldable pub chance_0 : List Exchange

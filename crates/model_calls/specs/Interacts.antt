@@ -1,6 +1,6 @@
 -- Written by compare/vectors/model_calls.py: calls of egui, with its answers.
 use Rattle.std.specs.Prelude.{List, [], ◌∷◌, ◌++◌}
-use Rattle.model_calls.specs.Exchanges.{Exchange, resets, passes, inserts, clears_widgets, interacts, asks, dumps, sets_tally, ◌zeros◌}
+use Rattle.model_calls.specs.Exchanges.{Exchange, resets, passes, inserts, clears_widgets, interacts, dumps, sets_tally, ◌zeros◌}
 
 -- a click on a widget over two passes and in one; on one that is disabled; on none
 unfoldable pub clicked : List Exchange

@@ -1,6 +1,6 @@
 -- Written by compare/vectors/model_calls.py: calls of egui, with its answers.
 use Rattle.std.specs.Prelude.{List, [], ◌∷◌, ◌++◌}
-use Rattle.model_calls.specs.Exchanges.{Exchange, resets, passes, inserts, clears_widgets, interacts, asks, dumps, sets_tally, ◌zeros◌}
+use Rattle.model_calls.specs.Exchanges.{Exchange, resets, passes, asks, dumps, ◌zeros◌}
 
 -- samples come, age and go; three samples over more than 0.01 s are needed
 unfoldable pub velocity : List Exchange

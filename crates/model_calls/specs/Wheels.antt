@@ -1,6 +1,6 @@
 -- Written by compare/vectors/model_calls.py: calls of egui, with its answers.
 use Rattle.std.specs.Prelude.{List, [], ◌∷◌, ◌++◌}
-use Rattle.model_calls.specs.Exchanges.{Exchange, resets, passes, inserts, clears_widgets, interacts, asks, dumps, sets_tally, ◌zeros◌}
+use Rattle.model_calls.specs.Exchanges.{Exchange, resets, passes, asks, dumps, ◌zeros◌}
 
 -- a delta by points, by lines, by pages of the pass's own rectangle; smoothed over passes
 unfoldable pub units : List Exchange

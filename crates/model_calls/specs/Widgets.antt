@@ -1,6 +1,6 @@
 -- Written by compare/vectors/model_calls.py: calls of egui, with its answers.
 use Rattle.std.specs.Prelude.{List, [], ◌∷◌, ◌++◌}
-use Rattle.model_calls.specs.Exchanges.{Exchange, resets, passes, inserts, clears_widgets, interacts, asks, dumps, sets_tally, ◌zeros◌}
+use Rattle.model_calls.specs.Exchanges.{Exchange, resets, inserts, clears_widgets, dumps, ◌zeros◌}
 
 -- a, b, c; a moved to top, then c, then the top itself; a new one moved to top goes last anyway
 unfoldable pub moved_to_top : List Exchange

@@ -1,11 +1,11 @@
 -- In a well-formed set the lookup by the index is the model's `get`. Assumes nothing.
-use mathlib.Core.Path.{◌≡◌, refl, sym, ◌∙◌, ap, fun_ext}
+use mathlib.Core.Path.{◌≡◌, refl, ◌∙◌, ap, fun_ext}
 use Prim.Native.Nat.{ℕ, zero, suc}
 use mathlib.Core.List.{List}
 use lib.Ieee.{Float}
 use Rattle.model.specs.Widgets.{get, widget_of}
 use Rattle.widget_index.specs.declared.table.WidgetRects.{WidgetRects}
-use Rattle.widget_index.specs.Table.{known_at, view, find}
+use Rattle.widget_index.specs.Table.{known_at, find}
 use Rattle.widget_rect.specs.Questions as Questions
 use Rattle.widget_rect.specs.WellFormed.{WellFormed}
 use Rattle.widget_rect.proofs.Index.{finds_known}

@@ -1,5 +1,5 @@
 -- Equal answers have the same number and values. Assumes nothing.
-use mathlib.Core.Path.{◌≡◌, refl, sym, ◌∙◌, ap}
+use mathlib.Core.Path.{◌≡◌, ap}
 use Rattle.data.specs.Numbers.{rotation_number, rotation_values, source_number}
 use Rattle.data.specs.Numbers.{pointer_event_number, pointer_event_position, pointer_event_button, pointer_event_click}
 use Rattle.model.specs.Types.{PointerEvent, Rotation, MouseWheelSource, MaybeMouseWheelSource, some_source}

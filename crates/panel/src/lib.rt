@@ -3,6 +3,7 @@
 // A pass is given `input_state::input::PassInput` and a feed, and returns `input_pass::begin::Begun`; an interact is given hits of `hit_lists` and returns
 // `interaction_state::state::Interacted`; the widget set and its arrays are those of `widget_index::table`.
 #![tactic(auto)]
+
 pub mod buttons;
 pub mod clock;
 pub mod dragging;

@@ -10,7 +10,7 @@ use Rattle.ieee_narrow.specs.Narrow.{narrow}
 use Rattle.ieee_laws.proofs.Order.{le_trans, le_refl}
 use Rattle.emath.specs.Vec.{vec_zero, vec_ne}
 use Rattle.model.specs.Types.{InputOptions, Primary, Event, MaybeF64, some_time}
-use Rattle.model.specs.Pointer.{Held, ClickPast, Press, any, is_click, is_move, move_time, any_down, no_buttons, button_down, press_too_long, could_any_button_be_click, is_decidedly_dragging, is_long_press, clear_events, press_events, press_pass}
+use Rattle.model.specs.Pointer.{Held, ClickPast, Press, any, is_click, is_move, move_time, any_down, no_buttons, button_down, press_too_long, is_decidedly_dragging, is_long_press, clear_events, press_events, press_pass}
 use Rattle.model.specs.Touch.{TouchState, touch_pass, multi_touch, any_touches, find_device, info_at, any_touches_at}
 use Rattle.model.specs.Pass.{Panel, PassInput, Interaction, Tally, begin_pass, clock_pass, decidedly_dragging, pass_events, time_of}
 use Rattle.model.specs.Interact.{InteractInput, InteractionSnapshot, seen, snapshot, interaction_after, with_interaction, tally_after, long_press, could_click, has_pos}

@@ -10,7 +10,6 @@ use Rattle.data.specs.Limits.{max_tally}
 use Rattle.model.specs.Types.{PassRefusal, InteractRefusal}
 use Rattle.model.specs.Types.interaction.{TallyFull}
 use Rattle.model.specs.Pass.{Panel, PassInput, Interaction, fresh, pass, pass_by, pass_refusal, begin_pass, no_interaction}
-use Rattle.model.specs.Interact as I
 use Rattle.model.specs.Interact.{InteractInput, InteractionSnapshot, seen, interact, interact_seen, interact_by, input_refusal, tally_after, tally_refusal, tallied, tallied_by, snapshot, interaction_after, with_interaction, if_changed, same_id, one_if, is_some}
 use Rattle.model.specs.Calls.{Call, passes, interacts, Outcome, refused_pass, refused_interact, passed, answered, OfPass, OfInteract, call, after, run, outcomes}
 use Rattle.theorems.specs.Balance.{one_if_is, starts, stops, last_dragged, all_starts, Balance}

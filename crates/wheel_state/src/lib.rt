@@ -1,5 +1,6 @@
 // egui's input_state/wheel_state.rs, by value: its questions and what a pass does after the events. `wheel_event` has one event.
 #![tactic(auto)]
+
 ghost use Rattle.std.specs.Prelude.{◌≡◌, true};
 ghost use Rattle.model.specs.Wheel.{wheel_default, is_static, is_in_touch, is_trackpad, is_scrolling, timeout, is_scroll_action_over, end_scroll_action_if};
 ghost use Rattle.model.specs.Wheel.{applied, unapplied, smoothed, end_if_still, after_events, clear_smooth};

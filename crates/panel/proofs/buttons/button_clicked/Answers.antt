@@ -1,5 +1,4 @@
 use Rattle.model.specs.Questions.{ask, reply, shown}
-use borrow.Author.Rules.{rules}
 use Rattle.panel.proofs.buttons.button_clicked.Goals as goal
 
 pub returns : goal.returns

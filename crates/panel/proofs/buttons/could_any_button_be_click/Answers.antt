@@ -1,6 +1,5 @@
 use Rattle.model.specs.Questions.{ask, reply, shown}
 use Rattle.model.specs.Interact.{could_click}
-use borrow.Author.Rules.{rules}
 use Rattle.panel.proofs.buttons.could_any_button_be_click.Goals as goal
 
 pub returns : goal.returns

@@ -1,6 +1,5 @@
 use Rattle.model.specs.Questions.{ask, reply, shown}
 use Rattle.model.specs.Pass.{decidedly_dragging}
-use borrow.Author.Rules.{rules}
 use Rattle.panel.proofs.buttons.is_decidedly_dragging.Goals as goal
 
 pub returns : goal.returns

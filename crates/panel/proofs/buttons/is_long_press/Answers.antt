@@ -1,6 +1,5 @@
 use Rattle.model.specs.Questions.{ask, reply, shown}
 use Rattle.model.specs.Interact.{long_press}
-use borrow.Author.Rules.{rules}
 use Rattle.panel.proofs.buttons.is_long_press.Goals as goal
 
 pub returns : goal.returns

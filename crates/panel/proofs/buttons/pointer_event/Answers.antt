@@ -1,6 +1,5 @@
 use Rattle.panel.proofs.Numbered.{same_event}
 use Rattle.panel.proofs.Listed.{listed}
-use borrow.Author.Rules.{rules}
 use Rattle.panel.proofs.buttons.pointer_event.Goals as goal
 
 pub returns : goal.returns

@@ -1,7 +1,4 @@
-use mathlib.Core.Path.{◌∙◌, ap, sym}
-use lib.ListN.{length}
 use Rattle.panel.proofs.Listed.{listed}
-use borrow.Author.Rules.{rules}
 use Rattle.panel.proofs.buttons.pointer_event_count.Goals as goal
 
 pub returns : goal.returns

@@ -1,7 +1,6 @@
 use Rattle.model.specs.Interact.{interact}
 use Rattle.panel.proofs.Seen.{sees_events}
 use Rattle.panel.proofs.Lookup.{looked_up}
-use borrow.Author.Rules.{rules}
 use Rattle.panel.proofs.interact.interact.Goals as goal
 
 pub returns : goal.returns

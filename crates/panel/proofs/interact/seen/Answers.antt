@@ -3,7 +3,6 @@ use Rattle.model.specs.Pass.{decidedly_dragging}
 use Rattle.model.specs.Interact.{could_click}
 use Rattle.model.specs.Questions.{ask, reply, shown}
 use Rattle.panel.proofs.Seen.{same_bool, sees}
-use borrow.Author.Rules.{rules}
 use Rattle.panel.proofs.interact.seen.Goals as goal
 
 pub returns : goal.returns

@@ -1,4 +1,3 @@
-use borrow.Author.Rules.{rules}
 use Rattle.panel.proofs.state.after_interact.Goals as goal
 
 pub returns-in-Taken : goal.returns-in-Taken

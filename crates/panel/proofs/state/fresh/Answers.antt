@@ -3,7 +3,6 @@ use Rattle.model.specs.Pass.{fresh, no_interaction}
 use Rattle.key_state.proofs.Steps.{cleared}
 use Rattle.id_set.specs.Ids.{option_of}
 use Rattle.interaction_state.specs.View.{interaction_of}
-use borrow.Author.Rules.{rules}
 use Rattle.panel.proofs.state.fresh.Goals as goal
 
 pub returns : goal.returns

@@ -1,6 +1,5 @@
 use Rattle.panel.proofs.Numbered.{same_rotation}
 use Rattle.model.specs.Questions.{ask, reply, shown}
-use borrow.Author.Rules.{rules}
 use Rattle.panel.proofs.zoom.rotation_delta.Goals as goal
 
 pub returns : goal.returns
