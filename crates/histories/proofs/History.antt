@@ -1,7 +1,7 @@
 -- Every history of the code is the model's, and demand 3 holds of it. Assumes nothing.
 use Prim.Native.Nat.{ℕ, ◌≤◌}
 use mathlib.Core.Path.{◌≡◌, refl, sym, ◌∙◌, ap, ap₂, subst, subst₂}
-use mathlib.Core.Bool.{Bool, false}
+use mathlib.Core.Bool.{Bool, false, ◌||◌}
 use mathlib.Core.Option.{Option, none, some}
 use mathlib.Core.List.{List, [], ◌∷◌}
 use native.Mathlib.Omega.{arith}
@@ -13,7 +13,7 @@ use Rattle.model.specs.Pass.{Panel, PassInput, fresh}
 use Rattle.model.specs.Interact.{InteractInput, InteractionSnapshot, with_interaction}
 use Rattle.model.specs.Calls.{Call, passes, interacts, Outcome, passed, answered, OfPass, OfInteract, call, after, run, outcomes}
 use Rattle.theorems.specs.Balance as Model
-use Rattle.theorems.specs.Clearing.{Clears, Takes, Fair, Since, nothing_since, Alike, twice}
+use Rattle.theorems.specs.Clearing.{Clears, Takes, Fair, Since, nothing_since, then_since, is_passed, Alike, twice}
 use Rattle.theorems.specs.Reach.{Reached}
 use Rattle.theorems.proofs.Reach.{reach, runs_keep_count}
 use Rattle.theorems.proofs.Balance.{balance}
@@ -275,7 +275,7 @@ module _ (past : List Call) (c : PassInput) (x : InteractInput) (later : List Ca
 answer_alike : (came : Bool) (since : Since) (p q : Panel) (later : List Call) → Alike came since p q later → AnswerAlike came since p q (outcomes p later) (outcomes q later)
 unfolding outcomes
 answer_alike came since p q [] h = tt
-answer_alike came since p q (c ∷ calls) h = (h.0, answer_alike _ _ (after p (call p c)) (after q (call q c)) calls h.1)
+answer_alike came since p q (c ∷ calls) h = (h.0, answer_alike (is_passed (call p c) || came) (then_since (call p c) since) (after p (call p c)) (after q (call q c)) calls h.1)
 
 pub histories_clear : HistoriesClear
 histories_clear past₁ past₂ later c x one two clears fair =

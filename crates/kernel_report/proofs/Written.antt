@@ -6,7 +6,7 @@ use mathlib.Core.List.{List, [], ◌∷◌, ◌++◌, append_assoc, append-nil}
 use lib.ListN.{length, get_or, set, take, drop, length-take, length-set, length-append, drop_of_length-le}
 use lib.Seq.{drop-cons}
 use Rattle.feed.specs.Types.{Event, TouchPhase, Start, Move, End}
-use Rattle.feed.specs.Encode.{encode, encode_all, join, fields, words_after, id_words, pos_words, force_words}
+use Rattle.feed.specs.Encode.{encode, encode_all, join, words_after, id_words, pos_words, force_words}
 use Rattle.kernel_touch.specs.declared.slots.Finger.{Finger}
 use Rattle.kernel_touch.specs.declared.slots.Slot.{Slot}
 use lib.IntN.{ℤ, pos}

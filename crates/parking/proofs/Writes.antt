@@ -1,10 +1,10 @@
 -- The groups written one behind the other are the image. Assumes nothing.
-use Prim.Native.Nat.{ℕ, suc, ◌+◌, ◌*◌, ◌≤◌}
+use Prim.Native.Nat.{ℕ, ◌+◌, ◌*◌, ◌≤◌}
 use native.Mathlib.Omega.{arith}
-use mathlib.Core.Path.{◌≡◌, refl, sym, ap, ap₂, ◌∙◌}
-use mathlib.Core.List.{List, [], ◌∷◌, ◌++◌, append_assoc, map}
-use lib.ListN.{length, set, take, drop, length-set, length-append, length-map}
-use lib.Seq.{sets, sets-eq, length-sets, take_at, drop_at}
+use mathlib.Core.Path.{◌≡◌, sym, ap, ap₂, ◌∙◌}
+use mathlib.Core.List.{List, ◌∷◌, ◌++◌, append_assoc, map}
+use lib.ListN.{length, set, take, drop, length-append, length-map}
+use lib.Seq.{sets, sets-eq, take_at, drop_at}
 use Rattle.data.specs.Limits.{max_events, max_devices, max_touches, key_count}
 use Rattle.model.specs.Pass.{Panel}
 use Rattle.emath_history.specs.Ring.{count}
@@ -27,7 +27,7 @@ use Rattle.image_screen.specs.Screen.{screen_code}
 use Rattle.image_pointer.specs.Place.{place_code}
 use Rattle.image_pointer.specs.Press.{press_code}
 use Rattle.image_wheel.specs.Wheel.{wheel_code}
-use Rattle.image_keys.specs.Keys.{keys_code, keys_el, NoKeyBeyond}
+use Rattle.image_keys.specs.Keys.{keys_code, NoKeyBeyond}
 use Rattle.image_keys.proofs.Rows.{keys_length}
 use Rattle.image_interaction.specs.Groups.{sums_code, interaction_code, tally_code}
 use Rattle.image_fixed.specs.Fixed.{fixed_code}

@@ -1,5 +1,5 @@
 -- What restoring leaves (02 A.6).
-use Rattle.std.specs.Prelude.{ℕ, ◌*◌, ◌≡◌, true, false, List, eqb, Float, length, get_or, drop}
+use Rattle.std.specs.Prelude.{ℕ, ◌*◌, ◌≡◌, true, false, List, eqb, length, get_or, drop}
 use Rattle.std.proofs.Math.Option.{Option, none, some}
 use Rattle.std.proofs.lemmas.List.Edits.{sets}
 use Rattle.data.specs.Limits.{max_events}

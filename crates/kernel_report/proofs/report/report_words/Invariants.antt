@@ -1,15 +1,9 @@
-use Prim.Native.Nat.{ℕ, suc, ◌+◌, ◌-◌, ◌*◌, ◌<◌, ◌≤◌}
-use mathlib.Core.Path.{◌≡◌, refl, ap}
-use mathlib.Core.List.{List}
-use borrow.Author.Rules.{rules}
-use native.Mathlib.Numerals.{add-one}
-use native.Mathlib.Omega.{arith}
-use lib.ListN.{length, drop, get_or, length-map}
+use Prim.Native.Nat.{ℕ, ◌+◌, ◌-◌, ◌*◌, ◌≤◌}
+use mathlib.Core.Path.{◌≡◌}
+use lib.ListN.{length, drop}
 use Rattle.feed.specs.Encode.{encode_all}
 use Rattle.kernel_values.specs.Value.{max_slots}
-use Rattle.kernel_touch.specs.declared.slots.Slot.{Slot}
 use Rattle.kernel_report.specs.Report.{report}
-use Rattle.kernel_report.proofs.Written.{blank, slot_le, next_length, report_last}
 use Rattle.kernel_report.proofs.report.report_words.Given as goal
 
 -- the words of the slots before i; those from i on are left

@@ -80,7 +80,7 @@ write_touch-next-requires c =
 pub write_touch-requires-in-Replaced : goal.write_touch-requires-in-Replaced
 write_touch-requires-in-Replaced c =
     let at-change = (goal.at.write_touch-requires-in-Replaced c).In-Replaced in
-        let words = words-of-replaced at-change in
+    let words = words-of-replaced at-change in
     let wrote = c.write_touch-next.ensures in
     let places = ap length wrote.1 ∙ length_put _ _ c.args.feed.now in
     omega (arith, c.requires, simp length-append at (ap length words), replaced-length at-change, replaced-length-2 at-change, wrote.0, places)

@@ -1,7 +1,6 @@
 use Rattle.image_words.specs.Leaves.{found}
 use borrow.Author.Tests.{eq-eqb, ne_eqb}
 use mathlib.Core.Path.{sym, ap, ◌∙◌}
-use borrow.Author.Rules.{rules}
 use Rattle.parking.proofs.check.check.Goals as goal
 
 pub returns-then-word_at-ne-FIRST_WORD : goal.returns-then-word_at-ne-FIRST_WORD

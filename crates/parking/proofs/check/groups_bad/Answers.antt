@@ -1,6 +1,5 @@
 use Rattle.image_words.specs.Leaves.{found}
 use Rattle.parking.proofs.Whole.{groups_told}
-use borrow.Author.Rules.{rules}
 use Rattle.parking.proofs.check.groups_bad.Goals as goal
 
 pub returns : goal.returns

@@ -4,7 +4,6 @@ use lib.Seq.{sets}
 use Rattle.input_state.specs.View.{lent}
 use Rattle.panel.specs.View.{shown_by}
 use Rattle.parking.proofs.Writes.{screen_part, pointer_part, wheel_part, sums_part, screen_part_length, pointer_part_length, wheel_part_length, fixed_parts, four_parts}
-use borrow.Author.Rules.{rules}
 use Rattle.parking.proofs.park.fixed_put.Goals as goal
 
 pub returns : goal.returns

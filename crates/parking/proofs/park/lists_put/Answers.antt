@@ -1,9 +1,8 @@
 use native.Mathlib.Omega.{arith}
 use lib.Seq.{length-sets}
-use Prim.Native.Nat.{◌≤◌}
 use mathlib.Core.Path.{◌≡◌, sym, ap, ◌∙◌}
 use mathlib.Core.List.{[]}
-use lib.ListN.{length, length-map}
+use lib.ListN.{length}
 use Rattle.data.specs.Limits.{max_events, max_devices, max_touches}
 use Rattle.emath_history.specs.Ring.{view}
 use Rattle.pointer_events.specs.Events.{events}
@@ -16,7 +15,6 @@ use Rattle.image_devices.specs.Devices.{devices_code, devices_el}
 use Rattle.image_devices.proofs.Back.{in_order_devices}
 use Rattle.parking.specs.Parked.{words_of}
 use Rattle.parking.proofs.Writes.{events_count, events_length, three_lists}
-use borrow.Author.Rules.{rules}
 use Rattle.parking.proofs.park.lists_put.Goals as goal
 
 pub overflow_mul-events : goal.overflow_mul-events

@@ -6,7 +6,6 @@ use Rattle.panel.specs.View.{shown_by}
 use Rattle.image_form.specs.Form.{image, read_image}
 use Rattle.image_form.proofs.Whole.{image_reads_back}
 use Rattle.parking.proofs.Writes.{no_key_beyond, front, behind}
-use borrow.Author.Rules.{rules}
 use Rattle.parking.proofs.park.park.Goals as goal
 
 pub returns-then-out-n : goal.returns-then-out-n

@@ -2,11 +2,10 @@ use native.Mathlib.Omega.{arith}
 use Prim.Native.Nat.{◌+◌, ◌*◌}
 use mathlib.Core.Path.{◌≡◌, ◌∙◌}
 use mathlib.Core.List.{[]}
-use lib.ListN.{length, length-map, length-take}
+use lib.ListN.{length, length-take}
 use Rattle.image_history.proofs.Fill.{is_count}
 use Rattle.parking.specs.Parked.{words_of}
 use Rattle.parking.proofs.Writes.{image_length}
-use borrow.Author.Rules.{rules}
 use Rattle.parking.proofs.park.words_of.Goals as goal
 
 pub overflow_mul-result : goal.overflow_mul-result

@@ -1,5 +1,4 @@
 use Rattle.parking.proofs.Whole.{all_sound, keys_sound, and_presses}
-use borrow.Author.Rules.{rules}
 use Rattle.parking.proofs.restore.input_at.Goals as goal
 
 pub keys_at-keys-requires : goal.keys_at-keys-requires

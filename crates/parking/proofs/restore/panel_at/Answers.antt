@@ -5,7 +5,6 @@ use Rattle.image.specs.Places.{bad_at, value_at}
 use Rattle.image_devices.specs.Devices.{devices_code, devices_of}
 use Prim.Native.Nat.{ℕ}
 use Rattle.parking.proofs.Whole.{all_sound, devices_place_is, state_is, panel_held}
-use borrow.Author.Rules.{rules}
 use Rattle.parking.proofs.restore.panel_at.Goals as goal
 
 pub devices_at-devices-requires : goal.devices_at-devices-requires

@@ -2,7 +2,6 @@ use mathlib.Core.Path.{refl, subst}
 use Rattle.parking.specs.declared.check.ImageRefusal.{ImageRefusal}
 use Rattle.parking.specs.Restored.{Checked}
 use Rattle.parking.proofs.Whole.{image_sound, is_taken, is_no_image, is_wrong}
-use borrow.Author.Rules.{rules}
 use Rattle.parking.proofs.restore.restore.Goals as goal
 
 pub panel_at-read-requires : goal.panel_at-read-requires
