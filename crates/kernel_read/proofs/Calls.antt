@@ -2,7 +2,7 @@
 use Prim.Native.Nat.{ℕ, ◌%◌}
 use native.Mathlib.Omega.{arith}
 use mathlib.Core.Path.{◌≡◌, refl, sym, ap, ◌∙◌}
-use mathlib.Core.Bool.{Bool, true, false, cond, true≢false}
+use mathlib.Core.Bool.{Bool, true, cond, true≢false}
 use mathlib.Core.List.{List, []}
 use borrow.Author.Tests.{eq-eqb, ne_eqb}
 use lib.ListN.{length}
@@ -10,9 +10,7 @@ use Rattle.kernel_record.specs.Records.{record_bytes, held_dropped}
 use Rattle.kernel_touch.specs.declared.slots.KernelTouches.{KernelTouches}
 use Rattle.kernel_touch.specs.declared.answer.KernelRefusal.{KernelRefusal}
 use Rattle.kernel_touch.specs.declared.answer.KernelRefusal.TheVariants.{Length}
-use Rattle.kernel_touch.specs.declared.answer.KernelAnswer.{KernelAnswer}
 use Rattle.kernel_touch.specs.declared.answer.KernelAnswer.TheVariants as answer
-use Rattle.kernel_touch.specs.declared.answer.KernelRead.{KernelRead}
 use Rattle.kernel_read.specs.declared.Looked.{Looked}
 use Rattle.kernel_read.specs.declared.Looked.TheVariants as looks
 use Rattle.kernel_read.specs.declared.Filled.{Filled}

@@ -1,5 +1,6 @@
 // Kernel touch records become words of the feed.
 #![tactic(auto)]
+
 ghost use Rattle.std.specs.Prelude.{◌≡◌, true, cond, [], ℕ, ◌+◌, ◌≤◌, leb, length};
 ghost use Rattle.feed.specs.Encode.{encode_all};
 ghost use Rattle.kernel_record.specs.Records.{held_dropped};

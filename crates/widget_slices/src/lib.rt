@@ -1,5 +1,6 @@
 // The widgets of a layer, as the caller of an insertion keeps them: an array by value, lent to `settle` and taken back.
 #![tactic(auto)]
+
 ghost use Rattle.std.specs.Prelude.{◌≡◌, ◌≤◌};
 ghost use Rattle.widget_append.specs.Append.{settled};
 

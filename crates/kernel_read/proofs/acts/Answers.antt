@@ -1,5 +1,4 @@
 use Rattle.kernel_read.specs.Read.{acts}
-use borrow.Author.Rules.{rules}
 use Rattle.kernel_read.proofs.acts.Goals as goal
 
 pub returns-then-k : goal.returns-then-k

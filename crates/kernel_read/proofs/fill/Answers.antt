@@ -1,12 +1,10 @@
-use Prim.Native.Nat.{ℕ, ◌-◌, ◌≤◌}
-use mathlib.Core.Path.{◌≡◌, refl, sym, ap, ◌∙◌}
-use borrow.Author.Rules.{rules}
+use mathlib.Core.Path.{refl, sym, ap, ◌∙◌}
 use native.Mathlib.Numerals.{add-one}
 use native.Mathlib.Omega.{arith}
 use lib.ListN.{length}
 use Rattle.kernel_report.proofs.Written.{length_put}
 use Rattle.kernel_read.specs.Read.{all_records, kernel_of, words_of, feed_of, KernelOutcome}
-use Rattle.kernel_read.proofs.Run.{Fillings, fill_first, going, fill_next, fill_last, filled_feed}
+use Rattle.kernel_read.proofs.Run.{fill_first, going, fill_next, fill_last, filled_feed}
 use Rattle.kernel_read.proofs.fill.Goals as goal
 
 pub loop-i-init : goal.loop-i-init
@@ -34,8 +32,7 @@ loop-i-smaller c = omega arith
 pub loop-i-preserved : goal.loop-i-preserved
 unfolding all_records
 loop-i-preserved c =
-    let now = c.loop-i in
-    (
+    let now = c.loop-i in (
       omega (arith, c.loop-i-test.true),
       ap length c.write_record-at.ensures.1 ∙ length_put _ _ now.feed ∙ now.invariant.1,
       rw (add-one now.i, c.after-kernel.ensures)

@@ -1,12 +1,7 @@
-use Prim.Native.Nat.{ℕ, ◌-◌, ◌≤◌}
-use mathlib.Core.Path.{◌≡◌, refl, sym, ap, ◌∙◌}
-use borrow.Author.Rules.{rules}
-use native.Mathlib.Numerals.{add-one}
-use native.Mathlib.Omega.{arith}
+use Prim.Native.Nat.{◌-◌, ◌≤◌}
+use mathlib.Core.Path.{◌≡◌}
 use lib.ListN.{length}
-use Rattle.kernel_report.proofs.Written.{length_put}
-use Rattle.kernel_read.specs.Read.{all_records, kernel_of, words_of, feed_of, KernelOutcome}
-use Rattle.kernel_read.proofs.Run.{Fillings, fill_first, going, fill_next, fill_last, filled_feed}
+use Rattle.kernel_read.proofs.Run.{Fillings}
 use Rattle.kernel_read.proofs.fill.Given as goal
 
 abbrev pub invariant-loop-i : goal.invariant-loop-i

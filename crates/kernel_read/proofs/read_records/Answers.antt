@@ -1,5 +1,4 @@
 use Rattle.kernel_read.proofs.Calls.{wrong_length, refused_record, will_fit, taken_reads}
-use borrow.Author.Rules.{rules}
 use Rattle.kernel_read.proofs.read_records.Goals as goal
 
 pub returns-then-bytes-ne0 : goal.returns-then-bytes-ne0

@@ -6,7 +6,6 @@ use Rattle.feed.specs.Types.{Event}
 use Rattle.feed.specs.Encode.{encode_all}
 use Rattle.kernel_read.specs.Read.{acts}
 use Rattle.kernel_read.proofs.Run.{report_events, no_words}
-use borrow.Author.Rules.{rules}
 use Rattle.kernel_read.proofs.record_words.Goals as goal
 
 pub returns-then-acts : goal.returns-then-acts

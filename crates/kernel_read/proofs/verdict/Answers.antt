@@ -1,7 +1,6 @@
 use mathlib.Core.Path.{sym, ◌∙◌}
 use borrow.Author.Tests.{le-leb, lt-leb}
 use Rattle.kernel_touch.specs.Step.{unless}
-use borrow.Author.Rules.{rules}
 use Rattle.kernel_read.proofs.verdict.Goals as goal
 
 pub returns-then-words-left : goal.returns-then-words-left

@@ -4,7 +4,6 @@ use native.Mathlib.Omega.{arith}
 use Rattle.kernel_report.specs.Put.{put}
 use Rattle.kernel_read.specs.Read.{acts}
 use Rattle.kernel_read.proofs.Run.{report_events, no_words}
-use borrow.Author.Rules.{rules}
 use Rattle.kernel_read.proofs.write_record.Goals as goal
 
 pub write_report-requires : goal.write_report-requires

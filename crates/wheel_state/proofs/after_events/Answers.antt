@@ -1,5 +1,4 @@
 use Rattle.model.specs.Wheel.{after_events}
-use borrow.Author.Rules.{rules}
 use Rattle.wheel_state.proofs.after_events.Goals as goal
 
 pub returns : goal.returns

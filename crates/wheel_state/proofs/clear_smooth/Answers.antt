@@ -1,5 +1,4 @@
 use Rattle.model.specs.Wheel.{clear_smooth}
-use borrow.Author.Rules.{rules}
 use Rattle.wheel_state.proofs.clear_smooth.Goals as goal
 
 pub returns : goal.returns

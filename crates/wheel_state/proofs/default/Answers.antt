@@ -1,6 +1,5 @@
 use lib.Ieee.{of_bits, neg, div}
 use Rattle.model.specs.Wheel.{wheel_default}
-use borrow.Author.Rules.{rules}
 use Rattle.wheel_state.proofs.default.Goals as goal
 
 pub returns : goal.returns

@@ -1,5 +1,4 @@
 use Rattle.model.specs.Wheel.{end_scroll_action_if}
-use borrow.Author.Rules.{rules}
 use Rattle.wheel_state.proofs.end_if_over.Goals as goal
 
 pub returns-then-is_scroll_action_over : goal.returns-then-is_scroll_action_over

@@ -1,5 +1,4 @@
 use Rattle.model.specs.Wheel.{end_if_still, end_scroll_action_if}
-use borrow.Author.Rules.{rules}
 use Rattle.wheel_state.proofs.end_if_still.Goals as goal
 
 pub returns-then-ne : goal.returns-then-ne

@@ -1,5 +1,4 @@
 use Rattle.model.specs.Wheel.{end_scroll_action_if}
-use borrow.Author.Rules.{rules}
 use Rattle.wheel_state.proofs.end_scroll_action.Goals as goal
 
 pub returns : goal.returns

@@ -1,5 +1,4 @@
 use Rattle.model.specs.Wheel.{is_in_touch}
-use borrow.Author.Rules.{rules}
 use Rattle.wheel_state.proofs.is_in_touch.Goals as goal
 
 pub returns-in-Static : goal.returns-in-Static

@@ -1,5 +1,4 @@
 use Rattle.model.specs.Wheel.{is_scroll_action_over}
-use borrow.Author.Rules.{rules}
 use Rattle.wheel_state.proofs.is_scroll_action_over.Goals as goal
 
 pub returns : goal.returns

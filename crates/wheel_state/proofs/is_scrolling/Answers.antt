@@ -1,5 +1,4 @@
 use Rattle.model.specs.Wheel.{is_scrolling}
-use borrow.Author.Rules.{rules}
 use Rattle.wheel_state.proofs.is_scrolling.Goals as goal
 
 pub returns : goal.returns

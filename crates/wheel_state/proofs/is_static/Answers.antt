@@ -1,5 +1,4 @@
 use Rattle.model.specs.Wheel.{is_static}
-use borrow.Author.Rules.{rules}
 use Rattle.wheel_state.proofs.is_static.Goals as goal
 
 pub returns-in-Static : goal.returns-in-Static

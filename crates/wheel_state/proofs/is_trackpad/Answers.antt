@@ -1,5 +1,4 @@
 use Rattle.model.specs.Wheel.{is_trackpad}
-use borrow.Author.Rules.{rules}
 use Rattle.wheel_state.proofs.is_trackpad.Goals as goal
 
 pub returns-in-Unknown : goal.returns-in-Unknown

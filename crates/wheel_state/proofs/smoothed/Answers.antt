@@ -1,5 +1,4 @@
 use Rattle.model.specs.Wheel.{smoothed, smoothed_if}
-use borrow.Author.Rules.{rules}
 use Rattle.wheel_state.proofs.smoothed.Goals as goal
 
 pub returns-then-ne : goal.returns-then-ne

@@ -1,6 +1,5 @@
 use Rattle.model.specs.Wheel.{timeout, scroll_action_timeout, resting_finger_timeout}
 use lib.Ieee.{of_bits}
-use borrow.Author.Rules.{rules}
 use Rattle.wheel_state.proofs.timeout.Goals as goal
 
 pub returns-then-is_in_touch-is_trackpad : goal.returns-then-is_in_touch-is_trackpad

@@ -1,7 +1,6 @@
 use Rattle.model.specs.Wheel.{unapplied}
 use Rattle.model.specs.Numbers.{one}
 use lib.Ieee.{of_bits}
-use borrow.Author.Rules.{rules}
 use Rattle.wheel_state.proofs.unapplied.Goals as goal
 
 pub returns-then-abs : goal.returns-then-abs
