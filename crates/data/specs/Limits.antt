@@ -1,5 +1,5 @@
 -- 01's limits and "Domain". Ranges compare as IEEE 754 does: -0.0 is in "0 to ..", and no range holds a NaN.
-use Rattle.std.specs.Prelude.{ℕ, Bool, true, false, ◌&&◌, Float}
+use Rattle.std.specs.Prelude.{ℕ, Bool, true, ◌&&◌, Float}
 use Rattle.std.specs.Float.{binary32, binary64}
 use Rattle.std.specs.Float.Ieee.{lt, le, fits, of_bits}
 use Rattle.data.specs.Types.{Pos2, Vec2, Rect, InputOptions, MaybeF32, no_force, some_force}

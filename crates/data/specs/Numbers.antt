@@ -2,7 +2,7 @@
 use Rattle.std.specs.Prelude.{ℕ, List, [], ◌∷◌, Float}
 use Rattle.std.proofs.Math.Option.{Option, none, some}
 use Rattle.data.specs.Kinds.{key_kind, modifiers_kind, moved_kind, motion_kind, button_kind, gone_kind, zoom_kind, rotate_kind, touch_kind, wheel_kind, focus_kind, other_kind}
-use Rattle.data.specs.Types.{Pos2, Click, MaybeClick, no_click, some_click}
+use Rattle.data.specs.Types.{Pos2, Click, no_click, some_click}
 use Rattle.data.specs.Types.{PointerButton, Primary, Secondary, Middle, Extra1, Extra2, TouchPhase, Start, Move, End, Cancel}
 use Rattle.data.specs.Types.{MouseWheelUnit, Point, Line, Page, MouseWheelSource, Unknown, Wheel, Trackpad, Momentum}
 use Rattle.data.specs.Types.{Status, Static, Smoothing, InTouch, PinchType, Horizontal, Vertical, Proportional}

@@ -1,5 +1,6 @@
 // egui's input data as plain values. Each Option is an enum of its own.
 #![tactic(auto)]
+
 pub mod bits;
 pub mod event;
 pub mod kinds;

@@ -1,5 +1,6 @@
 // 01's domain: whether a number given is in it. No NaN is.
 #![tactic(auto)]
+
 mod limits;
 
 ghost use Rattle.std.specs.Prelude.{◌≡◌};

@@ -1,3 +1,4 @@
 // emath's History of positions, in arrays that the caller lends.
 #![tactic(auto)]
+
 pub mod history;

@@ -8,7 +8,7 @@ use lib.IntN.{ℤ, pos}
 use lib.Dec.{T, lt→ltb}
 use lib.Pow.{pow_pos}
 use lib.Ieee.{Float, nan, inf, fin, Format, binary32, binary64, round, sum, add, mul, le, fits, up, down}
-use lib.Ieee.Fits.{mul-fits, down_pos, fits_widens}
+use lib.Ieee.Fits.{mul-fits, down_pos}
 use lib.Ieee.Positive.{positive}
 use lib.Ieee.Scale.{round_same}
 use Rattle.ieee_narrow.specs.Narrow.{narrow}

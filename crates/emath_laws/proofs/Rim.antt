@@ -1,11 +1,11 @@
 -- On which side of a distance a length lies, by squares in f64: within where its square is at most the distance's, beyond where it is at least that of a value beyond. Assumes nothing.
 use mathlib.Core.Path.{◌≡◌, refl, sym, ap, ◌∙◌, subst}
-use Prim.Native.Nat.{ℕ, zero, suc, ◌+◌, ◌*◌, ◌<◌}
+use Prim.Native.Nat.{ℕ, zero, suc, ◌*◌, ◌<◌}
 use native.Mathlib.Nat.{zero-lt-suc, zero-mul}
 use native.Mathlib.Omega.{arith}
 use mathlib.Core.Bool.{Bool, true, false}
-use lib.IntN.{ℤ, pos}
-use lib.Dec.{T, ltb, lt→ltb, ltb→lt}
+use lib.IntN.{ℤ}
+use lib.Dec.{T, lt→ltb, ltb→lt}
 use lib.Ieee.{Float, nan, inf, fin, Format, binary32, binary64, add, mul, le, lt, is_nan, fits, up, down}
 use lib.Ieee.Positive.{positive}
 use Rattle.ieee_narrow.specs.Narrow.{narrow}

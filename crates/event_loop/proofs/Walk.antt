@@ -1,13 +1,13 @@
 -- The walk from event to event. Assumes nothing.
 use mathlib.Core.Path.{◌≡◌, refl, ap, ◌∙◌}
-use mathlib.Core.List.{List, [], ◌∷◌, map}
+use mathlib.Core.List.{List, [], ◌∷◌}
 use Prim.Native.Nat.{ℕ, zero, suc, ◌+◌, ◌-◌, ◌≤◌, ◌<◌}
 use native.Mathlib.Omega.{arith}
-use lib.ListN.{get_or, length, take, drop, length-drop, drop_of_length-le}
+use lib.ListN.{get_or, length, drop, length-drop, drop_of_length-le}
 use lib.Seq.{drop-cons, drop-drop}
 use borrow.Author.Tests.{lt-ltb, le-ltb}
-use Rattle.feed.specs.Types.{Event, Other}
-use Rattle.feed.specs.Split.{kind, low_bits, following, piece_length, Piece, pieces, pieces_from}
+use Rattle.feed.specs.Types.{Other}
+use Rattle.feed.specs.Split.{kind, low_bits, following, piece_length, pieces, pieces_from}
 use Rattle.feed.specs.Shape.{shape_by_kind, shape}
 use Rattle.feed.specs.Decode.{piece_at}
 use Rattle.feed.proofs.Reading.{shape_taken}

@@ -1,5 +1,5 @@
 -- The lists that reading a feed makes: the places of each component's events, so that its loop goes along its own events alone.
-use Rattle.std.specs.Prelude.{◌≡◌, Bool, false, cond, List, [], ◌∷◌, ◌++◌, map, ℕ, zero, suc, ◌+◌, ◌*◌, ◌<◌, eqb, get_or}
+use Rattle.std.specs.Prelude.{◌≡◌, Bool, cond, List, [], ◌∷◌, ◌++◌, map, ℕ, zero, suc, ◌+◌, ◌*◌, ◌<◌, eqb, get_or}
 use Rattle.data.specs.Limits.{max_events}
 use Rattle.data.specs.Numbers.{kind_number}
 use Rattle.feed.specs.Types.{Event}

@@ -1,3 +1,4 @@
 // The events of a feed, each read by its own kind.
 #![tactic(auto)]
+
 pub mod readers;

@@ -1,16 +1,11 @@
 -- 01's example, evaluated on the definitions. Assumes nothing.
-use mathlib.Core.Path.{◌≡◌, refl}
-use mathlib.Core.Bool.{true}
-use mathlib.Core.List.{List, [], ◌∷◌}
-use Prim.Native.Nat.{ℕ}
-use lib.Ieee.{Float, binary32, le, lt, fits, of_bits, to_bits, of_int}
-use lib.IntN.{pos}
+use mathlib.Core.Path.{refl}
+use lib.Ieee.{le, lt, fits, of_bits, to_bits, of_int}
 use Rattle.data.specs.Modifiers.{no_modifiers, modifiers_of, modifiers_number}
 use Rattle.data.specs.Limits.{within32, max_coordinate, min_coordinate, coordinate_ok, pos_ok, event_ok}
-use Rattle.feed.specs.Types.{Event, Button, Primary}
 use Rattle.feed.specs.Split.{following}
 use Rattle.feed.specs.Shape.{clean, field_below, button_of, float_of, pos_of, button_shape, shape_by_kind, shape}
-use Rattle.feed.specs.Decode.{good, decode, check_floats}
+use Rattle.feed.specs.Decode.{decode, check_floats}
 use Rattle.feed.specs.Encode.{float_word, pos_words, fields, words_after, encode}
 use Rattle.feed.specs.Laws.{primary_press, primary_press_words, PrimaryPress}
 

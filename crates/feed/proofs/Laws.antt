@@ -1,13 +1,11 @@
 -- The laws of specs/Laws.antt that need no round trip. Assumes nothing.
-use mathlib.Core.Path.{◌≡◌, refl, sym, ap, ◌∙◌, subst}
-use mathlib.Core.Bool.{Bool, true, false}
+use mathlib.Core.Path.{◌≡◌, refl, sym, ◌∙◌}
 use mathlib.Core.List.{List, [], ◌∷◌, ◌++◌, map}
-use mathlib.Core.Option.{Option, none, some}
+use mathlib.Core.Option.{none, some}
 use Prim.Native.Nat.{ℕ, zero, suc, ◌≤◌}
 use native.Mathlib.Omega.{arith}
-use lib.Dec.{T}
 use lib.ListN.{length}
-use lib.Ieee.{Float, nan, binary32, lt, le, fits, of_bits, nan_bits, is_nan}
+use lib.Ieee.{nan, binary32, lt, le, fits, of_bits, nan_bits}
 use lib.Ieee.Bits.{nan_bits_is, is_true}
 use Rattle.data.specs.Limits.{max_events, within32, zero32, one32, max_coordinate, min_coordinate, max_zoom, max_radians, min_radians, coordinate_ok, zoom_ok, radians_ok, force_ok}
 use Rattle.feed.specs.Types.{Event, PassRefusal, TooManyEvents}

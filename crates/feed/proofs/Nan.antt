@@ -1,8 +1,8 @@
 -- Bit patterns and NaN, for the float that a word is. Assumes nothing.
 use mathlib.Core.Path.{◌≡◌, refl, sym, ◌∙◌, subst}
-use mathlib.Core.Bool.{Bool, true, false, not, true≢false}
+use mathlib.Core.Bool.{true, false, not, true≢false}
 use Prim.Native.Nat.{ℕ, ◌≤◌, ◌<◌, ◌%◌}
-use lib.Dec.{T, ltb}
+use lib.Dec.{T}
 use lib.Ieee.{Float, nan, inf, fin, binary32, div, of_bits, to_bits, nan_bits, is_nan, ne}
 use lib.Ieee.Bits.{nan_bits_is, nan_bits_above}
 use lib.Ieee.Compare.{differs_from_itself, nan_differs}

@@ -1,7 +1,7 @@
 -- `event_at` by the words that follow a place, and the walk from place to place: `items`, one by one. Assumes nothing.
-use mathlib.Core.Path.{◌≡◌, refl, sym, ap, ◌∙◌}
+use mathlib.Core.Path.{◌≡◌, refl, ap, ◌∙◌}
 use mathlib.Core.Bool.{Bool, true, false, cond}
-use mathlib.Core.List.{List, [], ◌∷◌, map}
+use mathlib.Core.List.{List, [], ◌∷◌}
 use Prim.Native.Nat.{ℕ, zero, suc, ◌+◌, ◌-◌, ◌/◌, ◌%◌, ◌≤◌, ◌<◌}
 use native.Mathlib.Omega.{arith}
 use native.Mathlib.Numerals.{add-one}
@@ -10,11 +10,11 @@ use lib.ListN.{get_or, length, take, drop, length-drop, drop_of_length-le}
 use lib.Seq.{take_all, length-take-le, get_or-take, drop-cons, drop-drop}
 use borrow.Author.Tests.{eqb-true, ltb-true, ltb-false, lt-ltb, le-ltb}
 use Rattle.data.specs.Kinds.{key_kind, modifiers_kind, moved_kind, motion_kind, button_kind, gone_kind, zoom_kind, rotate_kind, touch_kind, wheel_kind}
-use Rattle.feed.specs.Types.{MaybeEvent, no_event, some_event, EventAt, Touch, some_force}
+use Rattle.feed.specs.Types.{some_force}
 use Rattle.feed.specs.Types.found as found
-use Rattle.feed.specs.Split.{kind, low_bits, lengths, following, piece_length, Piece, pieces, pieces_from}
-use Rattle.feed.specs.Shape.{clean, float_of, pos_of, id_of, phase_of, force_of, moved_shape, motion_shape, button_shape, zoom_shape, rotate_shape, touch_shape, wheel_shape, shape_by_kind, shape}
-use Rattle.feed.specs.Decode.{decode, check_floats, Item, item_of, items, items_after, piece_at, found_at, event_at}
+use Rattle.feed.specs.Split.{kind, low_bits, lengths, following, piece_length, pieces, pieces_from}
+use Rattle.feed.specs.Shape.{float_of, force_of, touch_shape, shape_by_kind, shape}
+use Rattle.feed.specs.Decode.{decode, check_floats, item_of, items, items_after, piece_at, found_at, event_at}
 use Rattle.feed.proofs.Lengths.{length_least, touch_following}
 
 cond_same : {X : Type 0} {x y u v : X} (b : Bool) → (b ≡ true → x ≡ u) → y ≡ v → cond b x y ≡ cond b u v

@@ -1,5 +1,5 @@
 -- What is encoded is decoded again. Assumes nothing.
-use mathlib.Core.Path.{◌≡◌, refl, sym, ap, ◌∙◌}
+use mathlib.Core.Path.{◌≡◌, refl, ap, ◌∙◌}
 use mathlib.Core.Bool.{Bool, true, false, cond}
 use mathlib.Core.List.{List, [], ◌∷◌}
 use Prim.Native.Nat.{ℕ, ◌+◌, ◌*◌, ◌/◌, ◌%◌, ◌≤◌, ◌<◌}
@@ -7,22 +7,22 @@ use native.Mathlib.Omega.{arith}
 use native.Mathlib.Nat.{mod-eq_of_lt}
 use lib.Dec.{T, eqb, ltb, ltb→lt}
 use lib.ListN.{get_or, length}
-use lib.Ieee.{Float, binary32, fits, of_bits, to_bits}
+use lib.Ieee.{Float, binary32, fits}
 use lib.Ieee.Bits.{of_bits-to_bits, is_true}
 use lib.Ieee.Fits.{and_l, and_r}
 use borrow.Author.Tests.{lt-ltb}
 use Rattle.data.specs.Kinds.{kind_unit, key_kind, modifiers_kind, moved_kind, motion_kind, button_kind, gone_kind, zoom_kind, rotate_kind, touch_kind, wheel_kind, focus_kind, other_kind}
-use Rattle.data.specs.Bits.{bit_number, bit_of}
+use Rattle.data.specs.Bits.{bit_number}
 use Rattle.data.specs.Modifiers.{modifiers_number, modifiers_of}
 use Rattle.data.specs.Numbers.{button_number, phase_number, unit_number, source_number}
 use Rattle.data.specs.Limits.{key_count, within32, coordinate_ok, pos_ok, vec_ok, zoom_ok, radians_ok, force_ok, maybe_force_ok, event_ok}
 use Rattle.feed.specs.Types.{Pos2, Vec2, Modifiers, PointerButton, Primary, Secondary, Middle, Extra1, Extra2, MouseWheelUnit, Point, Line, Page}
 use Rattle.feed.specs.Types.{MouseWheelSource, Unknown, Wheel, Trackpad, Momentum, TouchPhase, Start, Move, End, Cancel, MaybeF32, no_force, some_force}
 use Rattle.feed.specs.Types.{Event, Key, ModifiersChanged, PointerMoved, MouseMoved, Button, PointerGone, Zoom, Rotate, Touch, MouseWheel, WindowFocused, Other}
-use Rattle.feed.specs.Types.{MaybeEvent, no_event, some_event}
+use Rattle.feed.specs.Types.{no_event, some_event}
 use Rattle.feed.specs.Split.{kind, low_bits, lengths, following}
 use Rattle.feed.specs.Shape.{clean, field_below, button_of, phase_of, unit_of, source_of, float_of, pos_of, vec_of, id_of, force_of, key_shape, modifiers_shape, moved_shape, motion_shape, button_shape, zoom_shape, rotate_shape, touch_shape, wheel_shape, focus_shape, shape_by_kind, shape}
-use Rattle.feed.specs.Decode.{good, decode, check_floats}
+use Rattle.feed.specs.Decode.{decode, check_floats}
 use Rattle.feed.specs.Encode.{float_word, pos_words, vec_words, id_words, force_present, force_words, fields, words_after, encode, fields_ok}
 use Rattle.feed.specs.Laws.{DecodeAfterEncode}
 

@@ -1,5 +1,5 @@
 -- The reader's answers as steps of the walk, and what an accepted event is known to be. Assumes nothing.
-use mathlib.Core.Path.{◌≡◌, refl, sym, ap, ◌∙◌, subst}
+use mathlib.Core.Path.{◌≡◌, refl, sym, ◌∙◌, subst}
 use mathlib.Core.Bool.{Bool, true, false, cond}
 use mathlib.Core.List.{List, [], ◌∷◌}
 use mathlib.Core.Option.{none}
@@ -10,11 +10,11 @@ use lib.ListN.{get_or, length}
 use borrow.Author.Tests.{ltb-true, ltb-false}
 use Rattle.data.specs.Kinds.{key_kind, modifiers_kind, moved_kind, motion_kind, button_kind, gone_kind, zoom_kind, rotate_kind, touch_kind, wheel_kind, focus_kind, other_kind}
 use Rattle.data.specs.Limits.{key_count, event_ok}
-use Rattle.feed.specs.Types.{Event, MaybeEvent, no_event, some_event, EventAt}
+use Rattle.feed.specs.Types.{Event, MaybeEvent, no_event, some_event}
 use Rattle.feed.specs.Types.found as found
 use Rattle.feed.specs.Split.{kind, low_bits, following, piece_length}
 use Rattle.feed.specs.Shape.{clean, field_below, key_shape, modifiers_shape, moved_shape, motion_shape, button_shape, zoom_shape, rotate_shape, touch_shape, wheel_shape, focus_shape, shape_by_kind, shape}
-use Rattle.feed.specs.Decode.{Decoded, good, malformed, outside_domain, decode, check_floats, Item, items_after, piece_at, found_at, event_at, found_refusal}
+use Rattle.feed.specs.Decode.{Decoded, good, malformed, outside_domain, decode, check_floats, items_after, piece_at, found_at, event_at, found_refusal}
 use Rattle.feed.specs.Encode.{fields_ok}
 use Rattle.feed.specs.Feed.{then_refusal}
 use Rattle.feed.specs.Laws.{Steps, DecodedInDomain}

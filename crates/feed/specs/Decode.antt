@@ -1,5 +1,5 @@
 -- What stands in a feed: for each piece its first word's index, and the event, or the refusal that its words alone decide.
-use Rattle.std.specs.Prelude.{ℕ, ◌+◌, cond, List, [], ◌∷◌, map, get_or, take, drop}
+use Rattle.std.specs.Prelude.{ℕ, ◌+◌, cond, List, map, get_or, take, drop}
 use Rattle.data.specs.Limits.{event_ok}
 use Rattle.std.proofs.Math.Option.{Option, none, some}
 use Rattle.feed.specs.Types.{Event, MaybeEvent, no_event, some_event, EventAt, PassRefusal, Malformed, OutsideDomain}

@@ -9,9 +9,9 @@ use Rattle.feed.specs.Types.{Event, Button, Primary, TooManyEvents}
 use Rattle.feed.specs.Split.{piece_length}
 use Rattle.feed.specs.Shape.{float_of}
 use Rattle.feed.specs.Types.found as found
-use Rattle.feed.specs.Decode.{Decoded, good, malformed, outside_domain, Item, decode, items, items_after, piece_at, event_at}
+use Rattle.feed.specs.Decode.{good, malformed, outside_domain, Item, decode, items, items_after, piece_at, event_at}
 use Rattle.feed.specs.Encode.{encode, fields_ok}
-use Rattle.feed.specs.Feed.{events_of, first_refusal, feed_refusal}
+use Rattle.feed.specs.Feed.{events_of, feed_refusal}
 
 -- decode after encode is the identity on events of the domain
 abbrev pub DecodeAfterEncode : Type 0

@@ -9,7 +9,7 @@ use Rattle.data.specs.Bits.{bit_of}
 use Rattle.data.specs.Modifiers.{modifiers_of}
 use Rattle.feed.specs.Types.{Pos2, Vec2, PointerButton, Primary, Secondary, Middle, Extra1, Extra2, MouseWheelUnit, Point, Line, Page}
 use Rattle.feed.specs.Types.{MouseWheelSource, Unknown, Wheel, Trackpad, Momentum, TouchPhase, Start, Move, End, Cancel, MaybeF32, no_force, some_force}
-use Rattle.feed.specs.Types.{Event, Key, ModifiersChanged, PointerMoved, MouseMoved, Button, PointerGone, Zoom, Rotate, Touch, MouseWheel, WindowFocused, Other}
+use Rattle.feed.specs.Types.{Key, ModifiersChanged, PointerMoved, MouseMoved, Button, PointerGone, Zoom, Rotate, Touch, MouseWheel, WindowFocused, Other}
 use Rattle.feed.specs.Types.{MaybeEvent, no_event, some_event}
 use Rattle.feed.specs.Split.{kind, low_bits, following}
 

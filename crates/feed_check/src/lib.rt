@@ -1,6 +1,7 @@
 // Whether the words at a place are an event of the domain, and whose list it goes to: what `event_at` answers, without the event.
 // `low` is the first word's low 28 bits, `next` the place after the last word.
 #![tactic(auto)]
+
 ghost use Rattle.std.specs.Prelude.{◌≡◌, true, ◌&&◌, suc, ◌+◌, ◌/◌, ◌%◌, ◌<◌, ltb, get_or, length, drop};
 ghost use Rattle.data.specs.Limits.{coordinate_ok, zoom_ok, radians_ok, pos_ok, maybe_force_ok};
 ghost use Rattle.feed.specs.Split.{kind, low_bits, following};

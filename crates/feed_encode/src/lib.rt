@@ -1,5 +1,6 @@
 // The words of an event.
 #![tactic(auto)]
+
 ghost use Rattle.std.specs.Prelude.{◌≡◌, [], ◌∷◌};
 ghost use Rattle.feed.specs.Types.{Touch};
 ghost use Rattle.feed.specs.Encode.{float_word, encode};

@@ -1,3 +1,4 @@
 // The event that a feed's words say, for each kind.
 #![tactic(auto)]
+
 pub mod shape;

@@ -1,14 +1,14 @@
 -- The model's cases by the number of fingers, as the code tells them apart. Assumes nothing.
-use mathlib.Core.Path.{◌≡◌, refl, ap, ◌∙◌}
+use mathlib.Core.Path.{◌≡◌, refl}
 use mathlib.Core.List.{List, [], ◌∷◌}
-use Prim.Native.Nat.{ℕ, zero, suc, ◌≤◌, ◌<◌}
+use Prim.Native.Nat.{ℕ, ◌≤◌, ◌<◌}
 use native.Mathlib.Omega.{arith}
 use lib.ListN.{length, get_or, take, length-take}
 use lib.Seq.{get_or-take}
 use lib.Ieee.{Float, binary32, sub, mul}
 use Rattle.emath.specs.Vec.{abs, vec_zero, pos_sub}
 use Rattle.model.specs.Numbers.{+0}
-use Rattle.model.specs.Types.{Pos2, ActiveTouch, PinchType, Proportional, DynGestureState, MaybeDynGestureState, no_state, some_state}
+use Rattle.model.specs.Types.{Pos2, ActiveTouch, PinchType, Proportional, DynGestureState, no_state, some_state}
 use Rattle.model.specs.Touch.{classify, classify_by, calc_dynamic_state, averages, center, recip, sum_distance, sum_abs_distance2, sum_force}
 
 -- the pinch of the touches t and u

@@ -1,5 +1,6 @@
 // The averages of the touches, and the gesture that is made of them.
 #![tactic(auto)]
+
 ghost use Rattle.std.specs.Prelude.{◌≡◌, ◌≤◌};
 ghost use Rattle.data.specs.Limits.{max_touches};
 ghost use Rattle.model.specs.Touch.{force_or_zero, recip, calc_dynamic_state, classify, classify_by, update_gesture, forget_previous_if};

@@ -1,5 +1,6 @@
 // The hit lists of an interact: two words an entry, its id and its sense. A lone last word is no entry and is not read.
 #![tactic(auto)]
+
 ghost use Rattle.std.specs.Prelude.{◌≡◌, ◌*◌, ◌&&◌, leb, ltb, drop};
 ghost use Rattle.data.specs.Sense.{interactive};
 ghost use Rattle.model.specs.Interact.{has_hit, is_hit, order, order_of};

@@ -1,5 +1,6 @@
 // What of an interact's input is refused: short buffers, and by entry too many hits, a malformed sense or the id 0.
 #![tactic(auto)]
+
 ghost use Rattle.std.specs.Prelude.{◌≡◌};
 ghost use Rattle.data.specs.Limits.{max_hits};
 ghost use Rattle.data.specs.Sense.{sense_ok};

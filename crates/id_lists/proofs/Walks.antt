@@ -1,15 +1,14 @@
 -- Putting the ids of a hit list into a buffer, an entry at a time. Assumes nothing.
-use Prim.Native.Nat.{ℕ, suc, ◌+◌, ◌*◌, ◌/◌, ◌<◌, ◌≤◌}
-use mathlib.Core.Path.{◌≡◌, refl, sym, ap, ◌∙◌}
+use Prim.Native.Nat.{ℕ, suc, ◌+◌, ◌/◌, ◌<◌, ◌≤◌}
+use mathlib.Core.Path.{◌≡◌}
 use mathlib.Core.Bool.{Bool, true, false, not, ◌&&◌, ◌||◌}
 use mathlib.Core.Option.{Option}
 use mathlib.Core.List.{List, [], ◌∷◌}
 use native.Mathlib.Omega.{arith}
 use lib.Dec.{leb}
-use lib.ListN.{length, get_or, take}
+use lib.ListN.{length, take}
 use Rattle.data.specs.Sense.{senses_click, senses_drag}
 use Rattle.model.specs.Interact.{Hit, insert_id, insert_some, insert_hits, insert_on_top, order}
-use Rattle.hit_lists.specs.Hits.{hits_of, hit_of}
 use Rattle.hit_lists.proofs.Walk.{rest, at, next, done}
 use Rattle.id_set.specs.Ids.{Written}
 use Rattle.id_set.proofs.Insert.{one_more, some_more}

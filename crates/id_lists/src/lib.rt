@@ -1,5 +1,6 @@
 // The two id sets of an interact, hovered and contains_pointer, each written to a lent buffer.
 #![tactic(auto)]
+
 ghost use Rattle.std.specs.Prelude.{◌≡◌, ◌+◌, ◌<◌, ◌≤◌, max, length, take};
 ghost use Rattle.model.specs.Interact.{is_some, hit_id, insert_hits, insert_on_top};
 ghost use Rattle.hit_lists.specs.Hits.{hits_of, hit_of, view};

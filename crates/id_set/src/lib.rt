@@ -1,5 +1,6 @@
 // A set of ids, written to the start of a lent buffer: ascending, without repeats. The places beyond keep their contents.
 #![tactic(auto)]
+
 ghost use Rattle.std.specs.Prelude.{◌≡◌, ◌∷◌, ◌++◌, ◌+◌, ◌<◌, ◌≤◌, length, take, drop};
 ghost use Rattle.model.specs.Interact.{insert_id, insert_some};
 ghost use Rattle.id_set.specs.Ids.{option_of, Written, Place, stands_at};

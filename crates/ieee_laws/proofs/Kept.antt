@@ -6,7 +6,7 @@ use Prim.Native.Nat.{ℕ, zero, suc, ◌+◌, ◌-◌, ◌*◌, ◌/◌, ◌%◌
 use native.Mathlib.Nat.{le_trans, le_of_eq, lt_of_lt_of_le, eq-zero-or-pos, suc-mul, mul-one, mul_assoc, mul_comm, mul-le-mul_right, mul-lt-mul_of_pos_right, mul-pos, pow-succ', le-div_iff_mul-le, div-div-eq-div-mul}
 use native.Mathlib.Omega.{arith}
 use lib.Pow.{pow-add, pow_pos}
-use lib.Ieee.{low, size}
+use lib.Ieee.{size}
 use lib.Ieee.Digits.{size_reaches}
 use lib.Ieee.Fits.{kept-lt, nearest-le}
 use lib.Ieee.Order.{drop, kept}

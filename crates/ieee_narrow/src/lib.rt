@@ -1,5 +1,6 @@
 // An f64 rounded to an f32, as Rust's `as` does it, by way of the bit patterns.
 #![tactic(auto)]
+
 ghost use Rattle.std.specs.Prelude.{◌≡◌, ◌≤◌, ◌<◌, ◌^◌};
 ghost use Rattle.std.specs.Float.{binary32};
 ghost use Rattle.std.specs.Float.Ieee.Nearest.{closest};

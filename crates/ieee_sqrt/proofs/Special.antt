@@ -1,6 +1,6 @@
 -- The root where it is not worked out, by the tests that `sqrt32` and `sqrt64` make: of what is below zero, of the zeros, the infinity and a NaN. For any format. Assumes nothing.
 use mathlib.Core.Path.{◌≡◌, refl, sym, ap, ◌∙◌, subst}
-use Prim.Native.Nat.{ℕ, zero, suc, ◌+◌, ◌-◌, ◌*◌, ◌/◌, ◌%◌, ◌^◌, ◌≤◌, ◌<◌}
+use Prim.Native.Nat.{ℕ, zero, suc, ◌+◌, ◌*◌, ◌/◌, ◌%◌, ◌^◌, ◌≤◌, ◌<◌}
 use native.Mathlib.Nat.{le_trans, le_of_lt, le_antisymm, le_of_eq, lt_of_le_of_lt, lt_of_lt_of_le, zero-lt-suc, mul-pos, mod-eq_of_lt, mod-le}
 use native.Mathlib.Omega.{arith}
 use mathlib.Core.Bool.{Bool, true, false, not, cond}

@@ -1,6 +1,7 @@
 // Square roots, correctly rounded. One code serves both formats: p is how many digits the format
 // keeps, and 2^-low is its least value.
 #![tactic(auto)]
+
 ghost use Rattle.std.specs.Prelude.{◌≡◌, ◌≤◌, ◌<◌, ◌^◌, cond, leb};
 ghost use Rattle.std.specs.Float.{binary32, binary64};
 ghost use Rattle.ieee_sqrt.specs.Sqrt.{isqrt, sqrt};

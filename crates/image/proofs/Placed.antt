@@ -6,12 +6,12 @@ use mathlib.Core.Path.{◌≡◌, refl, sym, ap, ap₂, ◌∙◌, subst}
 use mathlib.Core.Bool.{Bool, true, false, not, cond}
 use mathlib.Core.Option.{Option, none, some}
 use mathlib.Core.List.{List, [], ◌∷◌, ◌++◌}
-use lib.Dec.{T, eqb, ltb, leb, leb→le, ltb→lt, nltb→le, eqb→eq, eqb-suc-zero}
+use lib.Dec.{T, eqb, ltb, leb, leb→le, ltb→lt, nltb→le, eqb-suc-zero}
 use lib.Seq.{drop-cons}
 use lib.ListN.{length, get_or, drop, drop_of_length-le}
-use lib.Ieee.{Float, binary32, binary64, of_bits}
-use Rattle.image.specs.Codes.{Code, word, single, double, id, both, array, maybe, group, table, blank, choice, keyed, ranked, El, size, half, header, single_ok, double_ok, Read, bad, good, then, read_word, read_two, read_zeros, read_option, read_times, read_keyed, count_of, table_ok, read, write, In, Words}
-use Rattle.image.specs.Places.{or_else, word_bad, two_at, two_bad, zeros_bad, rows_bad, rows_at, keys_bad, key_at, span, bad_at, value_at, Fixed, Placed, Told, ReadsByPlaces, Written, WrittenIsThere, SoundIsWritten}
+use lib.Ieee.{binary32, binary64, of_bits}
+use Rattle.image.specs.Codes.{Code, word, single, double, id, both, array, maybe, group, table, blank, choice, keyed, ranked, El, size, header, single_ok, double_ok, Read, bad, good, then, read_word, read_two, read_zeros, read_option, read_times, read_keyed, count_of, table_ok, read, write}
+use Rattle.image.specs.Places.{or_else, word_bad, two_at, two_bad, zeros_bad, rows_bad, rows_at, keys_bad, key_at, span, bad_at, value_at, Fixed, Placed, Told, ReadsByPlaces, WrittenIsThere, SoundIsWritten}
 use Rattle.image.proofs.RoundTrip.{reads_back, is_written}
 use Rattle.image.proofs.Sound.{word_sound}
 

@@ -6,11 +6,11 @@ use mathlib.Core.Path.{◌≡◌, refl, sym, ap, ap₂, ◌∙◌, subst}
 use mathlib.Core.Bool.{Bool, true, false, ◌&&◌, cond}
 use mathlib.Core.Option.{Option, none, some}
 use mathlib.Core.List.{List, [], ◌∷◌, ◌++◌, append_assoc}
-use lib.Dec.{T, eqb, ltb, leb, eqb→eq, eqb_refl, ltb→lt, lt→ltb, leb→le}
+use lib.Dec.{T, eqb, ltb, leb, eqb→eq, eqb_refl, ltb→lt, lt→ltb}
 use lib.ListN.{length}
 use lib.Ieee.{Float, binary32, binary64, of_bits, to_bits, fits}
-use lib.Ieee.Fits.{and_l, and_r}
-use lib.Ieee.Bits.{of_bits-to_bits, to_bits-lt}
+use lib.Ieee.Fits.{and_l}
+use lib.Ieee.Bits.{of_bits-to_bits}
 use Rattle.image.specs.Codes.{Code, word, single, double, id, both, array, maybe, group, table, blank, choice, keyed, ranked, El, size, half, header, zeros, all, option_words, write, entry_words}
 use Rattle.image.specs.Codes.{Read, bad, good, then, read_word, read_two, single_ok, double_ok, read_zeros, read_option, read_times, read_keyed, count_of, table_ok, read, In, Each, Keyed, Words, ReadsBack, IsWritten}
 

@@ -1,21 +1,21 @@
 -- A turn of each loop over the samples.
-use Prim.Native.Nat.{ℕ, zero, suc, ◌+◌, ◌-◌, ◌*◌, ◌≤◌, ◌<◌, min}
+use Prim.Native.Nat.{ℕ, suc, ◌+◌, ◌-◌, ◌*◌, ◌≤◌, ◌<◌}
 use native.Mathlib.Omega.{arith}
 use native.Mathlib.Nat.{min-eq_left}
-use mathlib.Core.Path.{◌≡◌, refl, sym, ap, ap₂, ◌∙◌, subst}
-use mathlib.Core.List.{List, [], ◌∷◌, ◌++◌, map}
+use mathlib.Core.Path.{◌≡◌, refl, sym, ap, ◌∙◌, subst}
+use mathlib.Core.List.{List, [], ◌∷◌, map}
 use lib.Dec.{T, leb, le→leb}
-use lib.ListN.{length, get_or, drop, set, length-map, length-append}
+use lib.ListN.{length, get_or, drop, set, length-map}
 use lib.Seq.{sets, drop-set-lt, drop-drop}
 use lib.Ieee.{Float, nan, binary32, binary64, of_bits}
 use Rattle.emath.specs.History.{Sample, max_len}
 use Rattle.emath_history.specs.declared.history.History.{History}
 use Rattle.emath_history.specs.Ring.{place, samples, sample_at, position_at, view, count}
 use Rattle.emath_history.proofs.Samples.{samples_length, samples_more, samples_place, room}
-use Rattle.image.specs.Codes.{write, all, size, header, In, Each, El}
+use Rattle.image.specs.Codes.{write, all, size, In, Each, El}
 use Rattle.image.specs.Places.{two_at, value_at, rows_at, span}
 use Rattle.image.proofs.Lists.{put_row, all_length, read_row, map-append, each_more}
-use Rattle.image_history.specs.History.{sample_code, sample_el, sample_of, history_code, history_el, history_of, Filled}
+use Rattle.image_history.specs.History.{sample_code, sample_el, history_code, history_el, history_of, Filled}
 
 pub four : (v : Float × (Float × Float)) → length (write sample_code v) ≡ 4
 unfolding write

@@ -1,5 +1,6 @@
 // Group 10 of an image (02 A.6): the history, a list over the ring's lent arrays, the oldest sample first.
 #![tactic(auto)]
+
 ghost use Rattle.std.specs.Prelude.{◌≡◌, ◌+◌, ◌*◌, ◌<◌, ◌≤◌, length, set};
 ghost use Rattle.std.proofs.Math.Option.{none};
 ghost use Rattle.std.proofs.lemmas.List.Edits.{sets};

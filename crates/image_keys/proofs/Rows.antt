@@ -3,10 +3,10 @@ use Prim.Native.Nat.{ℕ, zero, suc, ◌+◌, ◌*◌, ◌%◌, ◌≤◌, ◌<�
 use native.Mathlib.Omega.{arith}
 use mathlib.Core.Path.{◌≡◌, refl, sym, ap, ap₂, subst, ◌∙◌}
 use mathlib.Core.Bool.{Bool, true, false, cond}
-use mathlib.Core.Option.{Option, none, some}
-use mathlib.Core.List.{List, [], ◌∷◌, ◌++◌, append_assoc}
-use lib.Dec.{T, ltb, leb, le→leb}
-use lib.ListN.{length, get_or, take, set, length-append, length-set, get_or-append}
+use mathlib.Core.Option.{none, some}
+use mathlib.Core.List.{List, [], ◌∷◌, ◌++◌}
+use lib.Dec.{ltb, leb, le→leb}
+use lib.ListN.{length, get_or, take, set, length-append, get_or-append}
 use lib.Seq.{sets, take-suc, take-suc-set, get_or_at}
 use borrow.Author.Tests.{leb-true, ltb-true, ltb-false}
 use Rattle.data.specs.Bits.{bit_number}
@@ -15,10 +15,9 @@ use Rattle.data.specs.Modifiers.{modifiers_number}
 use Rattle.model.specs.Pass.{Keys}
 use Rattle.key_state.specs.View.{presses_of, numbers_of}
 use Rattle.key_state.proofs.Steps.{all_numbers}
-use Rattle.image.specs.Codes.{El, In, Each, write, size, all, array}
-use Rattle.image.specs.Places.{or_else, word_bad, span, bad_at, value_at, rows_bad, rows_at}
-use Rattle.image.proofs.Lists.{or_else_none, read_row, rows_length, each_more, sets_at}
-use Rattle.image_options.specs.Options.{flags, boolean}
+use Rattle.image.specs.Codes.{In, Each, write, size, all, array}
+use Rattle.image.specs.Places.{word_bad, span, bad_at, value_at, rows_bad, rows_at}
+use Rattle.image.proofs.Lists.{or_else_none, read_row, each_more, sets_at}
 use Rattle.image_keys.specs.Keys.{down_code, down_el, press_code, max_presses, keys_place, presses_place, keys_code, keys_el, keys_head}
 
 -- a word each

@@ -3,10 +3,9 @@ use Prim.Native.Nat.{ℕ, zero, suc, ◌+◌, ◌*◌, ◌/◌, ◌%◌, ◌^◌
 use native.Mathlib.Omega.{arith}
 use mathlib.Core.Path.{◌≡◌, refl, sym, ap, ◌∙◌}
 use mathlib.Core.Bool.{Bool, true, false, cond}
-use mathlib.Core.List.{List}
 use lib.Dec.{eqb, ltb, leb→le}
-use lib.ListN.{get_or, length}
-use borrow.Author.Tests.{lt-ltb, le-ltb, ltb-true, ltb-false}
+use lib.ListN.{get_or}
+use borrow.Author.Tests.{lt-ltb, ltb-true, ltb-false}
 use Rattle.data.specs.Bits.{bit_number}
 use Rattle.data.specs.Limits.{key_count}
 use Rattle.model.specs.Pass.{Keys}

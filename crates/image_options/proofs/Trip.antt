@@ -1,12 +1,11 @@
 -- The shared fields: what stands for a record gives it back, and every value in range stands for one. Assumes nothing.
-use Prim.Native.Nat.{ℕ, zero, suc, ◌+◌, ◌*◌, ◌/◌, ◌%◌, ◌≤◌, ◌<◌}
+use Prim.Native.Nat.{ℕ, zero, suc, ◌+◌, ◌*◌, ◌/◌, ◌%◌, ◌≤◌}
 use native.Mathlib.Omega.{arith}
-use mathlib.Core.Path.{◌≡◌, refl, subst, sym}
+use mathlib.Core.Path.{◌≡◌, refl}
 use mathlib.Core.Bool.{Bool, true, false}
-use mathlib.Core.Option.{Option, none, some}
+use mathlib.Core.Option.{none, some}
 use lib.Dec.{T, eqb, leb→le, le→leb, ltb→lt}
-use borrow.Author.Tests.{eq-eqb, ne_eqb}
-use Rattle.data.specs.Bits.{bit_number, bit_of}
+use Rattle.data.specs.Bits.{bit_number}
 use Rattle.data.specs.Modifiers.{modifiers_number, modifiers_of}
 use Rattle.feed.proofs.RoundTrip.{modifiers_lt, modifiers_back}
 use Rattle.model.specs.Types.{Modifiers, MaybePos2, no_pos, some_pos, MaybeVec2, no_vec, some_vec, MaybeF64, no_time, some_time}

@@ -1,6 +1,6 @@
 -- Fields that several groups share: the code of each, the value that stands for a record, and back.
-use Rattle.std.specs.Prelude.{ℕ, ◌<◌, Bool, eqb, Float}
-use Rattle.std.proofs.Math.Option.{Option, none, some}
+use Rattle.std.specs.Prelude.{ℕ, ◌<◌, Bool, eqb}
+use Rattle.std.proofs.Math.Option.{none, some}
 use Rattle.model.specs.Types.{Pos2, Vec2, MaybePos2, no_pos, some_pos, MaybeVec2, no_vec, some_vec, MaybeF64, no_time, some_time}
 use Rattle.image.specs.Codes.{Code, word, single, double, id, both, maybe, El}
 use Rattle.image_words.specs.Leaves.{flag, upto, any, any_id}

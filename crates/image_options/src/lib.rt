@@ -1,5 +1,6 @@
 // Fields that several groups of an image (02 A.6) share: positions and vectors, and values that may be absent.
 #![tactic(auto)]
+
 ghost use Rattle.std.specs.Prelude.{◌≡◌, suc};
 ghost use Rattle.image.specs.Codes.{Code, maybe, size, write, In};
 ghost use Rattle.image.specs.Places.{bad_at, value_at};

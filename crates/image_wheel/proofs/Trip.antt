@@ -1,8 +1,8 @@
 -- Group 5: the words put together are those of the record; what stands for it gives it back, and every value in range stands for one. Assumes nothing.
-use Prim.Native.Nat.{ℕ, zero, suc, ◌/◌, ◌%◌, ◌≤◌}
+use Prim.Native.Nat.{ℕ, zero, suc, ◌/◌, ◌%◌}
 use native.Mathlib.Omega.{arith}
 use mathlib.Core.Path.{◌≡◌, refl}
-use mathlib.Core.List.{List, [], ◌∷◌}
+use mathlib.Core.List.{[], ◌∷◌}
 use lib.Dec.{T, leb→le}
 use lib.Ieee.{binary32, binary64, to_bits}
 use Rattle.data.specs.Modifiers.{modifiers_number}

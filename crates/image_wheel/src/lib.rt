@@ -1,5 +1,6 @@
 // Group 5 of an image (02 A.6), the wheel: written, checked, read.
 #![tactic(auto)]
+
 ghost use Rattle.std.specs.Prelude.{◌≡◌};
 ghost use Rattle.image.specs.Codes.{write, In};
 ghost use Rattle.image.specs.Places.{bad_at, value_at};

@@ -1,6 +1,7 @@
 // One field of an image (02 A.6) checked or read, words written. A field is named by the place of its first word.
 // Checking and reading ask nothing of the place, and a word that is missing reads as 0.
 #![tactic(auto)]
+
 ghost use Rattle.std.specs.Prelude.{◌≡◌, Bool, ℕ, ◌+◌, ◌*◌, ◌/◌, ◌%◌, ◌≤◌, ◌<◌, T, eqb, Float, length, get_or};
 ghost use Rattle.std.specs.Float.{binary32, binary64};
 ghost use Rattle.std.specs.Float.Ieee.{of_bits, to_bits, fits};

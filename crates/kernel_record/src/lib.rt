@@ -1,5 +1,6 @@
 // The records of a run of bytes.
 #![tactic(auto)]
+
 ghost use Rattle.std.specs.Prelude.{◌≡◌, ◌+◌, ◌<◌, ◌≤◌, length};
 ghost use Rattle.kernel_record.specs.Records.{half, word, report_record, touch_record, record_of, record_at, record_bytes, is_end, is_dropped};
 

@@ -1,5 +1,5 @@
 -- What one record refuses, and what it does.
-use Rattle.std.specs.Prelude.{Bool, true, false, cond, ℤ}
+use Rattle.std.specs.Prelude.{Bool, true, false, cond}
 use Rattle.kernel_values.specs.Value.{slot_ok, position_ok, tracking_id_ok}
 use Rattle.kernel_record.specs.declared.KernelRecord.{KernelRecord}
 use Rattle.kernel_record.specs.declared.KernelRecord.TheVariants.{MtSlot, MtPositionX, MtPositionY, MtTrackingId, ReportEnd, Dropped, Other}

@@ -1,5 +1,5 @@
 -- Two's complement: what the machine reads back. Assumes nothing.
-use Rattle.std.proofs.Common.{◌≡◌, ℕ, zero, suc, ◌+◌, ◌-◌, ◌<◌, Bool, true, false, cond, T, eqb, ltb, ℤ, pos, negsuc, ◌-ℤ◌, nat_abs, sym, refl, ap, ◌∙◌, subst, true≢false, arith, eqb→eq, w32, Fits, SFits, to_z, of_z, le-ltb, lt-ltb, eq-eqb, ne_eqb, le-leb}
+use Rattle.std.proofs.Common.{◌≡◌, ℕ, zero, suc, ◌+◌, ◌-◌, ◌<◌, Bool, true, false, cond, T, eqb, ℤ, pos, negsuc, ◌-ℤ◌, nat_abs, sym, refl, ap, ◌∙◌, subst, true≢false, arith, eqb→eq, w32, Fits, SFits, to_z, of_z, le-ltb, lt-ltb, eq-eqb, ne_eqb, le-leb}
 use lib.Signed.{lt_z, le_z, non_neg}
 use mir.Val.{sel}
 use Rattle.kernel_values.specs.Value.{same_number}

@@ -1,5 +1,6 @@
 // The values of kernel records.
 #![tactic(auto)]
+
 ghost use Rattle.std.specs.Prelude.{◌≡◌, unsigned_abs};
 ghost use Rattle.std.specs.Float.Ieee.{of_int};
 ghost use Rattle.std.specs.Float.{binary32};

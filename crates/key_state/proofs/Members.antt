@@ -1,18 +1,17 @@
 -- The bits of a word after one of them is set, and with them the members of a set. Assumes nothing.
-use mathlib.Core.Path.{◌≡◌, refl, sym, ap, ◌∙◌}
+use mathlib.Core.Path.{◌≡◌, refl, ap, ◌∙◌}
 use mathlib.Core.Bool.{Bool, true, false, cond}
 use mathlib.Core.List.{List, [], ◌∷◌}
 use Prim.Native.Nat.{ℕ, zero, suc, ◌+◌, ◌-◌, ◌*◌, ◌/◌, ◌%◌, ◌^◌, ◌≤◌, ◌<◌}
 use native.Mathlib.Omega.{arith}
 use native.Mathlib.Nat.{pow-suc, mod-eq_of_lt, div-div-eq-div-mul}
-use lib.Pow.{pow-lt, pow_pos}
-use lib.Dec.{eqb, ltb}
+use lib.Pow.{pow-lt}
+use lib.Dec.{eqb}
 use lib.ListN.{get_or, set, length, get_or-eq_default}
 use lib.Seq.{get_or-set_same, get_or-set_other}
-use borrow.Author.Tests.{eqb-true, eqb-false, eq-eqb, ne_eqb, lt-ltb, le-ltb}
-use Rattle.model.specs.Pass.{set_key}
+use borrow.Author.Tests.{eqb-true, eqb-false, eq-eqb, ne_eqb}
 use Rattle.key_state.specs.declared.bits.Set256.{Set256}
-use Rattle.key_state.specs.Bits.{bit, word_with, has, with_member}
+use Rattle.key_state.specs.Bits.{bit, word_with, has}
 
 pub shifted : (i : ℕ) → i < 64 → 1 * 2 ^ i % 2 ^ 64 ≡ 2 ^ i
 shifted i h =

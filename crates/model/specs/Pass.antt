@@ -1,5 +1,5 @@
 -- A pass (InputState of input_state/mod.rs): refused with all left as before, or taken. Definitions only.
-use Rattle.std.specs.Prelude.{ℕ, zero, suc, ◌+◌, Bool, true, false, not, ◌&&◌, ◌||◌, cond, List, [], ◌∷◌, length, eqb, Float}
+use Rattle.std.specs.Prelude.{ℕ, zero, suc, ◌+◌, Bool, true, false, not, ◌&&◌, cond, List, [], ◌∷◌, length, eqb, Float}
 use Rattle.std.proofs.Math.Option.{Option, none, some}
 use Rattle.std.specs.Float.{binary32, binary64}
 use Rattle.std.specs.Float.Ieee.{add, sub, mul, lt}
@@ -14,7 +14,7 @@ use Rattle.model.specs.Options.{default_options}
 use Rattle.model.specs.Types.{no_pos, no_vec, no_time, MaybeF64, Vec2, Rect, Modifiers, InputOptions, WheelState}
 use Rattle.model.specs.Types.{PassRefusal, Malformed, OutsideDomain, TimeBelow, TooManyEvents, NoPlace}
 use Rattle.model.specs.Types.{Event, Key, ModifiersChanged, PointerMoved, MouseMoved, Button, PointerGone, Zoom, Rotate, Touch, MouseWheel, WindowFocused, Other}
-use Rattle.model.specs.Pointer.{Place, place_pass, Held, ClickPast, Press, press_pass, is_decidedly_dragging, no_buttons, move_time}
+use Rattle.model.specs.Pointer.{Place, place_pass, Press, press_pass, is_decidedly_dragging, no_buttons, move_time}
 use Rattle.model.specs.Touch.{TouchState, no_place, find_device, touch_event, touch_pass}
 use Rattle.model.specs.Wheel.{wheel_default, wheel_pass}
 

@@ -1,6 +1,6 @@
 -- PointerState of input_state/mod.rs, in three records: where the pointer is (`Place`), which buttons are down and what happened in the pass (`Held`),
 -- and what presses and clicks leave behind (`ClickPast`). Definitions only.
-use Rattle.std.specs.Prelude.{ℕ, suc, ◌+◌, ◌-◌, ◌≡◌, Bool, true, false, not, ◌&&◌, ◌||◌, cond, List, [], ◌∷◌, ◌++◌, leb, ltb, eqb, length, Float}
+use Rattle.std.specs.Prelude.{ℕ, suc, ◌+◌, ◌-◌, ◌≡◌, Bool, true, false, not, ◌&&◌, ◌||◌, cond, List, [], ◌∷◌, ◌++◌, leb, ltb, length, Float}
 use Rattle.std.specs.Float.{binary32, binary64}
 use Rattle.std.specs.Float.Ieee.{sub, mul, lt}
 use Rattle.data.specs.Bits.{bit_number}
@@ -10,7 +10,7 @@ use Rattle.emath.specs.History.{Sample, flush, add, duration, velocity}
 use Rattle.model.specs.Numbers.{+0, hundredth}
 use Rattle.model.specs.Types.{Pos2, MaybePos2, no_pos, some_pos, Vec2, MaybeVec2, no_vec, some_vec, Modifiers, InputOptions}
 use Rattle.model.specs.Types.{PointerButton, Primary, Secondary, Middle, Extra1, Extra2, ButtonsDown, MaybeF64, no_time, some_time}
-use Rattle.model.specs.Types.{Click, MaybeClick, no_click, some_click, PointerEvent, Moved, Pressed, Released}
+use Rattle.model.specs.Types.{MaybeClick, no_click, some_click, PointerEvent, Moved, Pressed, Released}
 use Rattle.model.specs.Types.{Event, Key, ModifiersChanged, PointerMoved, MouseMoved, Button, PointerGone, Zoom, Rotate, Touch, MouseWheel, WindowFocused, Other}
 
 -- ---- where the pointer is

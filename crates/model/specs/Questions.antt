@@ -1,7 +1,7 @@
 -- What can be asked of a panel. Definitions only.
 -- No question tells has_moved_too_much_for_a_click, or the last clicks' position and times: they are state.
 use Rattle.std.specs.Prelude.{ℕ, Bool, true, false, not, ◌&&◌, ◌||◌, cond, List, [], ◌∷◌, ltb, eqb, Float}
-use Rattle.std.proofs.Math.Option.{Option, none, some}
+use Rattle.std.proofs.Math.Option.{Option}
 use Rattle.std.specs.Float.{binary32, binary64}
 use Rattle.std.specs.Float.Ieee.{sub, div, lt}
 use Rattle.ieee_narrow.specs.Narrow.{narrow}
@@ -10,7 +10,7 @@ use Rattle.data.specs.Modifiers.{matches_any}
 use Rattle.data.specs.Numbers.{button_number}
 use Rattle.model.specs.Numbers.{+0, one, fifth}
 use Rattle.model.specs.Types.{MaybePos2, no_pos, some_pos, Vec2, MaybeVec2, no_vec, some_vec, Rect, Modifiers, InputOptions, MaybeF64, no_time, some_time}
-use Rattle.model.specs.Types.{MaybeF32, no_number, Some_number, PointerButton, MaybeClick, no_click, some_click, PointerEvent, Moved, Pressed, Released, WheelState}
+use Rattle.model.specs.Types.{MaybeF32, no_number, Some_number, PointerButton, no_click, some_click, PointerEvent, Moved, Pressed, Released, WheelState}
 use Rattle.model.specs.Types.{MouseWheelSource, MaybeMouseWheelSource, no_source, some_source, Rotation, Radians, Headings, MaybeMultiTouchInfo, no_info, some_info}
 use Rattle.model.specs.Pointer.{Place, Held, any, is_press, is_release, is_click}
 use Rattle.model.specs.Pointer as Pointer

@@ -1,6 +1,6 @@
 -- widget_rect.rs, without `infos`: the widget set, and one insertion with the layer's widgets lent in a slice. Definitions only.
 -- The set knows each widget by id with its own record and position, and how many widgets each layer holds; the layers' widgets in painting order stand in the callers' slices.
-use Rattle.std.specs.Prelude.{ℕ, suc, ◌+◌, ◌-◌, Bool, true, false, not, ◌&&◌, ◌||◌, cond, List, [], ◌∷◌, ◌++◌, map, leb, ltb, eqb, length, take, drop, set}
+use Rattle.std.specs.Prelude.{ℕ, suc, ◌+◌, ◌-◌, Bool, true, false, ◌&&◌, ◌||◌, cond, List, [], ◌∷◌, ◌++◌, map, leb, ltb, eqb, length, take, drop, set}
 use Rattle.std.proofs.Math.Option.{Option, none, some}
 use Rattle.data.specs.Limits.{max_widgets, max_layers, max_order, rect_ok}
 use Rattle.data.specs.Sense.{sense_ok, sense_or}

@@ -1,5 +1,6 @@
 // Where the pointer is after a pass's events: its loop along the feed.
 #![tactic(auto)]
+
 ghost use Rattle.std.specs.Prelude.{◌≡◌, [], ◌∷◌};
 ghost use Rattle.model.specs.Pointer.{place_event, place_events, clear_history_after};
 ghost use Rattle.event_loop.specs.Shaped.{shaped_at};

@@ -1,5 +1,6 @@
 // Which buttons are down, what presses and clicks leave behind, and what is judged by them: clicks and drags.
 #![tactic(auto)]
+
 ghost use Rattle.std.specs.Prelude.{◌≡◌, not, ◌||◌, ◌&&◌, List, ℕ, Float};
 ghost use Rattle.std.specs.Float.Ieee.{lt};
 ghost use Rattle.emath.specs.Vec.{length};

@@ -1,11 +1,10 @@
 -- Laws of the events in the lent arrays: an event is read back as it was written, one more, one read, one looked for. Assumes nothing.
-use Prim.Native.Nat.{ℕ, zero, suc, ◌+◌, ◌-◌, ◌*◌, ◌/◌, ◌%◌, ◌≤◌, ◌<◌, min}
-use native.Mathlib.Nat.{min-eq_left, min-eq_right}
+use Prim.Native.Nat.{ℕ, zero, suc, ◌+◌, ◌-◌, ◌*◌, ◌≤◌, ◌<◌}
 use native.Mathlib.Omega.{arith}
-use mathlib.Core.Path.{◌≡◌, refl, sym, ap, ◌∙◌}
-use mathlib.Core.Bool.{Bool, true, false, cond, ◌||◌}
+use mathlib.Core.Path.{◌≡◌, refl, ap, ◌∙◌}
+use mathlib.Core.Bool.{Bool, true, false, cond}
 use mathlib.Core.List.{List, [], ◌∷◌, ◌++◌}
-use lib.Dec.{eqb, ltb}
+use lib.Dec.{ltb}
 use lib.ListN.{length, take, drop, get_or, set, length-append}
 use lib.Seq.{lt-length-set, get_or-set_same, get_or-set_other, take_all, take-append-le, drop-length, drop-append_seam, sets}
 use borrow.Author.Tests.{ltb-true, ltb-false}
@@ -13,7 +12,6 @@ use lib.Ieee.{Float, nan}
 use Rattle.emath_history.specs.Ring.{position_at, set_position}
 use Rattle.data.specs.Limits.{max_events}
 use Rattle.data.specs.Modifiers.{modifiers_number}
-use Rattle.feed.specs.Shape.{button_of}
 use Rattle.feed.proofs.RoundTrip.{button_back, modifiers_back}
 use Rattle.model.specs.Types.{no_click, some_click, PointerEvent, Moved, Pressed, Released}
 use Rattle.model.specs.Pointer.{any}

@@ -1,5 +1,6 @@
 // The pass's pointer events, in order. The caller lends the places for `MAX_EVENTS` of them: specs/Events.antt says what stands where.
 #![tactic(auto)]
+
 ghost use Rattle.std.specs.Prelude.{◌≡◌, List, ◌+◌, ◌*◌, ◌<◌, length, Float};
 ghost use Rattle.emath_history.specs.Ring.{set_position};
 ghost use Rattle.data.specs.Limits.{max_events};

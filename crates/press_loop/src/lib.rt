@@ -1,5 +1,6 @@
 // Buttons, presses and clicks of a pass's events: their loop along the feed.
 #![tactic(auto)]
+
 ghost use Rattle.std.specs.Prelude.{◌≤◌};
 ghost use Rattle.data.specs.Limits.{max_events};
 ghost use Rattle.event_loop.specs.Shaped.{shaped_at};

@@ -1,5 +1,5 @@
 -- A feed that the survey does not refuse: at most `max_events` events, and each is what its shape says. Assumes nothing.
-use mathlib.Core.Path.{◌≡◌, refl, sym, ap, ◌∙◌}
+use mathlib.Core.Path.{◌≡◌, refl, sym}
 use mathlib.Core.Bool.{Bool, true, false, cond}
 use mathlib.Core.List.{List, [], ◌∷◌, map}
 use mathlib.Core.Option.{Option, none, some}
@@ -9,7 +9,7 @@ use lib.ListN.{length}
 use Rattle.feed.specs.Split.{Piece, pieces}
 use Rattle.feed.specs.Decode.{Decoded, good, malformed, outside_domain, item_of, items, decode}
 use Rattle.feed.specs.Feed.{then_events, events_of}
-use Rattle.model.specs.Types.{PassRefusal, Event}
+use Rattle.model.specs.Types.{PassRefusal}
 use Rattle.model.specs.Touch.{TouchState}
 use Rattle.model.specs.Pass.{or_else, crowded, item_refusal}
 use Rattle.event_loop.specs.Shaped.{shaped_piece, shaped_events}

@@ -11,7 +11,7 @@ use Rattle.model.specs.Touch.{TouchState}
 use Rattle.model.specs.Pass.{or_else, crowded, item_refusal}
 use Rattle.touch_state.specs.View.{fits_touch}
 use Rattle.event_loop.specs.Shaped.{shaped_at}
-use Rattle.event_loop.specs.Lists.{touch_list, listed, listed_events, Listed}
+use Rattle.event_loop.specs.Lists.{touch_list, listed, Listed}
 use Rattle.survey.specs.declared.reading.MaybePassRefusal.{MaybePassRefusal}
 use Rattle.survey.specs.declared.reading.MaybePassRefusal.TheVariants.{None as no_refusal, Some as some_refusal}
 use Rattle.survey.specs.declared.reading.Reading.{Reading}

@@ -1,6 +1,5 @@
 -- A touch event by its parts.
 use Rattle.model.specs.Types.{Event, Key, ModifiersChanged, PointerMoved, MouseMoved, Button, PointerGone, Zoom, Rotate, Touch, MouseWheel, WindowFocused, Other}
-use Rattle.touch_crowd.specs.declared.touch.TouchEvent.{TouchEvent}
 use Rattle.touch_crowd.specs.declared.touch.MaybeTouchEvent.{MaybeTouchEvent}
 use Rattle.touch_crowd.specs.declared.touch.MaybeTouchEvent.TheVariants.{None as no_touch, Some as some_touch}
 

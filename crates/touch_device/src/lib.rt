@@ -1,5 +1,6 @@
 // A touch device: egui's TouchState.
 #![tactic(auto)]
+
 ghost use Rattle.std.specs.Prelude.{◌≡◌};
 ghost use Rattle.std.proofs.Math.Option.{some};
 ghost use Rattle.model.specs.Touch.{new_device, is_start, adds_or_removes, no_place, end_device, any_touches_at};

@@ -1,5 +1,6 @@
 // The touches that a device holds, by ascending id in the first `count` places: egui's BTreeMap.
 #![tactic(auto)]
+
 ghost use Rattle.std.specs.Prelude.{◌≡◌, [], length};
 ghost use Rattle.model.specs.Touch.{insert_touch, move_touch, remove_touch, holds, touch_id_of};
 ghost use Rattle.touches.specs.Touches.{list, index, if_room, on_touch_if_room};

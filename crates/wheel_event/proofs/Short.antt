@@ -2,7 +2,7 @@
 use mathlib.Core.Path.{◌≡◌, refl}
 use mathlib.Core.Bool.{Bool, true, false}
 use lib.Dec.{T}
-use lib.Ieee.{Float, binary32, binary64, le, lt, of_bits}
+use lib.Ieee.{Float, binary64, le, lt, of_bits}
 use Rattle.ieee_narrow.specs.Narrow.{narrow}
 use Rattle.ieee_sqrt.specs.Sqrt.{sqrt}
 use Rattle.emath.specs.declared.vec2.Vec2.{Vec2}

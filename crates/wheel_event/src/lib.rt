@@ -1,5 +1,6 @@
 // egui's input_state/wheel_state.rs: one wheel event, by value; `lent` has the wheel behind a `&mut`.
 #![tactic(auto)]
+
 pub mod lent;
 
 ghost use Rattle.std.specs.Prelude.{◌≡◌};

@@ -1,5 +1,6 @@
 // The wheel's part of a pass: its loop along the feed.
 #![tactic(auto)]
+
 ghost use Rattle.std.specs.Prelude.{◌≡◌};
 ghost use Rattle.model.specs.Wheel.{wheel_event, wheel_events, wheel_pass};
 ghost use Rattle.event_loop.specs.Shaped.{shaped_at};

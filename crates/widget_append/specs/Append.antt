@@ -8,7 +8,6 @@ use Rattle.model.specs.Widgets.{move_to_end}
 use Rattle.widget_index.specs.declared.table.WidgetRects.{WidgetRects}
 use Rattle.widget_index.specs.Layout.{stores, parents, layer_ids, links, places, traits, orders, counts, place, count_at, packed}
 use Rattle.widget_index.specs.Table.{layers_of, bucket, head, find_layer}
-use Rattle.widget_append.specs.declared.Inserted.{Inserted}
 use Rattle.widget_append.specs.declared.Inserted.TheVariants.{Refused, Taken}
 use Rattle.widget_append.specs.declared.Decision.{Decision}
 

@@ -1,5 +1,6 @@
 // What an insertion answers, the stores of one record, and the insertion of a new widget. The lent slice is not touched here.
 #![tactic(auto)]
+
 ghost use Rattle.std.specs.Prelude.{◌≡◌, ◌<◌, ◌≤◌};
 ghost use Rattle.widget_append.specs.Append.{Gives, refuse, with_edges, with_traits, number_of, count_of, layers_after, append, insert_new};
 

@@ -1,6 +1,6 @@
 -- Where a number stands in the three lent arrays: `words` (u64), `numbers` (u32) and `edges` (f32).
 -- A slot is a widget's place in the order of first insertion. An entry is a slot plus one, and 0 is no slot.
-use Rattle.std.specs.Prelude.{ℕ, ◌+◌, ◌-◌, ◌*◌, ◌/◌, ◌%◌, Bool, true, false, cond, List, [], ◌∷◌, leb, eqb, Float, get_or, set}
+use Rattle.std.specs.Prelude.{ℕ, ◌+◌, ◌*◌, ◌/◌, ◌%◌, Bool, true, false, cond, List, [], ◌∷◌, leb, eqb, Float, get_or, set}
 use Rattle.std.specs.Float.{nan}
 
 -- stores, one after the other, each an index and what is put there

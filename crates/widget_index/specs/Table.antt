@@ -1,8 +1,5 @@
 -- What the set's arrays hold: the model's widget set, and the index's own way to find an id.
-use Rattle.std.specs.Prelude.{ℕ, zero, suc, ◌+◌, ◌-◌, ◌*◌, ◌/◌, ◌%◌, Bool, true, false, ◌&&◌, cond, List, [], ◌∷◌, ◌++◌, leb, ltb, eqb, Float, get_or}
-use Rattle.std.proofs.Math.Option.{Option, none, some}
-use Rattle.std.specs.Float.{nan}
-use Rattle.emath.specs.declared.pos2.Pos2.{Pos2}
+use Rattle.std.specs.Prelude.{ℕ, zero, suc, ◌+◌, ◌-◌, ◌%◌, Bool, cond, List, [], ◌∷◌, ◌++◌, leb, eqb, Float, get_or}
 use Rattle.emath.specs.declared.rect.Rect.{Rect}
 use Rattle.data.specs.declared.layers.LayerId.{LayerId}
 use Rattle.data.specs.declared.widget.WidgetRect.{WidgetRect}

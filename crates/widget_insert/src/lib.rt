@@ -1,5 +1,6 @@
 // One insertion: what it decides, and the set after it. The lent slice is not touched here.
 #![tactic(auto)]
+
 ghost use Rattle.std.specs.Prelude.{◌≡◌, ◌+◌, ◌-◌, ◌<◌, ◌≤◌};
 ghost use Rattle.model.specs.Widgets.{updated, well_shaped, some_id_zero, edges_ok, record_refusal};
 ghost use Rattle.widget_index.specs.Table.{widgets_of};

@@ -1,4 +1,3 @@
-pub mod Again
 pub mod Agree
 pub mod Append
 pub mod Appended
@@ -11,5 +10,4 @@ pub mod Reach
 pub mod Records
 pub mod Refused
 pub mod Settle
-pub mod Size
 pub mod Update

@@ -96,3 +96,10 @@ unfolding move_to_end
 ends from to w ys less within a order e =
     puts from a ys order (omega arith) w
     ∙ ap (λ (m : ℕ). take from ys ++ (drop (suc from) (take m ys) ++ (w ∷ drop m ys))) (sym (add-one a) ∙ e) ∙ sym (settled_is from to w ys less)
+
+-- one turn, of the list as it is now
+pub turn : (from a : ℕ) (ys zs : List WidgetRect) → from ≤ a → a + 1 < length ys → zs ≡ shifted from a ys → set zs a (get_or zs (a + 1) blank) ≡ shifted from (a + 1) ys
+turn from a ys zs order within e = rw (e, next_is from a ys order (omega arith), add-one) (falls from a ys order (omega arith) (omega arith))
+
+pub last : (from to : ℕ) (w : WidgetRect) (ys zs : List WidgetRect) → from < to → to ≤ length ys → (a : ℕ) → from ≤ a → a + 1 ≡ to → zs ≡ shifted from a ys → set zs a w ≡ settled from to w ys
+last from to w ys zs less within a order e is = rw is (ends from to w ys less within a order e)

@@ -1,5 +1,6 @@
 // Zoom and rotation of egui's input_state/mod.rs: the product of the pass's zoom factors and the sum of its radians.
 #![tactic(auto)]
+
 ghost use Rattle.std.specs.Prelude.{◌≡◌};
 ghost use Rattle.model.specs.Numbers.{+0, one};
 ghost use Rattle.model.specs.Pass.{zoom_event, zoom_of, rotation_event, rotation_of};

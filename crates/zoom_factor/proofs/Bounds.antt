@@ -1,9 +1,9 @@
 -- The sum is at least a third, and its last bound: from the units to the answer's claim.
-use mathlib.Core.Path.{◌≡◌, refl, sym, ap, ◌∙◌, subst}
-use Prim.Native.Nat.{ℕ, zero, suc, ◌+◌, ◌-◌, ◌*◌, ◌/◌, ◌%◌, ◌^◌, ◌≤◌, ◌<◌}
-use native.Mathlib.Nat.{le_trans, le_of_eq, le_of_mul-le-mul_right, mul-le-mul_right, mul-le-mul, mul_comm, mul-pos, pow-suc, pow-zero, zero-lt-suc}
+use mathlib.Core.Path.{◌≡◌, refl, ap, ◌∙◌, subst}
+use Prim.Native.Nat.{ℕ, zero, suc, ◌+◌, ◌-◌, ◌*◌, ◌^◌, ◌≤◌, ◌<◌}
+use native.Mathlib.Nat.{le_trans, le_of_eq, le_of_mul-le-mul_right, mul-le-mul_right, mul-le-mul, mul-pos, pow-suc, pow-zero, zero-lt-suc}
 use native.Mathlib.Omega.{arith}
-use mathlib.Core.Bool.{Bool, true, false, cond}
+use mathlib.Core.Bool.{Bool, true, false}
 use Rattle.zoom_factor.specs.Series.{below_zero, bottom, plus_terms, minus_terms}
 use Rattle.zoom_factor.specs.Answer.{dist}
 use Rattle.zoom_factor.specs.Steps.{Under}

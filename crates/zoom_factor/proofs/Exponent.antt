@@ -1,23 +1,22 @@
 -- An exponent of size at most 1, by its pattern, and the answer's claim put together.
 use mathlib.Core.Path.{◌≡◌, refl, sym, ap, ◌∙◌, subst}
 use Prim.Native.Nat.{ℕ, zero, suc, ◌+◌, ◌-◌, ◌*◌, ◌/◌, ◌%◌, ◌^◌, ◌≤◌, ◌<◌}
-use native.Mathlib.Nat.{le_trans, le_of_eq, lt_of_lt_of_le, le_of_mul-le-mul_right, not-le_of_lt, mul-le-mul_right, mul-le-mul, zero-lt-suc, le_of_suc-le-suc, lt_of_not-le, le-add_right, eq-or-lt_of_le}
+use native.Mathlib.Nat.{le_trans, le_of_eq, le_of_mul-le-mul_right, not-le_of_lt, mul-le-mul_right, mul-le-mul, zero-lt-suc, le_of_suc-le-suc, lt_of_not-le, le-add_right, eq-or-lt_of_le}
 use native.Mathlib.Omega.{arith}
-use mathlib.Core.Bool.{Bool, true, false, not, ◌&&◌, cond}
+use mathlib.Core.Bool.{Bool, true, false, not}
 use mathlib.Core.Logic.{◌⊎◌, inl, inr}
 use lib.Dec.{T, leb, leb→le, nleb→lt}
 use lib.Pow.{pow-add, pow_pos, pow_mono, pow-lt}
 use lib.Ieee.Scale.{finite}
-use lib.Ieee.{Float, nan, inf, fin, binary32, up, down, hid, ones, top, fits, is_nan, le, of_fields, of_bits, to_bits}
+use lib.Ieee.{Float, nan, inf, fin, binary32, hid, fits, is_nan, le, of_fields, of_bits, to_bits}
 use lib.Ieee.Exact.{HasValue}
-use lib.Ieee.Fits.{down_pos}
 use lib.Ieee.Positive.{num, den, den_pos, value→cross, positive_of_value}
 use Rattle.ieee.proofs.Decode.{decode, at_most_infinity}
 use Rattle.ieee.proofs.Fields.{low_value, normal_value}
 use Rattle.ieee_laws.proofs.Order.{le→below, le_numbers}
 use Rattle.zoom_factor.specs.Series.{negative, bottom, plus_terms, minus_terms, numerator, denominator}
-use Rattle.zoom_factor.specs.Answer.{unit_sized, dist, Close}
-use Rattle.zoom_factor.specs.Steps.{Cut, CutPattern, Under, Summed}
+use Rattle.zoom_factor.specs.Answer.{Close}
+use Rattle.zoom_factor.specs.Steps.{Cut, CutPattern, Summed}
 use Rattle.zoom_factor.proofs.Bounds.{bottom_pos, third, close, some_units}
 
 abbrev -1 : Float

@@ -1,13 +1,13 @@
 -- The size of a value in units of 2^-30, cut to a whole number, from the two fields of its pattern.
-use mathlib.Core.Path.{◌≡◌, refl, sym, ap, ◌∙◌, subst}
+use mathlib.Core.Path.{◌≡◌, sym, ap, ◌∙◌, subst}
 use Prim.Native.Nat.{ℕ, zero, suc, ◌+◌, ◌-◌, ◌*◌, ◌/◌, ◌%◌, ◌^◌, ◌≤◌, ◌<◌}
-use native.Mathlib.Nat.{le_trans, le_of_eq, le_of_lt, le_of_mul-le-mul_right, lt_of_lt_of_le, mul-le-mul_right, mul-le-mul, mul_comm, mul-pos, mod-lt, div-add-mod', pow-suc, pow-zero, zero-lt-suc, zero-mul, le-add_left, div-lt_iff_lt-mul, le_of_suc-le-suc, eq-or-lt_of_le, eq_of_mul-eq-mul_right, mul-lt-mul_of_pos_right}
+use native.Mathlib.Nat.{le_trans, le_of_eq, le_of_lt, le_of_mul-le-mul_right, lt_of_lt_of_le, mul-le-mul_right, mul-le-mul, mul-pos, mod-lt, div-add-mod', zero-lt-suc, zero-mul, le-add_left, div-lt_iff_lt-mul, le_of_suc-le-suc, eq-or-lt_of_le, eq_of_mul-eq-mul_right, mul-lt-mul_of_pos_right}
 use native.Mathlib.Omega.{arith}
-use mathlib.Core.Bool.{Bool, true, false, cond, true≢false}
+use mathlib.Core.Bool.{Bool, true, false, true≢false}
 use mathlib.Core.Logic.{◌⊎◌, inl, inr}
 use lib.Pow.{pow-add, pow_pos, pow_mono}
 use lib.IntN.{pos}
-use lib.Ieee.{Float, nan, inf, fin, Format, binary32, prec, emax, low, up, down, hid, ones, of_fields, of_bits, of_int, round, div}
+use lib.Ieee.{Float, nan, inf, fin, binary32, up, down, hid, of_fields, of_bits, of_int, round, div}
 use lib.Ieee.Back.{round_whole}
 use lib.Ieee.Exact.{HasValue, round_exact}
 use lib.Ieee.Fits.{down_pos}

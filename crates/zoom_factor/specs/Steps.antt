@@ -1,5 +1,5 @@
 -- What the private functions of src/ ensure, in units of 2^-30. No reader of the public contract needs it.
-use Rattle.std.specs.Prelude.{ℕ, ◌+◌, ◌*◌, ◌/◌, ◌%◌, ◌^◌, ◌≤◌, ◌<◌, Bool, ◌≡◌}
+use Rattle.std.specs.Prelude.{ℕ, ◌+◌, ◌*◌, ◌/◌, ◌%◌, ◌^◌, ◌≤◌, Bool, ◌≡◌}
 use Rattle.std.specs.Float.{binary32}
 use Rattle.std.specs.Float.Ieee.{hid, of_fields}
 use Rattle.std.specs.Float.Ieee.Positive.{num, den}

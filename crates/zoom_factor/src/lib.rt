@@ -1,6 +1,7 @@
 // A.5: the factor of a zoom exponent, for a host that has no exponential. All but the last step is done in whole numbers,
 // in units of 2^-30.
 #![tactic(auto)]
+
 ghost use Rattle.std.specs.Prelude.{◌≡◌, cond, false, ℕ, ◌+◌, ◌*◌, ◌/◌, ◌^◌, ◌≤◌, ◌<◌};
 ghost use Rattle.std.specs.Float.Ieee.Exact.{HasValue};
 ghost use Rattle.zoom_factor.specs.Answer.{zoom_refusal_number, Answers};

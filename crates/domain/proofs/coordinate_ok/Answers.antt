@@ -1,5 +1,4 @@
 use Rattle.data.specs.Limits.{coordinate_ok, min_coordinate, max_coordinate}
-use borrow.Author.Rules.{rules}
 use Rattle.domain.proofs.coordinate_ok.Goals as goal
 
 pub returns : goal.returns

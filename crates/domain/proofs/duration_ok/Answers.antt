@@ -1,5 +1,4 @@
 use Rattle.data.specs.Limits.{duration_ok, zero64, max_duration}
-use borrow.Author.Rules.{rules}
 use Rattle.domain.proofs.duration_ok.Goals as goal
 
 pub returns : goal.returns

@@ -1,5 +1,4 @@
 use Rattle.data.specs.Limits.{event_ok}
-use borrow.Author.Rules.{rules}
 use Rattle.domain.proofs.event_ok.Goals as goal
 
 pub returns-in-Key : goal.returns-in-Key

@@ -1,5 +1,4 @@
 use Rattle.data.specs.Limits.{force_ok, zero32, one32}
-use borrow.Author.Rules.{rules}
 use Rattle.domain.proofs.force_ok.Goals as goal
 
 pub returns : goal.returns

@@ -1,5 +1,4 @@
 use Rattle.data.specs.Limits.{length_ok, zero32, max_coordinate}
-use borrow.Author.Rules.{rules}
 use Rattle.domain.proofs.length_ok.Goals as goal
 
 pub returns : goal.returns

@@ -1,5 +1,4 @@
 use Rattle.data.specs.Limits.{maybe_force_ok}
-use borrow.Author.Rules.{rules}
 use Rattle.domain.proofs.maybe_force_ok.Goals as goal
 
 pub returns-in-None : goal.returns-in-None

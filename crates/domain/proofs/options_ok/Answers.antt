@@ -1,5 +1,4 @@
 use Rattle.data.specs.Limits.{options_ok}
-use borrow.Author.Rules.{rules}
 use Rattle.domain.proofs.options_ok.Goals as goal
 
 pub returns : goal.returns

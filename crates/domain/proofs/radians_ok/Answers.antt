@@ -1,5 +1,4 @@
 use Rattle.data.specs.Limits.{radians_ok, min_radians, max_radians}
-use borrow.Author.Rules.{rules}
 use Rattle.domain.proofs.radians_ok.Goals as goal
 
 pub returns : goal.returns

@@ -1,5 +1,4 @@
 use Rattle.data.specs.Limits.{rect_ok}
-use borrow.Author.Rules.{rules}
 use Rattle.domain.proofs.rect_ok.Goals as goal
 
 pub returns : goal.returns

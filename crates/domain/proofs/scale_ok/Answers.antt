@@ -1,5 +1,4 @@
 use Rattle.data.specs.Limits.{scale_ok, zero32, max_scale}
-use borrow.Author.Rules.{rules}
 use Rattle.domain.proofs.scale_ok.Goals as goal
 
 pub returns : goal.returns

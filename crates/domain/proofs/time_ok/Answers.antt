@@ -1,5 +1,4 @@
 use Rattle.data.specs.Limits.{time_ok, zero64, max_time}
-use borrow.Author.Rules.{rules}
 use Rattle.domain.proofs.time_ok.Goals as goal
 
 pub returns : goal.returns

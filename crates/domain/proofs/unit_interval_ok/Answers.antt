@@ -1,5 +1,4 @@
 use Rattle.data.specs.Limits.{unit_interval_ok, zero32, one32}
-use borrow.Author.Rules.{rules}
 use Rattle.domain.proofs.unit_interval_ok.Goals as goal
 
 pub returns : goal.returns

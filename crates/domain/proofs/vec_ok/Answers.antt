@@ -1,5 +1,4 @@
 use Rattle.data.specs.Limits.{vec_ok}
-use borrow.Author.Rules.{rules}
 use Rattle.domain.proofs.vec_ok.Goals as goal
 
 pub returns : goal.returns

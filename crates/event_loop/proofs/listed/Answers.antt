@@ -1,7 +1,6 @@
 use Prim.Native.Nat.{ℕ, ◌+◌, ◌*◌}
 use native.Mathlib.Omega.{arith}
 use lib.ListN.{get_or-eq_default}
-use borrow.Author.Rules.{rules}
 use Rattle.data.specs.Limits.{max_events}
 use Rattle.event_loop.proofs.listed.Goals as goal
 

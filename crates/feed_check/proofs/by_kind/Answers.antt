@@ -1,7 +1,6 @@
 use mathlib.Core.Path.{sym, ◌∙◌}
 use native.Mathlib.Omega.{arith}
 use borrow.Author.Tests.{ne_eqb}
-use borrow.Author.Rules.{rules}
 use Rattle.data.specs.Kinds.{moved_kind, motion_kind, button_kind, zoom_kind, rotate_kind, wheel_kind}
 use Rattle.data.specs.Limits.{event_ok, pos_ok, vec_ok, key_count, button_count, unit_count}
 use Rattle.feed.specs.Shape.{pos_of, vec_of, key_shape, modifiers_shape, moved_shape, motion_shape, button_shape, zoom_shape, rotate_shape, touch_shape, wheel_shape, focus_shape, shape_by_kind}

@@ -1,4 +1,3 @@
-use borrow.Author.Rules.{rules}
 use Rattle.data.specs.Limits.{pos_ok}
 use Rattle.feed.specs.Shape.{pos_of}
 use Rattle.feed_check.specs.Verdict.{judged}

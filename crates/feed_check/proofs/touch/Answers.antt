@@ -3,9 +3,6 @@ use Prim.Native.Nat.{◌<◌}
 use native.Mathlib.Nat.{add_assoc}
 use native.Mathlib.Omega.{arith}
 use borrow.Author.Tests.{le-ltb, lt-ltb}
-use borrow.Author.Rules.{rules}
-use Rattle.data.specs.Limits.{maybe_force_ok}
-use Rattle.feed.specs.Shape.{force_of}
 use Rattle.feed_check.specs.Verdict.{judged}
 use Rattle.feed_check.proofs.Judged.{no_force, force_is}
 use Rattle.feed_check.proofs.touch.Goals as goal

@@ -1,7 +1,6 @@
 use Prim.Native.Nat.{◌-◌, ◌≤◌, ◌<◌}
 use lib.ListN.{get_or, length}
 use native.Mathlib.Omega.{arith}
-use borrow.Author.Rules.{rules}
 use Rattle.feed.specs.Split.{following}
 use Rattle.feed.proofs.Reading.{event_at_past, event_at_short, event_at_whole}
 use Rattle.feed_check.specs.Verdict.{verdict_of, verdict_at}

@@ -1,5 +1,4 @@
 use borrow.Author.Tests.{le-ltb, lt-ltb}
-use borrow.Author.Rules.{rules}
 use Rattle.feed_check.specs.Verdict.{judged}
 use Rattle.feed_check.proofs.zoom.Goals as goal
 

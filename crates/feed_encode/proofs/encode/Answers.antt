@@ -3,7 +3,6 @@ use Rattle.feed.specs.Encode.{pos_words}
 use Rattle.feed.specs.Encode.{words_after}
 use Rattle.feed.specs.Encode.{fields}
 use Rattle.feed.specs.Encode.{encode}
-use borrow.Author.Rules.{rules}
 use Rattle.feed_encode.proofs.encode.Goals as goal
 
 pub returns-in-Key : goal.returns-in-Key

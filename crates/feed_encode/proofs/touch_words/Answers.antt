@@ -5,7 +5,6 @@ use Rattle.feed.specs.Encode.{pos_words}
 use Rattle.feed.specs.Encode.{words_after}
 use Rattle.feed.specs.Encode.{fields}
 use Rattle.feed.specs.Encode.{encode}
-use borrow.Author.Rules.{rules}
 use Rattle.feed_encode.proofs.touch_words.Goals as goal
 
 pub returns-in-None : goal.returns-in-None

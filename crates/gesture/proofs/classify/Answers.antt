@@ -1,9 +1,4 @@
-use borrow.Author.Rules.{rules}
-use mathlib.Core.Path.{◌≡◌, ◌∙◌, sym, ap}
-use native.Mathlib.Omega.{arith}
-use lib.ListN.{length, take, length-take, length-map}
-use Prim.Native.Nat.{◌≤◌, ◌<◌}
-use Rattle.model.specs.Touch.{classify}
+use mathlib.Core.Path.{◌∙◌, sym}
 use Rattle.gesture.proofs.Averages.{pinch, two_at, not_two}
 use Rattle.gesture.proofs.classify.Goals as goal
 

@@ -1,6 +1,5 @@
 use Rattle.model.specs.Touch.{force_or_zero}
 use lib.Ieee.{of_bits}
-use borrow.Author.Rules.{rules}
 use Rattle.gesture.proofs.force_or_zero.Goals as goal
 
 pub returns-in-None : goal.returns-in-None

@@ -1,6 +1,5 @@
 use Rattle.model.specs.Touch.{forget_previous_if}
 use Rattle.gesture.specs.Sums.{forgotten}
-use borrow.Author.Rules.{rules}
 use Rattle.gesture.proofs.forget_previous_if.Goals as goal
 
 pub returns-then-forget : goal.returns-then-forget

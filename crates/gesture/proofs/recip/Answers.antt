@@ -1,7 +1,6 @@
 use Rattle.model.specs.Touch.{recip}
 use Rattle.model.specs.Numbers.{one}
 use mathlib.Core.Path.{refl}
-use borrow.Author.Rules.{rules}
 use Rattle.gesture.proofs.recip.Goals as goal
 
 -- src/gesture.rt:88:1

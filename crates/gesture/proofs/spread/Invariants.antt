@@ -1,13 +1,8 @@
-use Prim.Native.Nat.{◌+◌, ◌-◌, ◌≤◌, ◌<◌}
-use mathlib.Core.Path.{◌≡◌, ◌∙◌, refl}
-use borrow.Author.Rules.{rules}
-use native.Mathlib.Omega.{arith}
-use lib.ListN.{length, take, drop, set, length-map, length-set}
-use lib.Ieee.{of_bits}
+use Prim.Native.Nat.{◌-◌, ◌≤◌}
+use mathlib.Core.Path.{◌≡◌}
+use lib.ListN.{length, take, drop}
 use Rattle.data.specs.Limits.{max_touches}
 use Rattle.model.specs.Touch.{sum_distance, sum_abs_distance2}
-use Rattle.touches.proofs.Places.{first_of, first_le}
-use Rattle.gesture.proofs.Turns.{distance_step, away_step, distance_end, away_end}
 use Rattle.gesture.proofs.spread.Given as goal
 
 abbrev pub invariant-loop-i : goal.invariant-loop-i

@@ -1,5 +1,4 @@
 use Rattle.model.specs.Touch.{update_gesture}
-use borrow.Author.Rules.{rules}
 use Rattle.gesture.proofs.start_gesture.Goals as goal
 
 pub returns-in-None : goal.returns-in-None

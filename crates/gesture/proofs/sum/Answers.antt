@@ -1,11 +1,8 @@
-use Prim.Native.Nat.{◌+◌, ◌-◌, ◌≤◌, ◌<◌}
 use mathlib.Core.Path.{◌≡◌, ◌∙◌, refl}
-use borrow.Author.Rules.{rules}
 use native.Mathlib.Omega.{arith}
-use lib.ListN.{length, take, drop, set, length-map, length-set}
+use lib.ListN.{length}
 use lib.Ieee.{of_bits}
 use Rattle.data.specs.Limits.{max_touches}
-use Rattle.model.specs.Touch.{sum_force, sum_pos}
 use Rattle.touches.proofs.Places.{first_of, first_le}
 use Rattle.gesture.proofs.Turns.{force_step, pos_step, force_end, pos_end}
 use Rattle.gesture.proofs.sum.Goals as goal

@@ -1,6 +1,5 @@
 use Rattle.model.specs.Touch.{update_gesture}
 use Rattle.gesture.specs.Sums.{gone_on}
-use borrow.Author.Rules.{rules}
 use Rattle.gesture.proofs.update_gesture.Goals as goal
 
 pub returns-in-None : goal.returns-in-None

@@ -1,11 +1,6 @@
-use Prim.Native.Nat.{◌≤◌, ◌-◌, ◌/◌}
-use mathlib.Core.Path.{◌≡◌, refl, sym, ◌∙◌}
+use mathlib.Core.Path.{refl, sym, ◌∙◌}
 use native.Mathlib.Omega.{arith}
-use lib.ListN.{length}
-use Rattle.model.specs.Interact.{has_hit}
-use Rattle.hit_lists.specs.Hits.{hits_of}
-use Rattle.hit_lists.proofs.Walk.{rest, hit_here, hit_later, no_hit}
-use borrow.Author.Rules.{rules}
+use Rattle.hit_lists.proofs.Walk.{hit_here, hit_later, no_hit}
 use Rattle.hit_lists.proofs.has_hit.Goals as goal
 
 pub loop-i-init : goal.loop-i-init

@@ -1,12 +1,10 @@
 -- The invariant: the entries passed are of other ids.
 use Prim.Native.Nat.{◌≤◌, ◌-◌, ◌/◌}
-use mathlib.Core.Path.{◌≡◌, refl, sym, ◌∙◌}
-use native.Mathlib.Omega.{arith}
+use mathlib.Core.Path.{◌≡◌}
 use lib.ListN.{length}
 use Rattle.model.specs.Interact.{has_hit}
 use Rattle.hit_lists.specs.Hits.{hits_of}
-use Rattle.hit_lists.proofs.Walk.{rest, hit_here, hit_later, no_hit}
-use borrow.Author.Rules.{rules}
+use Rattle.hit_lists.proofs.Walk.{rest}
 use Rattle.hit_lists.proofs.has_hit.Given as goal
 
 abbrev pub invariant-loop-i : goal.invariant-loop-i

@@ -1,6 +1,5 @@
 use borrow.Author.Tests.{lt-ltb, le-ltb}
 use Rattle.hit_lists.specs.Hits.{hit_at}
-use borrow.Author.Rules.{rules}
 use Rattle.hit_lists.proofs.hit_at.Goals as goal
 
 pub returns-then-at-words : goal.returns-then-at-words

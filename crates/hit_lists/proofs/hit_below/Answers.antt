@@ -1,5 +1,4 @@
 use borrow.Author.Tests.{lt-ltb, le-ltb}
-use borrow.Author.Rules.{rules}
 use Rattle.hit_lists.proofs.hit_below.Goals as goal
 
 pub returns-then-at-top : goal.returns-then-at-top

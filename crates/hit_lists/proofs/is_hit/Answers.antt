@@ -1,6 +1,5 @@
 use Rattle.model.specs.Interact.{is_hit}
 use Rattle.hit_lists.specs.Hits.{view}
-use borrow.Author.Rules.{rules}
 use Rattle.hit_lists.proofs.is_hit.Goals as goal
 
 pub returns-in-None : goal.returns-in-None

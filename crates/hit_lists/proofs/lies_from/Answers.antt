@@ -1,11 +1,9 @@
 use Prim.Native.Nat.{◌*◌, ◌≤◌}
 use mathlib.Core.Path.{◌≡◌, sym, ◌∙◌}
 use lib.ListN.{length}
-use lib.Seq.{length-take-le}
 use native.Mathlib.Omega.{arith}
 use borrow.Author.Tests.{le-leb}
 use Rattle.hit_lists.proofs.First.{stands, stands_below, lies_below, too_far, lies}
-use borrow.Author.Rules.{rules}
 use Rattle.hit_lists.proofs.lies_from.Goals as goal
 
 pub returns-then-top-eq0 : goal.returns-then-top-eq0

@@ -1,11 +1,7 @@
-use Prim.Native.Nat.{◌≤◌, ◌-◌, ◌/◌}
-use mathlib.Core.Path.{◌≡◌, refl, sym, ◌∙◌}
+use mathlib.Core.Path.{refl, sym, ◌∙◌}
 use native.Mathlib.Omega.{arith}
-use lib.ListN.{length}
-use Rattle.model.specs.Interact.{order, order_from}
-use Rattle.hit_lists.specs.Hits.{hits_of}
-use Rattle.hit_lists.proofs.Walk.{rest, order_here, order_later, no_order}
-use borrow.Author.Rules.{rules}
+use Rattle.model.specs.Interact.{order}
+use Rattle.hit_lists.proofs.Walk.{order_here, order_later, no_order}
 use Rattle.hit_lists.proofs.order.Goals as goal
 
 pub loop-i-init : goal.loop-i-init

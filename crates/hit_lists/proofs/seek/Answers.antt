@@ -1,10 +1,5 @@
-use Prim.Native.Nat.{◌-◌, ◌/◌}
-use mathlib.Core.Path.{◌≡◌, refl, sym, ◌∙◌}
-use native.Mathlib.Omega.{arith}
-use lib.ListN.{length}
-use Rattle.hit_lists.specs.Hits.{seek_from}
-use Rattle.hit_lists.proofs.Walk.{rest, seek_here, seek_later, no_seek}
-use borrow.Author.Rules.{rules}
+use mathlib.Core.Path.{refl, sym, ◌∙◌}
+use Rattle.hit_lists.proofs.Walk.{seek_here, seek_later, no_seek}
 use Rattle.hit_lists.proofs.seek.Goals as goal
 
 pub loop-at-init : goal.loop-at-init

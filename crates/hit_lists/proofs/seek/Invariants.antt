@@ -1,11 +1,9 @@
 -- The invariant: the entries passed are of other ids.
 use Prim.Native.Nat.{◌-◌, ◌/◌}
-use mathlib.Core.Path.{◌≡◌, refl, sym, ◌∙◌}
-use native.Mathlib.Omega.{arith}
+use mathlib.Core.Path.{◌≡◌}
 use lib.ListN.{length}
 use Rattle.hit_lists.specs.Hits.{seek_from}
-use Rattle.hit_lists.proofs.Walk.{rest, seek_here, seek_later, no_seek}
-use borrow.Author.Rules.{rules}
+use Rattle.hit_lists.proofs.Walk.{rest}
 use Rattle.hit_lists.proofs.seek.Given as goal
 
 abbrev pub invariant-loop-at : goal.invariant-loop-at

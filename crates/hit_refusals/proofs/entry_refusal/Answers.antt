@@ -1,7 +1,6 @@
 use Rattle.model.specs.Interact.{entry_refusal}
 use Rattle.hit_refusals.specs.Refusals.{refusal_of}
-use borrow.Author.Tests.{not-true, not-false, ne_eqb}
-use borrow.Author.Rules.{rules}
+use borrow.Author.Tests.{ne_eqb}
 use Rattle.hit_refusals.proofs.entry_refusal.Goals as goal
 
 pub returns-then-not-sense_ok : goal.returns-then-not-sense_ok

@@ -1,7 +1,6 @@
 use Rattle.model.specs.Interact.{hit_refusal}
 use Rattle.hit_lists.specs.Hits.{view}
 use Rattle.hit_refusals.specs.Refusals.{refusal_of}
-use borrow.Author.Rules.{rules}
 use Rattle.hit_refusals.proofs.hit_refusal.Goals as goal
 
 pub returns-in-None : goal.returns-in-None

@@ -1,14 +1,10 @@
-use Prim.Native.Nat.{◌≤◌, ◌<◌, ◌-◌, ◌/◌}
-use mathlib.Core.Path.{◌≡◌, refl, sym, ◌∙◌}
+use Prim.Native.Nat.{◌<◌}
+use mathlib.Core.Path.{refl, sym, ◌∙◌}
 use native.Mathlib.Omega.{arith}
-use borrow.Author.Rules.{rules}
-use borrow.Author.Tests.{not-true, not-false}
-use lib.ListN.{length}
 use Rattle.data.specs.Limits.{max_hits}
 use Rattle.model.specs.Interact.{hits_refusal}
-use Rattle.hit_lists.specs.Hits.{hits_of}
 use Rattle.hit_refusals.specs.Refusals.{refusal_of}
-use Rattle.hit_lists.proofs.Walk.{rest, done}
+use Rattle.hit_lists.proofs.Walk.{done}
 use Rattle.hit_refusals.proofs.Entries.{too_many, malformed, zero_id, passed}
 use Rattle.hit_refusals.proofs.hits_refusal.Goals as goal
 

@@ -1,16 +1,11 @@
 -- `hit_refusals::hits_refusal` meets its contract. The invariant: the entries passed are refused by nothing, so what the others are refused by is the
-use Prim.Native.Nat.{◌≤◌, ◌<◌, ◌-◌, ◌/◌}
-use mathlib.Core.Path.{◌≡◌, refl, sym, ◌∙◌}
-use native.Mathlib.Omega.{arith}
-use borrow.Author.Rules.{rules}
-use borrow.Author.Tests.{not-true, not-false}
+use Prim.Native.Nat.{◌≤◌, ◌-◌, ◌/◌}
+use mathlib.Core.Path.{◌≡◌}
 use lib.ListN.{length}
 use Rattle.data.specs.Limits.{max_hits}
 use Rattle.model.specs.Interact.{hits_refusal}
 use Rattle.hit_lists.specs.Hits.{hits_of}
-use Rattle.hit_refusals.specs.Refusals.{refusal_of}
-use Rattle.hit_lists.proofs.Walk.{rest, done}
-use Rattle.hit_refusals.proofs.Entries.{too_many, malformed, zero_id, passed}
+use Rattle.hit_lists.proofs.Walk.{rest}
 use Rattle.hit_refusals.proofs.hits_refusal.Given as goal
 
 abbrev pub invariant-loop-i : goal.invariant-loop-i

@@ -1,6 +1,5 @@
 use Rattle.model.specs.Interact.{input_refusal, buffers_refusal}
-use Rattle.hit_refusals.specs.Refusals.{refusal_of, input}
-use borrow.Author.Rules.{rules}
+use Rattle.hit_refusals.specs.Refusals.{input}
 use Rattle.hit_refusals.proofs.input_refusal.Goals as goal
 
 pub returns : goal.returns

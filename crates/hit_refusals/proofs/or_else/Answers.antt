@@ -1,6 +1,5 @@
 use Rattle.model.specs.Pass.{or_else}
 use Rattle.hit_refusals.specs.Refusals.{refusal_of}
-use borrow.Author.Rules.{rules}
 use Rattle.hit_refusals.proofs.or_else.Goals as goal
 
 pub returns-in-None : goal.returns-in-None

@@ -3,7 +3,6 @@ use Rattle.model.specs.Interact.{insert_hits, contains_pointer_of}
 use Rattle.hit_refusals.specs.Refusals.{input}
 use Rattle.id_set.proofs.Written.{then_by}
 use Rattle.id_lists.proofs.Walks.{hits_more, after_two}
-use borrow.Author.Rules.{rules}
 use Rattle.id_lists.proofs.contains_pointer.Goals as goal
 
 pub insert_hits-requires : goal.insert_hits-requires

@@ -1,7 +1,6 @@
 use Rattle.model.specs.Interact.{hit_id}
 use Rattle.hit_lists.specs.Hits.{view}
 use Rattle.id_set.specs.Ids.{option_of}
-use borrow.Author.Rules.{rules}
 use Rattle.id_lists.proofs.hit_id.Goals as goal
 
 pub returns-in-None : goal.returns-in-None

@@ -1,7 +1,5 @@
-use native.Mathlib.Omega.{arith}
 use Rattle.model.specs.Interact.{hovered_of}
 use Rattle.hit_refusals.specs.Refusals.{input}
-use borrow.Author.Rules.{rules}
 use Rattle.id_lists.proofs.hovered.Goals as goal
 
 pub returns-then-is_some : goal.returns-then-is_some

@@ -1,5 +1,4 @@
-use mathlib.Core.Path.{◌≡◌, sym, ◌∙◌, ap}
-use mathlib.Core.List.{[]}
+use mathlib.Core.Path.{◌≡◌}
 use native.Mathlib.Omega.{arith}
 use Rattle.model.specs.Interact.{insert_some, hit_id}
 use Rattle.hit_lists.specs.Hits.{view}
@@ -7,7 +6,6 @@ use Rattle.id_set.specs.Ids.{option_of}
 use Rattle.id_set.proofs.Insert.{some_more}
 use Rattle.id_set.proofs.Written.{then_by}
 use Rattle.id_lists.proofs.Walks.{after_some}
-use borrow.Author.Rules.{rules}
 use Rattle.id_lists.proofs.insert_both.Goals as goal
 
 pub insert_some-requires : goal.insert_some-requires

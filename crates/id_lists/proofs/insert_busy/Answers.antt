@@ -1,12 +1,8 @@
-use mathlib.Core.Path.{sym, ◌∙◌, ap}
-use mathlib.Core.List.{[]}
 use native.Mathlib.Omega.{arith}
 use Rattle.model.specs.Interact.{insert_some}
-use Rattle.id_set.specs.Ids.{option_of}
 use Rattle.id_set.proofs.Insert.{some_more}
 use Rattle.id_set.proofs.Written.{then_by}
 use Rattle.id_lists.proofs.Walks.{after_some, after_two}
-use borrow.Author.Rules.{rules}
 use Rattle.id_lists.proofs.insert_busy.Goals as goal
 
 pub insert_some-s-requires : goal.insert_some-s-requires

@@ -1,14 +1,9 @@
-use Prim.Native.Nat.{◌+◌, ◌≤◌, ◌<◌, ◌-◌, ◌/◌}
-use mathlib.Core.Path.{◌≡◌, refl, sym, ◌∙◌, ap}
+use mathlib.Core.Path.{refl, sym, ◌∙◌}
 use native.Mathlib.Omega.{arith}
-use lib.ListN.{length, take}
-use Rattle.model.specs.Interact.{insert_id, insert_hits}
-use Rattle.hit_lists.specs.Hits.{hits_of}
-use Rattle.hit_lists.proofs.Walk.{rest, entries}
-use Rattle.id_set.specs.Ids.{Written}
+use Rattle.model.specs.Interact.{insert_id}
+use Rattle.hit_lists.proofs.Walk.{entries}
 use Rattle.id_set.proofs.Written.{kept}
 use Rattle.id_lists.proofs.Walks.{id_grows, stepped, step_list, step_bound, hits_next, hits_done}
-use borrow.Author.Rules.{rules}
 use Rattle.id_lists.proofs.insert_hits.Goals as goal
 
 pub loop-i-init : goal.loop-i-init

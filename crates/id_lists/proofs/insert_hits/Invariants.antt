@@ -1,15 +1,11 @@
 -- The invariant: what is written so far, with the ids of the entries to come, is the whole list.
-use Prim.Native.Nat.{◌+◌, ◌≤◌, ◌<◌, ◌-◌, ◌/◌}
-use mathlib.Core.Path.{◌≡◌, refl, sym, ◌∙◌, ap}
-use native.Mathlib.Omega.{arith}
+use Prim.Native.Nat.{◌+◌, ◌≤◌, ◌-◌, ◌/◌}
+use mathlib.Core.Path.{◌≡◌}
 use lib.ListN.{length, take}
-use Rattle.model.specs.Interact.{insert_id, insert_hits}
+use Rattle.model.specs.Interact.{insert_hits}
 use Rattle.hit_lists.specs.Hits.{hits_of}
-use Rattle.hit_lists.proofs.Walk.{rest, entries}
+use Rattle.hit_lists.proofs.Walk.{rest}
 use Rattle.id_set.specs.Ids.{Written}
-use Rattle.id_set.proofs.Written.{kept}
-use Rattle.id_lists.proofs.Walks.{id_grows, stepped, step_list, step_bound, hits_next, hits_done}
-use borrow.Author.Rules.{rules}
 use Rattle.id_lists.proofs.insert_hits.Given as goal
 
 abbrev pub invariant-loop-i : goal.invariant-loop-i

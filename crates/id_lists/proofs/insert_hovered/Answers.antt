@@ -2,7 +2,6 @@ use native.Mathlib.Omega.{arith}
 use Rattle.model.specs.Interact.{insert_on_top}
 use Rattle.id_set.proofs.Written.{then_by}
 use Rattle.id_lists.proofs.Walks.{top_more, after_two}
-use borrow.Author.Rules.{rules}
 use Rattle.id_lists.proofs.insert_hovered.Goals as goal
 
 pub insert_on_top-requires : goal.insert_on_top-requires

@@ -1,6 +1,5 @@
 use native.Mathlib.Omega.{arith}
 use Rattle.id_set.proofs.Written.{kept}
-use borrow.Author.Rules.{rules}
 use Rattle.id_lists.proofs.insert_if.Goals as goal
 
 pub returns-then-keep : goal.returns-then-keep

@@ -1,15 +1,11 @@
-use Prim.Native.Nat.{◌+◌, ◌≤◌, ◌<◌, ◌-◌, ◌*◌, ◌/◌}
-use mathlib.Core.Path.{◌≡◌, refl, sym, ◌∙◌, ap}
+use Prim.Native.Nat.{◌*◌}
+use mathlib.Core.Path.{refl, sym, ◌∙◌}
 use native.Mathlib.Omega.{arith}
-use lib.ListN.{length, get_or, take}
-use Rattle.model.specs.Interact.{insert_on_top}
-use Rattle.hit_lists.specs.Hits.{hits_of}
-use Rattle.hit_lists.proofs.Walk.{rest, entries}
-use Rattle.id_set.specs.Ids.{Written}
-use Rattle.id_lists.specs.Ids.{on_top, insert_if}
+use lib.ListN.{get_or}
+use Rattle.hit_lists.proofs.Walk.{entries}
+use Rattle.id_lists.specs.Ids.{insert_if}
 use Rattle.id_set.proofs.Written.{kept}
 use Rattle.id_lists.proofs.Walks.{if_grows, stepped, step_list, step_bound, top_next, top_done}
-use borrow.Author.Rules.{rules}
 use Rattle.id_lists.proofs.insert_on_top.Goals as goal
 
 pub loop-i-init : goal.loop-i-init

@@ -1,6 +1,5 @@
 use Rattle.model.specs.Interact.{is_some}
 use Rattle.id_set.specs.Ids.{option_of}
-use borrow.Author.Rules.{rules}
 use Rattle.id_lists.proofs.is_some.Goals as goal
 
 pub returns-in-None : goal.returns-in-None

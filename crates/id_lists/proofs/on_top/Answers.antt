@@ -1,7 +1,6 @@
-use mathlib.Core.Path.{◌≡◌, sym, ◌∙◌}
+use mathlib.Core.Path.{sym, ◌∙◌}
 use Rattle.data.specs.Sense.{interactive}
 use Rattle.id_lists.specs.Ids.{on_top}
-use borrow.Author.Rules.{rules}
 use Rattle.id_lists.proofs.on_top.Goals as goal
 
 pub returns-then-interactive : goal.returns-then-interactive

@@ -2,7 +2,6 @@ use mathlib.Core.Path.{sym, ◌∙◌}
 use lib.Seq.{length-take-le}
 use Rattle.id_set.proofs.Written.{found, put}
 use native.Mathlib.Omega.{arith}
-use borrow.Author.Rules.{rules}
 use Rattle.id_set.proofs.insert_id.Goals as goal
 
 pub returns-then-stands_at : goal.returns-then-stands_at

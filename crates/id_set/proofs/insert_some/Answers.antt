@@ -2,7 +2,6 @@ use native.Mathlib.Omega.{arith}
 use Rattle.model.specs.Interact.{insert_some}
 use Rattle.id_set.specs.Ids.{option_of}
 use Rattle.id_set.proofs.Written.{kept}
-use borrow.Author.Rules.{rules}
 use Rattle.id_set.proofs.insert_some.Goals as goal
 
 pub returns-in-None : goal.returns-in-None

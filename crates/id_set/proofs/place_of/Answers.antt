@@ -1,9 +1,6 @@
-use Prim.Native.Nat.{ℕ, ◌≤◌, ◌<◌, ◌-◌}
 use native.Mathlib.Omega.{arith}
 use borrow.Author.Count.{below_more}
-use lib.ListN.{get_or}
 use Rattle.id_set.proofs.Insert.{at_place}
-use borrow.Author.Rules.{rules}
 use Rattle.id_set.proofs.place_of.Goals as goal
 
 pub loop-i-init : goal.loop-i-init

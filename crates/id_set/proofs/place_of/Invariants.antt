@@ -1,10 +1,6 @@
 -- The invariant: the ids passed are below.
 use Prim.Native.Nat.{ℕ, ◌≤◌, ◌<◌, ◌-◌}
-use native.Mathlib.Omega.{arith}
-use borrow.Author.Count.{below_more}
 use lib.ListN.{get_or}
-use Rattle.id_set.proofs.Insert.{at_place}
-use borrow.Author.Rules.{rules}
 use Rattle.id_set.proofs.place_of.Given as goal
 
 abbrev pub invariant-loop-i : goal.invariant-loop-i

@@ -1,9 +1,7 @@
-use Prim.Native.Nat.{◌≤◌, ◌<◌, ◌-◌}
-use mathlib.Core.Path.{◌≡◌, refl, sym, ◌∙◌}
+use mathlib.Core.Path.{◌≡◌, ◌∙◌}
 use native.Mathlib.Omega.{arith}
-use lib.ListN.{length, length-set}
-use Rattle.id_set.proofs.Shift.{Shifted, begun, moved, ended}
-use borrow.Author.Rules.{rules}
+use lib.ListN.{length-set}
+use Rattle.id_set.proofs.Shift.{begun, moved, ended}
 use Rattle.id_set.proofs.shift_in.Goals as goal
 
 pub loop-i-init : goal.loop-i-init

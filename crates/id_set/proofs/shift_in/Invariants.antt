@@ -1,10 +1,7 @@
 -- The invariant: the places before `i` are shifted, and the last of them is carried.
 use Prim.Native.Nat.{◌≤◌, ◌<◌, ◌-◌}
-use mathlib.Core.Path.{◌≡◌, refl, sym, ◌∙◌}
-use native.Mathlib.Omega.{arith}
-use lib.ListN.{length, length-set}
-use Rattle.id_set.proofs.Shift.{Shifted, begun, moved, ended}
-use borrow.Author.Rules.{rules}
+use lib.ListN.{length}
+use Rattle.id_set.proofs.Shift.{Shifted}
 use Rattle.id_set.proofs.shift_in.Given as goal
 
 abbrev pub invariant-loop-i : goal.invariant-loop-i

@@ -1,7 +1,5 @@
 use mathlib.Core.Path.{sym}
-use native.Mathlib.Omega.{arith}
 use Rattle.id_set.proofs.Insert.{there, not_there}
-use borrow.Author.Rules.{rules}
 use Rattle.id_set.proofs.stands_at.Goals as goal
 
 pub returns-then-at-count : goal.returns-then-at-count

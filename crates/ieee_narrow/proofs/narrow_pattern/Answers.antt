@@ -1,6 +1,5 @@
 use Prim.Native.Nat.{◌+◌, ◌%◌, ◌^◌}
 use native.Mathlib.Omega.{arith}
-use borrow.Author.Rules.{rules}
 use Rattle.ieee.proofs.Closest.{closest_le}
 use Rattle.ieee_narrow.proofs.Narrowing.{below, middle, upper, over}
 use Rattle.ieee_narrow.proofs.narrow_pattern.Goals as goal

@@ -2,7 +2,6 @@ use mathlib.Core.Path.{◌≡◌, refl, sym, ap, ◌∙◌, subst}
 use Prim.Native.Nat.{ℕ, zero, suc, ◌+◌, ◌-◌, ◌*◌, ◌/◌, ◌%◌, ◌^◌, ◌≤◌, ◌<◌}
 use native.Mathlib.Nat.{lt_of_lt_of_le, mul_assoc, mul-div_cancel, pow-suc, pow-succ', mod-eq_of_lt}
 use native.Mathlib.Omega.{arith}
-use borrow.Author.Rules.{rules}
 use lib.Dec.{lit≤}
 use lib.Pow.{pow-add, pow_mono, pow_pos, shl_exact, shl_lt}
 use lib.Ieee.{Format, binary32, binary64, prec, emax, low, hid, ones, of_bits}

@@ -1,6 +1,5 @@
 use mathlib.Core.Path.{refl, sym, subst}
 use native.Mathlib.Omega.{arith}
-use borrow.Author.Rules.{rules}
 use lib.Dec.{T}
 use lib.Ieee.{binary32, fits}
 use Rattle.ieee_sqrt.proofs.Special.{negative_root, own_root, above_zero_number, some_bits, infinity_root, rooted_at, rooted_no_nan}

@@ -2,7 +2,6 @@ use Prim.Native.Nat.{◌+◌}
 use mathlib.Core.Path.{◌≡◌}
 use native.Mathlib.Omega.{arith}
 use Rattle.image.specs.Places.{bad_at, span}
-use borrow.Author.Rules.{rules}
 use Rattle.image_gesture.proofs.averages_bad.Goals as goal
 
 pub returns : goal.returns

@@ -1,5 +1,4 @@
 use Rattle.image.specs.Codes.{write}
-use borrow.Author.Rules.{rules}
 use Rattle.image_gesture.proofs.averages_words.Goals as goal
 
 pub returns : goal.returns

@@ -3,7 +3,6 @@ use mathlib.Core.Path.{◌≡◌}
 use native.Mathlib.Omega.{arith}
 use Rattle.image.specs.Codes.{size}
 use Rattle.image.specs.Places.{value_at, span}
-use borrow.Author.Rules.{rules}
 use Rattle.image_gesture.proofs.fields_at.Goals as goal
 
 pub returns : goal.returns

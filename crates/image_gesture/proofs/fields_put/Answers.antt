@@ -4,7 +4,6 @@ use lib.ListN.{length, length-set}
 use lib.Seq.{length-sets}
 use Rattle.image_gesture.specs.Gesture.{averages_el, previous_el, start_el, gesture_el}
 use Rattle.image_gesture.proofs.Parts.{eight, five, put_fields}
-use borrow.Author.Rules.{rules}
 use Rattle.image_gesture.proofs.fields_put.Goals as goal
 
 pub copy-requires : goal.copy-requires

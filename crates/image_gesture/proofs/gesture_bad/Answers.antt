@@ -3,7 +3,6 @@ use native.Mathlib.Numerals.{add-one}
 use Rattle.image.specs.Codes.{size}
 use Rattle.image.specs.Places.{bad_at}
 use Rattle.image_gesture.specs.Gesture.{fields_code}
-use borrow.Author.Rules.{rules}
 use Rattle.image_gesture.proofs.gesture_bad.Goals as goal
 
 pub returns : goal.returns

@@ -1,6 +1,5 @@
 use Rattle.image.specs.Codes.{write, option_words, zeros, size}
 use Rattle.image_gesture.specs.Gesture.{gesture_el}
-use borrow.Author.Rules.{rules}
 use Rattle.image_gesture.proofs.gesture_put.Goals as goal
 
 pub returns-in-None : goal.returns-in-None

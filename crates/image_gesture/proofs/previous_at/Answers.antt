@@ -3,7 +3,6 @@ use native.Mathlib.Numerals.{add-one}
 use borrow.Author.Tests.{eq-eqb, ne_eqb}
 use Rattle.image.specs.Places.{value_at}
 use Rattle.image_gesture.specs.Gesture.{previous_of}
-use borrow.Author.Rules.{rules}
 use Rattle.image_gesture.proofs.previous_at.Goals as goal
 
 pub returns-then-word_at-eq0 : goal.returns-then-word_at-eq0

@@ -6,7 +6,6 @@ use lib.Seq.{length-sets}
 use Rattle.image.specs.Codes.{write, option_words, zeros, size}
 use Rattle.image_gesture.specs.Gesture.{previous_el}
 use Rattle.image_gesture.proofs.Parts.{eight}
-use borrow.Author.Rules.{rules}
 use Rattle.image_gesture.proofs.previous_put.Goals as goal
 
 pub copy-requires : goal.copy-requires

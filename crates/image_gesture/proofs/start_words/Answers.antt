@@ -1,6 +1,5 @@
 use Rattle.image.specs.Codes.{write}
 use Rattle.image_gesture.proofs.Parts.{pinch_in}
-use borrow.Author.Rules.{rules}
 use Rattle.image_gesture.proofs.start_words.Goals as goal
 
 pub returns : goal.returns

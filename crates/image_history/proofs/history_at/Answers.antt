@@ -7,7 +7,6 @@ use native.Mathlib.Numerals.{add-one}
 use mathlib.Core.Path.{sym, ap₂}
 use Prim.Native.Nat.{ℕ}
 use native.Mathlib.Omega.{arith}
-use borrow.Author.Rules.{rules}
 use Rattle.image_history.proofs.history_at.Goals as goal
 
 pub returns : goal.returns

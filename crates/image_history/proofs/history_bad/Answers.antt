@@ -5,7 +5,6 @@ use Rattle.image.proofs.Lists.{or_else_under}
 use native.Mathlib.Numerals.{add-one}
 use mathlib.Core.Path.{ap₂}
 use Prim.Native.Nat.{ℕ}
-use borrow.Author.Rules.{rules}
 use Rattle.image_history.proofs.history_bad.Goals as goal
 
 pub returns : goal.returns

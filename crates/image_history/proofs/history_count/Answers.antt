@@ -2,7 +2,6 @@ use Rattle.image.specs.Places.{bad_at, span}
 use Rattle.image.specs.Codes.{size}
 use Rattle.image.proofs.Lists.{or_else_none}
 use native.Mathlib.Omega.{arith}
-use borrow.Author.Rules.{rules}
 use Rattle.image_history.proofs.history_count.Goals as goal
 
 pub returns : goal.returns

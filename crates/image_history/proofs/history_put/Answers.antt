@@ -4,7 +4,6 @@ use lib.Seq.{length-sets}
 use lib.ListN.{length-set}
 use mathlib.Core.Path.{◌≡◌, ◌∙◌}
 use native.Mathlib.Omega.{arith}
-use borrow.Author.Rules.{rules}
 use Rattle.image_history.proofs.history_put.Goals as goal
 
 pub overflow_mul-out : goal.overflow_mul-out

@@ -2,7 +2,6 @@ use Rattle.image.specs.Places.{bad_at, span}
 use mathlib.Core.Path.{◌≡◌}
 use Prim.Native.Nat.{◌+◌}
 use native.Mathlib.Omega.{arith}
-use borrow.Author.Rules.{rules}
 use Rattle.image_history.proofs.sample_bad.Goals as goal
 
 pub returns : goal.returns

@@ -1,5 +1,4 @@
 use Rattle.image.specs.Codes.{write, size}
-use borrow.Author.Rules.{rules}
 use Rattle.image_history.proofs.sample_words.Goals as goal
 
 pub returns : goal.returns

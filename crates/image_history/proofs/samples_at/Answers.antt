@@ -1,11 +1,11 @@
 use borrow.Author.Rules.{rules}
-use Rattle.image_history.specs.History.{sample_code, history_of}
-use Rattle.image.specs.Places.{value_at, rows_at}
+use Rattle.image_history.specs.History.{history_of}
+use Rattle.image.specs.Places.{rows_at}
 use Rattle.emath_history.specs.Ring.{samples}
 use Rattle.image_history.proofs.Fill.{fill_more, kept_more, kept_two, from_zero}
-use lib.ListN.{length, drop}
+use lib.ListN.{length}
 use mathlib.Core.Path.{◌≡◌, refl, ◌∙◌}
-use Prim.Native.Nat.{◌≤◌, ◌<◌, ◌-◌, ◌*◌, ◌+◌}
+use Prim.Native.Nat.{◌<◌, ◌*◌, ◌+◌}
 use native.Mathlib.Omega.{arith}
 use Rattle.image_history.proofs.samples_at.Goals as goal
 

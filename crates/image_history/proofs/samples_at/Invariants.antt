@@ -1,12 +1,9 @@
-use borrow.Author.Rules.{rules}
 use Rattle.image_history.specs.History.{sample_code, history_of}
 use Rattle.image.specs.Places.{value_at, rows_at}
 use Rattle.emath_history.specs.Ring.{samples}
-use Rattle.image_history.proofs.Fill.{fill_more, kept_more, kept_two, from_zero}
-use lib.ListN.{length, drop}
-use mathlib.Core.Path.{◌≡◌, refl, ◌∙◌}
-use Prim.Native.Nat.{◌≤◌, ◌<◌, ◌-◌, ◌*◌, ◌+◌}
-use native.Mathlib.Omega.{arith}
+use lib.ListN.{drop}
+use mathlib.Core.Path.{◌≡◌}
+use Prim.Native.Nat.{◌≤◌, ◌-◌, ◌*◌}
 use Rattle.image_history.proofs.samples_at.Given as goal
 
 abbrev pub invariant-loop-i : goal.invariant-loop-i

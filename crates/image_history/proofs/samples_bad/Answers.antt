@@ -1,10 +1,8 @@
-use borrow.Author.Rules.{rules}
 use Rattle.image_history.specs.History.{sample_code}
 use Rattle.image_words.specs.Leaves.{found}
-use Rattle.image.specs.Places.{or_else, bad_at, rows_bad}
+use Rattle.image.specs.Places.{or_else, bad_at}
 use Rattle.image.proofs.Lists.{check_row, check_end}
-use mathlib.Core.Path.{◌≡◌, refl, sym, ◌∙◌}
-use Prim.Native.Nat.{◌+◌, ◌*◌}
+use mathlib.Core.Path.{refl, sym, ◌∙◌}
 use native.Mathlib.Omega.{arith}
 use Rattle.image_history.proofs.samples_bad.Goals as goal
 

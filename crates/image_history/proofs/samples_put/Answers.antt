@@ -1,10 +1,6 @@
-use Rattle.image_history.specs.History.{sample_code, history_el}
-use Rattle.emath_history.specs.Ring.{samples}
-use Rattle.image.specs.Codes.{In, Each}
 use Rattle.image_history.proofs.Fill.{each_none, each_sample, four, written, put_none, put_more}
 use lib.ListN.{length}
-use Prim.Native.Nat.{ℕ, ◌≤◌, ◌-◌}
-use borrow.Author.Rules.{rules}
+use Prim.Native.Nat.{ℕ}
 use lib.Seq.{sets, length-sets}
 use mathlib.Core.Path.{◌≡◌, ap, ◌∙◌}
 use native.Mathlib.Omega.{arith}

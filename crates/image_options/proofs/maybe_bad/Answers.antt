@@ -2,7 +2,6 @@ use Rattle.image.specs.Places.{bad_at}
 use borrow.Author.Tests.{eq-eqb, ne_eqb}
 use native.Mathlib.Numerals.{add-one}
 use mathlib.Core.Path.{sym, ◌∙◌}
-use borrow.Author.Rules.{rules}
 use Rattle.image_options.proofs.maybe_bad.Goals as goal
 
 pub returns-then-word_at-eq0 : goal.returns-then-word_at-eq0

@@ -3,7 +3,6 @@ use Rattle.image.specs.Codes.{id, size}
 use Rattle.image_words.specs.Leaves.{any_id}
 use native.Mathlib.Numerals.{add-one}
 use mathlib.Core.Path.{refl}
-use borrow.Author.Rules.{rules}
 use Rattle.image_options.proofs.maybe_id_bad.Goals as goal
 
 pub returns : goal.returns

@@ -1,6 +1,5 @@
 use Rattle.id_set.specs.Ids.{option_of}
 use Rattle.image.specs.Codes.{write, option_words, zeros, size}
-use borrow.Author.Rules.{rules}
 use Rattle.image_options.proofs.maybe_id_words.Goals as goal
 
 pub returns-in-None : goal.returns-in-None

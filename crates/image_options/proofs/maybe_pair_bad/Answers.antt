@@ -4,7 +4,6 @@ use Rattle.image.specs.Codes.{size}
 use native.Mathlib.Omega.{arith}
 use mathlib.Core.Path.{◌≡◌, refl}
 use Prim.Native.Nat.{suc, ◌+◌}
-use borrow.Author.Rules.{rules}
 use Rattle.image_options.proofs.maybe_pair_bad.Goals as goal
 
 pub returns : goal.returns

@@ -1,6 +1,5 @@
 use Rattle.image_options.specs.Options.{maybe_pos_el}
 use Rattle.image.specs.Codes.{write, option_words, zeros, size}
-use borrow.Author.Rules.{rules}
 use Rattle.image_options.proofs.maybe_pos_words.Goals as goal
 
 pub returns-in-None : goal.returns-in-None

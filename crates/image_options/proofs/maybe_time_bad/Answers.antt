@@ -3,7 +3,6 @@ use Rattle.image.specs.Codes.{double, size}
 use Rattle.image_words.specs.Leaves.{any}
 use native.Mathlib.Numerals.{add-one}
 use mathlib.Core.Path.{refl}
-use borrow.Author.Rules.{rules}
 use Rattle.image_options.proofs.maybe_time_bad.Goals as goal
 
 pub returns : goal.returns

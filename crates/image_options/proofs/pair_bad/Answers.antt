@@ -1,5 +1,4 @@
 use Rattle.image.specs.Places.{bad_at, span}
-use borrow.Author.Rules.{rules}
 use Rattle.image_options.proofs.pair_bad.Goals as goal
 
 pub returns : goal.returns

@@ -1,5 +1,4 @@
 use Rattle.image.specs.Places.{value_at, span}
-use borrow.Author.Rules.{rules}
 use Rattle.image_options.proofs.pos_at.Goals as goal
 
 pub returns : goal.returns

@@ -1,6 +1,5 @@
 use Rattle.image.specs.Places.{value_at, span}
 use Rattle.image.specs.Codes.{size}
-use borrow.Author.Rules.{rules}
 use Rattle.image_wheel.proofs.wheel_at.Goals as goal
 
 pub returns : goal.returns

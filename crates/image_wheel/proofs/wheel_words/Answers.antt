@@ -1,6 +1,5 @@
 use Rattle.image_wheel.proofs.Trip.{wheel_list, status_in, source_in}
 use Rattle.image_options.proofs.Trip.{modifiers_in}
-use borrow.Author.Rules.{rules}
 use Rattle.image_wheel.proofs.wheel_words.Goals as goal
 
 pub returns : goal.returns

@@ -1,9 +1,7 @@
 use Rattle.image_words.proofs.Laws.{sets_more}
 use lib.Seq.{sets, length-sets, take_all}
-use lib.ListN.{length, take}
-use mathlib.Core.Path.{◌≡◌, refl, ap, ◌∙◌}
+use mathlib.Core.Path.{refl, ap, ◌∙◌}
 use native.Mathlib.Omega.{arith}
-use Prim.Native.Nat.{◌≤◌, ◌-◌}
 use Rattle.image_words.proofs.copy.Goals as goal
 
 pub loop-i-init : goal.loop-i-init

@@ -1,8 +1,6 @@
-use Rattle.image_words.proofs.Laws.{sets_more}
-use lib.Seq.{sets, length-sets, take_all}
+use lib.Seq.{sets}
 use lib.ListN.{length, take}
-use mathlib.Core.Path.{◌≡◌, refl, ap, ◌∙◌}
-use native.Mathlib.Omega.{arith}
+use mathlib.Core.Path.{◌≡◌}
 use Prim.Native.Nat.{◌≤◌, ◌-◌}
 use Rattle.image_words.proofs.copy.Given as goal
 

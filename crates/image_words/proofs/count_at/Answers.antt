@@ -3,7 +3,6 @@ use Rattle.image_words.specs.Leaves.{upto}
 use Rattle.image_words.proofs.Laws.{passed}
 use borrow.Author.Tests.{leb-true}
 use native.Mathlib.Omega.{arith}
-use borrow.Author.Rules.{rules}
 use Rattle.image_words.proofs.count_at.Goals as goal
 
 pub returns : goal.returns

@@ -1,6 +1,5 @@
 use Rattle.image_words.proofs.Laws.{count_over, count_is}
 use native.Mathlib.Omega.{arith}
-use borrow.Author.Rules.{rules}
 use Rattle.image_words.proofs.count_of.Goals as goal
 
 pub returns-then-v-base : goal.returns-then-v-base

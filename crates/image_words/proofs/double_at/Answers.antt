@@ -1,4 +1,3 @@
-use borrow.Author.Rules.{rules}
 use Rattle.image_words.proofs.double_at.Goals as goal
 
 pub returns : goal.returns

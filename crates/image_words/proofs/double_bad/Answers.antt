@@ -1,6 +1,5 @@
 use Rattle.image_words.specs.Leaves.{any}
 use Rattle.image.specs.Codes.{double_ok}
-use borrow.Author.Rules.{rules}
 use Rattle.image_words.proofs.double_bad.Goals as goal
 
 pub returns : goal.returns

@@ -1,8 +1,5 @@
-use Rattle.image_words.specs.Leaves.{any}
 use Rattle.image_words.proofs.Laws.{double_both}
 use Rattle.image.specs.Codes.{double_ok}
-use mathlib.Core.Path.{◌∙◌, ap₂}
-use borrow.Author.Rules.{rules}
 use Rattle.image_words.proofs.double_in_bad.Goals as goal
 
 pub returns : goal.returns

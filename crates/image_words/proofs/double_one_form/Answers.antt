@@ -1,6 +1,5 @@
 use Rattle.image.specs.Codes.{double_ok}
 use Rattle.image_words.proofs.Laws.{and-true}
-use borrow.Author.Rules.{rules}
 use Rattle.image_words.proofs.double_one_form.Goals as goal
 
 pub returns : goal.returns

@@ -1,6 +1,5 @@
 use Rattle.image_words.specs.Leaves.{found}
 use Rattle.image.specs.Places.{or_else}
-use borrow.Author.Rules.{rules}
 use Rattle.image_words.proofs.first.Goals as goal
 
 pub returns-in-None : goal.returns-in-None

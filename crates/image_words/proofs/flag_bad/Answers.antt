@@ -1,5 +1,4 @@
 use Rattle.image_words.specs.Leaves.{flag}
-use borrow.Author.Rules.{rules}
 use Rattle.image_words.proofs.flag_bad.Goals as goal
 
 pub returns : goal.returns

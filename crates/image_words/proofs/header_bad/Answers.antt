@@ -1,5 +1,4 @@
 use lib.Dec.{eqb}
-use borrow.Author.Rules.{rules}
 use Rattle.image_words.proofs.header_bad.Goals as goal
 
 pub returns : goal.returns

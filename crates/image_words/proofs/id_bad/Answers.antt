@@ -1,6 +1,5 @@
 use Rattle.image_words.specs.Leaves.{any_id}
 use mathlib.Core.Path.{refl}
-use borrow.Author.Rules.{rules}
 use Rattle.image_words.proofs.id_bad.Goals as goal
 
 pub returns : goal.returns

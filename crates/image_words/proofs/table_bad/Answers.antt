@@ -1,5 +1,4 @@
 use Rattle.image.specs.Codes.{table_ok}
-use borrow.Author.Rules.{rules}
 use Rattle.image_words.proofs.table_bad.Goals as goal
 
 pub returns : goal.returns

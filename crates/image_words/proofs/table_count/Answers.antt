@@ -2,7 +2,6 @@ use Rattle.image_words.proofs.Laws.{table_most, passed}
 use Rattle.image.specs.Codes.{table_ok, count_of}
 use mathlib.Core.Path.{ap, ◌∙◌}
 use native.Mathlib.Omega.{arith}
-use borrow.Author.Rules.{rules}
 use Rattle.image_words.proofs.table_count.Goals as goal
 
 pub returns-then-n-wide : goal.returns-then-n-wide

@@ -1,7 +1,6 @@
 use Rattle.image_words.specs.Leaves.{found}
 use Rattle.image_words.proofs.Laws.{two_good, two_wrong, two_cut, two_missing}
 use mathlib.Core.Path.{sym, ◌∙◌}
-use borrow.Author.Rules.{rules}
 use Rattle.image_words.proofs.two.Goals as goal
 
 pub returns-then-ok : goal.returns-then-ok

@@ -3,7 +3,6 @@ use Rattle.image_words.proofs.Laws.{two_none}
 use native.Mathlib.Numerals.{add-one}
 use native.Mathlib.Omega.{arith}
 use Prim.Native.Nat.{◌+◌}
-use borrow.Author.Rules.{rules}
 use Rattle.image_words.proofs.two_at.Goals as goal
 
 pub overflow_mul-result : goal.overflow_mul-result

@@ -1,5 +1,4 @@
 use Rattle.image_words.specs.Leaves.{upto}
-use borrow.Author.Rules.{rules}
 use Rattle.image_words.proofs.word_bad.Goals as goal
 
 pub returns : goal.returns

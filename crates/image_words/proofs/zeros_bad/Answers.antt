@@ -1,8 +1,7 @@
 use Rattle.image_words.specs.Leaves.{found}
 use Rattle.image_words.proofs.Laws.{zeros_missing, zeros_wrong, zeros_step, zeros_done}
-use Rattle.image.specs.Places.{zeros_bad}
 use borrow.Author.Tests.{ne_eqb}
-use mathlib.Core.Path.{◌≡◌, refl, sym, ◌∙◌}
+use mathlib.Core.Path.{refl, sym, ◌∙◌}
 use native.Mathlib.Omega.{arith}
 use Rattle.image_words.proofs.zeros_bad.Goals as goal
 

@@ -2,7 +2,7 @@ use Rattle.image.proofs.Lists.{put_zero, put_no_zero}
 use Rattle.image.specs.Codes.{zeros}
 use lib.Seq.{sets, length-sets}
 use mathlib.Core.Path.{◌≡◌, ap, ◌∙◌}
-use Prim.Native.Nat.{ℕ, ◌≤◌, ◌-◌}
+use Prim.Native.Nat.{ℕ}
 use native.Mathlib.Omega.{arith}
 use Rattle.image_words.proofs.zeros_put.Goals as goal
 

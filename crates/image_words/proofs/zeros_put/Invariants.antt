@@ -1,9 +1,7 @@
-use Rattle.image.proofs.Lists.{put_zero, put_no_zero}
 use Rattle.image.specs.Codes.{zeros}
-use lib.Seq.{sets, length-sets}
-use mathlib.Core.Path.{◌≡◌, ap, ◌∙◌}
-use Prim.Native.Nat.{ℕ, ◌≤◌, ◌-◌}
-use native.Mathlib.Omega.{arith}
+use lib.Seq.{sets}
+use mathlib.Core.Path.{◌≡◌}
+use Prim.Native.Nat.{◌≤◌, ◌-◌}
 use Rattle.image_words.proofs.zeros_put.Given as goal
 
 abbrev pub invariant-loop-i : goal.invariant-loop-i

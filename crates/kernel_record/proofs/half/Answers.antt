@@ -1,6 +1,5 @@
 use native.Mathlib.Omega.{arith}
 use Rattle.kernel_record.specs.Records.{half}
-use borrow.Author.Rules.{rules}
 use Rattle.kernel_record.proofs.half.Goals as goal
 
 pub returns : goal.returns

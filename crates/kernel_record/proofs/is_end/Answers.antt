@@ -8,7 +8,6 @@ use Rattle.kernel_record.specs.declared.KernelRecord.{KernelRecord}
 use Rattle.kernel_record.specs.declared.KernelRecord.TheVariants.{MtSlot, MtPositionX, MtPositionY, MtTrackingId, ReportEnd, Dropped, Other}
 use Rattle.kernel_record.specs.contracts.KernelRecord.{the_type}
 use Rattle.kernel_record.specs.Records.{is_end}
-use borrow.Author.Rules.{rules}
 use Rattle.kernel_record.proofs.is_end.Goals as goal
 
 -- a record of another kind

@@ -1,6 +1,5 @@
 use mir.Facts.{to_z-of_z}
 use Rattle.kernel_record.specs.Records.{record_at}
-use borrow.Author.Rules.{rules}
 use Rattle.kernel_record.proofs.record_at.Goals as goal
 
 pub returns : goal.returns

@@ -1,7 +1,6 @@
 use mir.Facts.{to_z-of_z}
 use Rattle.kernel_record.specs.Records.{record_of}
 use borrow.Author.Tests.{ne_eqb}
-use borrow.Author.Rules.{rules}
 use Rattle.kernel_record.proofs.record_of.Goals as goal
 
 pub returns-then-kind-eq-EV_SYN : goal.returns-then-kind-eq-EV_SYN

@@ -1,5 +1,4 @@
 use Rattle.kernel_record.specs.Records.{word}
-use borrow.Author.Rules.{rules}
 use Rattle.kernel_record.proofs.word.Goals as goal
 
 pub returns : goal.returns

@@ -1,4 +1,4 @@
-use Rattle.std.proofs.Common.{ℤ, ap, ◌∙◌, to_z-of_z, rules}
+use Rattle.std.proofs.Common.{ℤ, ap, ◌∙◌, to_z-of_z}
 use lib.Ieee.{binary32, of_int}
 use Rattle.kernel_values.proofs.coordinate.Goals as goal
 

@@ -1,4 +1,4 @@
-use Rattle.std.proofs.Common.{negsuc, ◌-ℤ◌, refl, to_z-of_z, w32, SFits}
+use Rattle.std.proofs.Common.{negsuc, ◌-ℤ◌, to_z-of_z, w32, SFits}
 use Rattle.kernel_values.proofs.Bits.{turned_fits, turned_size, kept_size}
 use Rattle.kernel_values.proofs.magnitude.Goals as goal
 use Rattle.kernel_values.proofs.magnitude.Goals.{Then-v-lt0}

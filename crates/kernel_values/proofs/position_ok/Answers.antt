@@ -1,4 +1,4 @@
-use Rattle.std.proofs.Common.{to_z-of_z, rules}
+use Rattle.std.proofs.Common.{to_z-of_z}
 use Rattle.kernel_values.specs.Value.{position_ok}
 use Rattle.kernel_values.proofs.position_ok.Goals as goal
 

@@ -1,4 +1,4 @@
-use Rattle.std.proofs.Common.{◌≡◌, ◌-◌, Bool, cond, ℤ, pos, negsuc, ◌-ℤ◌, sym, refl, ap, ◌∙◌, subst, arith, to_z-of_z, w32, SFits, to_z, of_z, rules, le-ltb, lt-ltb}
+use Rattle.std.proofs.Common.{◌≡◌, ◌-◌, Bool, cond, ℤ, pos, negsuc, ◌-ℤ◌, sym, ap, ◌∙◌, subst, arith, to_z-of_z, w32, SFits, to_z, of_z, le-ltb, lt-ltb}
 use Rattle.kernel_values.specs.Value.{signed}
 use Rattle.kernel_values.proofs.Bits.{low, minus}
 use Rattle.kernel_values.proofs.signed.Goals as goal

@@ -1,4 +1,4 @@
-use Rattle.std.proofs.Common.{◌≡◌, true, false, ltb, ℤ, pos, negsuc, nat_abs, sym, refl, ◌∙◌, true≢false, to_z-of_z, rules}
+use Rattle.std.proofs.Common.{◌≡◌, true, false, ltb, ℤ, pos, negsuc, nat_abs, sym, refl, ◌∙◌, true≢false, to_z-of_z}
 use lib.Signed.{lt_z}
 use Rattle.kernel_values.specs.Value.{slot_ok, max_slots}
 use Rattle.kernel_values.proofs.Bits.{not_below}

@@ -1,4 +1,4 @@
-use Rattle.std.proofs.Common.{refl, to_z-of_z}
+use Rattle.std.proofs.Common.{to_z-of_z}
 use Rattle.kernel_values.specs.Value.{tracking_id_ok}
 use Rattle.kernel_values.proofs.tracking_id_ok.Goals as goal
 

@@ -1,10 +1,6 @@
-use Prim.Native.Nat.{◌+◌, ◌-◌, ◌≤◌}
+use Prim.Native.Nat.{◌+◌}
 use mathlib.Core.Path.{◌≡◌, sym, ◌∙◌}
-use mathlib.Core.Bool.{false}
 use native.Mathlib.Omega.{arith}
-use borrow.Author.Rules.{rules}
-use Rattle.model.specs.Pointer.{clear_history_after}
-use Rattle.event_loop.specs.Lists.{listed_events, pointer_list}
 use Rattle.place_loop.proofs.Loops.{gone_loop}
 use Rattle.place_loop.proofs.gone.Goals as goal
 

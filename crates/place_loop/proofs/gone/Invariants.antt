@@ -1,11 +1,8 @@
-use Prim.Native.Nat.{◌+◌, ◌-◌, ◌≤◌}
-use mathlib.Core.Path.{◌≡◌, sym, ◌∙◌}
+use Prim.Native.Nat.{◌-◌, ◌≤◌}
+use mathlib.Core.Path.{◌≡◌}
 use mathlib.Core.Bool.{false}
-use native.Mathlib.Omega.{arith}
-use borrow.Author.Rules.{rules}
 use Rattle.model.specs.Pointer.{clear_history_after}
 use Rattle.event_loop.specs.Lists.{listed_events, pointer_list}
-use Rattle.place_loop.proofs.Loops.{gone_loop}
 use Rattle.place_loop.proofs.gone.Given as goal
 
 abbrev pub invariant-loop-i : goal.invariant-loop-i

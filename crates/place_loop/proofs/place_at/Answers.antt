@@ -1,7 +1,6 @@
 use borrow.Enum.Refused.{opened}
 use mathlib.Core.Path.{refl, sym, ◌∙◌}
 use native.Mathlib.Omega.{arith}
-use borrow.Author.Rules.{rules}
 use Rattle.data.specs.Kinds.{moved_kind, motion_kind, button_kind, gone_kind}
 use Rattle.model.specs.Pointer.{place_event}
 use Rattle.event_loop.proofs.OfKind.{not_of_kind, is_other}

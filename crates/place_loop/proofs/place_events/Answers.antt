@@ -1,10 +1,5 @@
-use Prim.Native.Nat.{◌-◌, ◌≤◌}
 use mathlib.Core.Path.{◌≡◌, refl, sym, ◌∙◌}
 use native.Mathlib.Omega.{arith}
-use borrow.Author.Rules.{rules}
-use Rattle.model.specs.Pointer.{place_events}
-use Rattle.pointer_place.specs.View.{Placed}
-use Rattle.event_loop.specs.Lists.{listed_events, pointer_list}
 use Rattle.place_loop.proofs.Loops.{place_loop}
 use Rattle.place_loop.proofs.place_events.Goals as goal
 

@@ -1,6 +1,5 @@
 use mathlib.Core.Path.{◌∙◌}
 use Rattle.place_loop.proofs.Loops.{place_passed}
-use borrow.Author.Rules.{rules}
 use Rattle.place_loop.proofs.place_pass.Goals as goal
 
 pub returns : goal.returns

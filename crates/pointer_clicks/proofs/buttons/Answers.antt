@@ -1,4 +1,3 @@
-use borrow.Author.Rules.{rules}
 use Rattle.model.specs.Pointer.{buttons}
 use Rattle.pointer_clicks.proofs.buttons.Goals as goal
 

@@ -1,5 +1,4 @@
 use Rattle.model.specs.Pointer.{click_count, count_of}
-use borrow.Author.Rules.{rules}
 use Rattle.pointer_clicks.proofs.click_count.Goals as goal
 
 pub returns-then-p-delay : goal.returns-then-p-delay

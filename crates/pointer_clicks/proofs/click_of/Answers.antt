@@ -1,5 +1,4 @@
 use Rattle.model.specs.Pointer.{click_of}
-use borrow.Author.Rules.{rules}
 use Rattle.pointer_clicks.proofs.click_of.Goals as goal
 
 pub returns-then-clicked : goal.returns-then-clicked

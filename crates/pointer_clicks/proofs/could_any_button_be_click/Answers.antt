@@ -1,7 +1,6 @@
 use mathlib.Core.Path.{sym, ◌∙◌}
 use Rattle.pointer_clicks.proofs.Ways.{could_moved, could_long, could_down, could_released}
 use Rattle.pointer_events.specs.Events.{asks}
-use borrow.Author.Rules.{rules}
 use Rattle.pointer_clicks.proofs.could_any_button_be_click.Goals as goal
 
 pub returns-then-moved : goal.returns-then-moved

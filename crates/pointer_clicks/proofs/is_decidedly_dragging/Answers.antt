@@ -1,7 +1,6 @@
 use mathlib.Core.Path.{sym, ◌∙◌}
 use Rattle.pointer_clicks.proofs.Ways.{dragging_could, dragging_pressed, dragging_clicked, dragging_down, dragging_released}
 use Rattle.pointer_events.specs.Events.{asks}
-use borrow.Author.Rules.{rules}
 use Rattle.pointer_clicks.proofs.is_decidedly_dragging.Goals as goal
 
 pub returns-then-could_any_button_be_click : goal.returns-then-could_any_button_be_click

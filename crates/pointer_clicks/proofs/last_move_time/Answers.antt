@@ -6,7 +6,6 @@ use Rattle.emath.specs.Vec.{vec_zero, vec_ne}
 use Rattle.model.specs.Types.{Vec2, MaybeF64, some_time, PointerEvent}
 use Rattle.model.specs.Pointer.{any, is_move, move_time}
 use Rattle.pointer_events.specs.Events.{asks}
-use borrow.Author.Rules.{rules}
 use Rattle.pointer_clicks.proofs.last_move_time.Goals as goal
 
 module _ (time : Float) (es : List PointerEvent) (v : Vec2) (old : MaybeF64) where

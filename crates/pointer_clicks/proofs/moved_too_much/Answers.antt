@@ -1,4 +1,3 @@
-use borrow.Author.Rules.{rules}
 use Rattle.pointer_clicks.proofs.moved_too_much.Goals as goal
 
 pub returns-then-moved : goal.returns-then-moved

@@ -1,6 +1,5 @@
 use lib.Ieee.{of_bits}
 use Rattle.model.specs.Pointer.{near}
-use borrow.Author.Rules.{rules}
 use Rattle.pointer_clicks.proofs.near.Goals as goal
 
 pub returns-in-None : goal.returns-in-None

@@ -1,5 +1,4 @@
 use Rattle.model.specs.Pointer.{press_too_long}
-use borrow.Author.Rules.{rules}
 use Rattle.pointer_clicks.proofs.press_too_long.Goals as goal
 
 pub returns-in-None : goal.returns-in-None

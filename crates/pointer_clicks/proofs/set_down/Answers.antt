@@ -1,5 +1,4 @@
 use Rattle.model.specs.Pointer.{set_down, button_down}
-use borrow.Author.Rules.{rules}
 use Rattle.pointer_clicks.proofs.set_down.Goals as goal
 
 pub returns-in-Primary : goal.returns-in-Primary

@@ -1,4 +1,3 @@
-use borrow.Author.Rules.{rules}
 use Rattle.pointer_clicks.proofs.started_decidedly_dragging.Goals as goal
 
 pub returns : goal.returns

@@ -1,6 +1,5 @@
 use Rattle.emath.specs.Vec.{distance}
 use Rattle.model.specs.Pointer.{too_far}
-use borrow.Author.Rules.{rules}
 use Rattle.pointer_clicks.proofs.too_far.Goals as goal
 
 pub returns-in-None : goal.returns-in-None

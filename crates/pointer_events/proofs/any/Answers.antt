@@ -1,13 +1,7 @@
-use Prim.Native.Nat.{◌≤◌, ◌-◌}
-use mathlib.Core.Path.{◌≡◌, refl, sym, ◌∙◌}
-use mathlib.Core.List.{List}
-use lib.Ieee.{Float}
-use borrow.Author.Rules.{rules}
+use mathlib.Core.Path.{refl, sym, ◌∙◌}
 use native.Mathlib.Omega.{arith}
-use Rattle.data.specs.Limits.{max_events}
-use Rattle.model.specs.Pointer.{any}
-use Rattle.pointer_events.specs.Events.{asks, counted, entry_at, events}
-use Rattle.pointer_events.proofs.Stored.{rest, found, passed, none_left, whole}
+use Rattle.pointer_events.specs.Events.{entry_at}
+use Rattle.pointer_events.proofs.Stored.{found, passed, none_left, whole}
 use Rattle.pointer_events.proofs.any.Goals as goal
 
 pub loop-i-init : goal.loop-i-init

@@ -1,7 +1,6 @@
 use mathlib.Core.Path.{refl}
 use Rattle.pointer_events.specs.Events.{entry_at}
 use Rattle.emath_history.specs.Ring.{position_at}
-use borrow.Author.Rules.{rules}
 use Rattle.pointer_events.proofs.entry_at.Goals as goal
 
 pub returns : goal.returns

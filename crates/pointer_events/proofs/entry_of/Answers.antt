@@ -1,5 +1,4 @@
 use Rattle.pointer_events.specs.Events.{entry_of}
-use borrow.Author.Rules.{rules}
 use Rattle.pointer_events.proofs.entry_of.Goals as goal
 
 pub returns-in-Moved : goal.returns-in-Moved

@@ -1,6 +1,5 @@
 use native.Mathlib.Omega.{arith}
 use Rattle.pointer_events.proofs.Stored.{read_event, read_none}
-use borrow.Author.Rules.{rules}
 use Rattle.pointer_events.proofs.event_at.Goals as goal
 
 pub returns-then-i-counted : goal.returns-then-i-counted

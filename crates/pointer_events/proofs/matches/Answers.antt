@@ -1,6 +1,5 @@
 use borrow.Author.Tests.{ne_eqb}
 use Rattle.pointer_events.specs.Events.{event_of, click_of}
-use borrow.Author.Rules.{rules}
 use Rattle.pointer_events.proofs.matches.Goals as goal
 
 pub returns-in-0 : goal.returns-in-0

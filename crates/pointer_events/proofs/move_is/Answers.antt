@@ -1,7 +1,6 @@
 use Rattle.pointer_events.specs.Events.{asks}
 use Rattle.model.specs.Questions.{presses_button, releases_button, clicks_button, clicks_button_times}
 use Rattle.model.specs.Pointer.{is_press, is_release, is_click, is_move}
-use borrow.Author.Rules.{rules}
 use Rattle.pointer_events.proofs.move_is.Goals as goal
 
 pub returns-in-Press : goal.returns-in-Press

@@ -1,5 +1,4 @@
 use Rattle.model.specs.Questions.{same_button}
-use borrow.Author.Rules.{rules}
 use Rattle.pointer_events.proofs.same_button.Goals as goal
 
 pub returns : goal.returns

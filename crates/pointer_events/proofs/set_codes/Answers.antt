@@ -2,7 +2,6 @@ use mathlib.Core.Path.{refl}
 use native.Mathlib.Omega.{arith}
 use lib.ListN.{length-set}
 use Rattle.pointer_events.specs.Events.{codes_with}
-use borrow.Author.Rules.{rules}
 use Rattle.pointer_events.proofs.set_codes.Goals as goal
 
 pub bounds-codes-i-2 : goal.bounds-codes-i-2

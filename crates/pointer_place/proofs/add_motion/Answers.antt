@@ -1,5 +1,4 @@
 use Rattle.model.specs.Pointer.{add_motion}
-use borrow.Author.Rules.{rules}
 use Rattle.pointer_place.proofs.add_motion.Goals as goal
 
 pub returns-in-None : goal.returns-in-None

@@ -1,6 +1,5 @@
 use Rattle.model.specs.Pointer.{place_event, with_place}
 use mathlib.Core.Path.{refl}
-use borrow.Author.Rules.{rules}
 use Rattle.pointer_place.proofs.button_place.Goals as goal
 
 pub returns-then-pressed : goal.returns-then-pressed

@@ -1,4 +1,3 @@
-use borrow.Author.Rules.{rules}
 use Rattle.pointer_place.proofs.cleared.Goals as goal
 
 pub returns-then-gone : goal.returns-then-gone

@@ -1,5 +1,4 @@
 use Rattle.model.specs.Pointer.{delta_of}
-use borrow.Author.Rules.{rules}
 use Rattle.pointer_place.proofs.delta_of.Goals as goal
 
 pub returns-in-None : goal.returns-in-None

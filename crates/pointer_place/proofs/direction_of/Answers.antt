@@ -1,4 +1,3 @@
-use borrow.Author.Rules.{rules}
 use Rattle.pointer_place.proofs.direction_of.Goals as goal
 
 pub returns : goal.returns

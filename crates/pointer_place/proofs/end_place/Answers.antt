@@ -1,5 +1,4 @@
 use Rattle.model.specs.Pointer.{end_place, finish_place}
-use borrow.Author.Rules.{rules}
 use Rattle.pointer_place.proofs.end_place.Goals as goal
 
 pub returns : goal.returns

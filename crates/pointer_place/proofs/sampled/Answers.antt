@@ -2,7 +2,6 @@ use mathlib.Core.Path.{ap, ◌∙◌}
 use Rattle.emath.specs.History.{flush}
 use Rattle.model.specs.Pointer.{add_latest}
 use Rattle.pointer_place.specs.View.{times_after, positions_after}
-use borrow.Author.Rules.{rules}
 use Rattle.pointer_place.proofs.sampled.Goals as goal
 
 pub returns-in-None : goal.returns-in-None

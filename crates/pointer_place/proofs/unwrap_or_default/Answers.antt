@@ -1,5 +1,4 @@
 use Rattle.model.specs.Pointer.{unwrap_or_default}
-use borrow.Author.Rules.{rules}
 use Rattle.pointer_place.proofs.unwrap_or_default.Goals as goal
 
 pub returns-in-None : goal.returns-in-None

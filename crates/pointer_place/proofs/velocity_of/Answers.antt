@@ -1,7 +1,6 @@
 use Rattle.model.specs.Numbers.{hundredth}
 use borrow.Author.Tests.{le-leb, lt-leb}
 use Rattle.model.specs.Pointer.{velocity_of}
-use borrow.Author.Rules.{rules}
 use Rattle.pointer_place.proofs.velocity_of.Goals as goal
 
 pub returns-then-len-lt3 : goal.returns-then-len-lt3

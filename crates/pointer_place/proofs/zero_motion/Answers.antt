@@ -1,5 +1,4 @@
 use Rattle.model.specs.Pointer.{zero_motion}
-use borrow.Author.Rules.{rules}
 use Rattle.pointer_place.proofs.zero_motion.Goals as goal
 
 pub returns-in-None : goal.returns-in-None

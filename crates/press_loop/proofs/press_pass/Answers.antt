@@ -1,11 +1,8 @@
-use Prim.Native.Nat.{◌-◌, ◌≤◌}
 use mathlib.Core.Path.{◌≡◌, ap}
 use native.Mathlib.Omega.{arith}
-use borrow.Author.Rules.{rules}
 use Rattle.model.specs.Pointer.{Held, clear_events}
 use Rattle.pointer_clicks.specs.View.{past}
-use Rattle.event_loop.specs.Lists.{listed_events, pointer_list}
-use Rattle.press_loop.proofs.Loops.{press_loop, Walked, walk_begins, walked_on, walk_ends}
+use Rattle.press_loop.proofs.Loops.{press_loop, walk_begins, walked_on, walk_ends}
 use Rattle.press_loop.proofs.press_pass.Goals as goal
 
 pub loop-i-init : goal.loop-i-init

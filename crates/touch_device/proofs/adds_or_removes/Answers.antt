@@ -1,5 +1,4 @@
 use Rattle.model.specs.Touch.{adds_or_removes}
-use borrow.Author.Rules.{rules}
 use Rattle.touch_device.proofs.adds_or_removes.Goals as goal
 
 pub returns-in-Start : goal.returns-in-Start

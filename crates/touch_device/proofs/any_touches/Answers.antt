@@ -1,4 +1,3 @@
-use borrow.Author.Rules.{rules}
 use Rattle.model.specs.Touch.{any_touches_at}
 use Rattle.touches.proofs.Upsert.{some_length}
 use Rattle.touch_device.proofs.any_touches.Goals as goal

@@ -1,4 +1,3 @@
-use borrow.Author.Rules.{rules}
 use Rattle.model.specs.Touch.{end_device}
 use Rattle.touch_device.proofs.end_pass.Goals as goal
 

@@ -1,4 +1,3 @@
-use borrow.Author.Rules.{rules}
 use Rattle.model.specs.Touch.{new_device}
 use Rattle.touch_device.specs.View.{fits_device}
 use Rattle.touch_device.proofs.first.Goals as goal

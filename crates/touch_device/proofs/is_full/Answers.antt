@@ -2,9 +2,8 @@ use mathlib.Core.Path.{◌≡◌}
 use mathlib.Core.Bool.{and-true, and-false}
 use Prim.Native.Nat.{◌≤◌, ◌<◌}
 use native.Mathlib.Omega.{arith}
-use borrow.Author.Rules.{rules}
 use borrow.Author.Tests.{le-leb, lt-leb}
-use lib.ListN.{length, length-map, length-take}
+use lib.ListN.{length, length-take}
 use Rattle.data.specs.Limits.{max_touches}
 use Rattle.model.specs.Touch.{no_place}
 use Rattle.touches.specs.Touches.{list}

@@ -1,5 +1,4 @@
 use Rattle.model.specs.Touch.{is_start}
-use borrow.Author.Rules.{rules}
 use Rattle.touch_device.proofs.is_start.Goals as goal
 
 pub returns-in-Start : goal.returns-in-Start

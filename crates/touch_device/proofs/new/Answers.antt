@@ -1,5 +1,4 @@
 use Rattle.model.specs.Touch.{new_device}
-use borrow.Author.Rules.{rules}
 use Rattle.touch_device.proofs.new.Goals as goal
 
 pub returns : goal.returns

@@ -1,4 +1,3 @@
-use borrow.Author.Rules.{rules}
 use Rattle.touch_device.specs.View.{fits_device}
 use Rattle.touch_device.proofs.on_touch.Goals as goal
 

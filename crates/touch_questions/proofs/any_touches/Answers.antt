@@ -1,11 +1,7 @@
-use borrow.Author.Rules.{rules}
-use mathlib.Core.Path.{◌≡◌, ◌∙◌, refl, sym, ap}
+use mathlib.Core.Path.{◌≡◌, ◌∙◌, refl, sym}
 use native.Mathlib.Omega.{arith}
-use Prim.Native.Nat.{◌+◌, ◌-◌, ◌≤◌, ◌<◌}
-use mathlib.Core.List.{map}
-use lib.ListN.{length, take, drop, length-take, length-map, length-set}
-use Rattle.model.specs.Touch.{any_touches, any_touches_at}
-use Rattle.touch_device.specs.View.{device_view}
+use lib.ListN.{length}
+use Rattle.model.specs.Touch.{any_touches_at}
 use Rattle.touches.proofs.Places.{first_of, first_le}
 use Rattle.touch_state.proofs.Known.{any_stops, any_skips, any_ends}
 use Rattle.touch_questions.proofs.any_touches.Goals as goal

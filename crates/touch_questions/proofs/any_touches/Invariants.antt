@@ -1,13 +1,9 @@
-use borrow.Author.Rules.{rules}
-use mathlib.Core.Path.{◌≡◌, ◌∙◌, refl, sym, ap}
-use native.Mathlib.Omega.{arith}
-use Prim.Native.Nat.{◌+◌, ◌-◌, ◌≤◌, ◌<◌}
+use mathlib.Core.Path.{◌≡◌}
+use Prim.Native.Nat.{◌-◌, ◌≤◌}
 use mathlib.Core.List.{map}
-use lib.ListN.{length, take, drop, length-take, length-map, length-set}
-use Rattle.model.specs.Touch.{any_touches, any_touches_at}
+use lib.ListN.{length, take, drop}
+use Rattle.model.specs.Touch.{any_touches}
 use Rattle.touch_device.specs.View.{device_view}
-use Rattle.touches.proofs.Places.{first_of, first_le}
-use Rattle.touch_state.proofs.Known.{any_stops, any_skips, any_ends}
 use Rattle.touch_questions.proofs.any_touches.Given as goal
 
 abbrev pub invariant-loop-i : goal.invariant-loop-i

@@ -1,9 +1,6 @@
-use borrow.Author.Rules.{rules}
-use mathlib.Core.Path.{◌≡◌, ◌∙◌, refl, sym, ap}
+use mathlib.Core.Path.{◌≡◌, ◌∙◌, sym, ap}
 use native.Mathlib.Omega.{arith}
-use Prim.Native.Nat.{◌+◌, ◌-◌, ◌≤◌, ◌<◌}
-use mathlib.Core.List.{map}
-use lib.ListN.{length, take, drop, length-take, length-map, length-set}
+use lib.ListN.{length, length-take}
 use Rattle.model.specs.Touch.{any_touches_at}
 use Rattle.touch_state.proofs.Known.{found_at, lost_at}
 use Rattle.touch_questions.proofs.any_touches_of.Goals as goal

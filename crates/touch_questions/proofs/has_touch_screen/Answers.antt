@@ -1,4 +1,3 @@
-use borrow.Author.Rules.{rules}
 use lib.ListN.{take}
 use Rattle.touch_state.proofs.Known.{some_devices}
 use Rattle.touch_questions.proofs.has_touch_screen.Goals as goal

@@ -1,11 +1,7 @@
-use borrow.Author.Rules.{rules}
-use mathlib.Core.Path.{◌≡◌, ◌∙◌, refl, sym, ap}
+use mathlib.Core.Path.{◌≡◌, ◌∙◌, refl, sym}
 use native.Mathlib.Omega.{arith}
-use Prim.Native.Nat.{◌+◌, ◌-◌, ◌≤◌, ◌<◌}
-use mathlib.Core.List.{map}
-use lib.ListN.{length, take, drop, length-take, length-map, length-set}
-use Rattle.model.specs.Touch.{multi_touch, first_of as first_info}
-use Rattle.touch_device.specs.View.{device_view}
+use lib.ListN.{length}
+use Rattle.model.specs.Touch.{first_of as first_info}
 use Rattle.touches.proofs.Places.{first_of, first_le}
 use Rattle.touch_state.proofs.Known.{multi_stops, multi_ends}
 use Rattle.touch_questions.proofs.multi_touch.Goals as goal

@@ -1,6 +1,5 @@
 use Rattle.model.specs.Touch.{on_touch, insert_touch, move_touch, remove_touch}
 use Rattle.touches.specs.Touches.{if_room, on_touch_if_room}
-use borrow.Author.Rules.{rules}
 use Rattle.touches.proofs.first.Goals as goal
 
 pub returns-in-Start : goal.returns-in-Start

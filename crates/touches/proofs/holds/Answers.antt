@@ -1,4 +1,3 @@
-use borrow.Author.Rules.{rules}
 use Rattle.touches.proofs.Upsert.{holds_index}
 use Rattle.touches.proofs.holds.Goals as goal
 

@@ -1,16 +1,14 @@
-use Prim.Native.Nat.{◌+◌, ◌-◌, ◌≤◌}
+use Prim.Native.Nat.{◌+◌}
 use mathlib.Core.Path.{◌≡◌, ◌∙◌, sym, refl}
-use mathlib.Core.Bool.{false}
-use borrow.Author.Rules.{rules}
 use borrow.Author.Tests.{eq-eqb, ne_eqb}
 use native.Mathlib.Omega.{arith}
-use lib.ListN.{length, set, length-map, length-set, length-take}
+use lib.ListN.{length, set, length-set, length-take}
 use Rattle.data.specs.Limits.{max_touches}
 use Rattle.model.specs.Touch.{insert_touch}
 use Rattle.touches.specs.Touches.{list}
 use Rattle.touches.proofs.Places.{first_of, first_le, length_set_first}
 use Rattle.touches.proofs.Upsert.{no, too_long}
-use Rattle.touches.proofs.Insertion.{grown, grown_start, not_yet, shifts, passes, replaces, grown_end, grown_length, fitting}
+use Rattle.touches.proofs.Insertion.{grown_start, not_yet, shifts, passes, replaces, grown_end, grown_length, fitting}
 use Rattle.touches.proofs.insert.Goals as goal
 use Rattle.touches.proofs.insert.Goals.{then-shifting, else-shifting+else-x-t}
 

@@ -1,6 +1,6 @@
 use mathlib.Core.Path.{◌≡◌}
 use native.Mathlib.Omega.{arith}
-use lib.ListN.{length, length-take, length-map}
+use lib.ListN.{length, length-take}
 use Rattle.data.specs.Limits.{max_touches}
 use Rattle.touches.proofs.len.Goals as goal
 

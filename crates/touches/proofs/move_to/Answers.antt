@@ -1,12 +1,9 @@
-use Prim.Native.Nat.{◌+◌, ◌-◌, ◌≤◌}
 use mathlib.Core.Path.{◌≡◌, ◌∙◌, sym, refl}
-use borrow.Author.Rules.{rules}
 use borrow.Author.Tests.{eq-eqb, ne_eqb}
 use native.Mathlib.Omega.{arith}
-use lib.ListN.{length, take, drop, length-map}
+use lib.ListN.{length}
 use Rattle.data.specs.Limits.{max_touches}
 use Rattle.model.specs.Touch.{touch_id_of}
-use Rattle.touches.specs.Touches.{list, index}
 use Rattle.touches.proofs.Places.{first_of, first_le, set_first, index_skips, index_stops, index_ends}
 use Rattle.touches.proofs.Upsert.{move_at, move_out}
 use Rattle.touches.proofs.move_to.Goals as goal

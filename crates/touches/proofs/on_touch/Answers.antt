@@ -1,8 +1,7 @@
-use borrow.Author.Rules.{rules}
-use mathlib.Core.Path.{◌≡◌, ◌∙◌, sym, ap}
+use mathlib.Core.Path.{◌≡◌, sym}
 use native.Mathlib.Omega.{arith}
-use lib.ListN.{length, take, length-take, length-map}
-use Prim.Native.Nat.{◌≤◌, ◌<◌}
+use lib.ListN.{length, take, length-take}
+use Prim.Native.Nat.{◌≤◌}
 use Rattle.data.specs.Limits.{max_touches}
 use Rattle.model.specs.Touch.{on_touch}
 use Rattle.touches.specs.Touches.{on_touch_if_room}

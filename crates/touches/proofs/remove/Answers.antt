@@ -1,11 +1,9 @@
-use Prim.Native.Nat.{◌-◌, ◌≤◌}
 use mathlib.Core.Path.{◌≡◌, ◌∙◌, refl}
-use borrow.Author.Rules.{rules}
 use native.Mathlib.Omega.{arith}
-use lib.ListN.{length, length-map, length-set}
+use lib.ListN.{length, length-set}
 use Rattle.data.specs.Limits.{max_touches}
 use Rattle.touches.proofs.Places.{first_of, first_le}
-use Rattle.touches.proofs.Removal.{kept as held, kept_start, keeps, drops, kept_end}
+use Rattle.touches.proofs.Removal.{kept_start, keeps, drops, kept_end}
 use Rattle.touches.proofs.remove.Goals as goal
 use Rattle.touches.proofs.remove.Goals.{then-x-id, else-x-id}
 

@@ -1,12 +1,8 @@
 use Prim.Native.Nat.{◌-◌, ◌≤◌}
-use mathlib.Core.Path.{◌≡◌, ◌∙◌, refl}
-use borrow.Author.Rules.{rules}
-use native.Mathlib.Omega.{arith}
-use lib.ListN.{length, length-map, length-set}
-use mathlib.Core.Logic.{⊎_elim}
+use mathlib.Core.Path.{◌≡◌}
+use lib.ListN.{length}
 use Rattle.data.specs.Limits.{max_touches}
-use Rattle.touches.proofs.Places.{first_of, first_le}
-use Rattle.touches.proofs.Removal.{kept as held, kept_start, keeps, drops, kept_end}
+use Rattle.touches.proofs.Removal.{kept as held}
 use Rattle.touches.proofs.remove.Given as goal
 
 abbrev pub invariant-loop-i : goal.invariant-loop-i

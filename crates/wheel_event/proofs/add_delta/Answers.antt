@@ -1,5 +1,4 @@
 use Rattle.model.specs.Wheel.{add_delta}
-use borrow.Author.Rules.{rules}
 use Rattle.wheel_event.proofs.add_delta.Goals as goal
 
 pub returns-then-is_smooth : goal.returns-then-is_smooth

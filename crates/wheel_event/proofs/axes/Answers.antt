@@ -1,5 +1,4 @@
 use Rattle.model.specs.Wheel.{axes}
-use borrow.Author.Rules.{rules}
 use Rattle.wheel_event.proofs.axes.Goals as goal
 
 pub returns : goal.returns

@@ -1,5 +1,4 @@
 use Rattle.model.specs.Wheel.{in_points}
-use borrow.Author.Rules.{rules}
 use Rattle.wheel_event.proofs.in_points.Goals as goal
 
 pub returns-in-Point : goal.returns-in-Point

@@ -1,5 +1,4 @@
 use Rattle.model.specs.Wheel.{move_modifiers}
-use borrow.Author.Rules.{rules}
 use Rattle.wheel_event.proofs.move_modifiers.Goals as goal
 
 pub returns-in-Static : goal.returns-in-Static

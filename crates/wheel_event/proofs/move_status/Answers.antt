@@ -1,5 +1,4 @@
 use Rattle.model.specs.Wheel.{move_status}
-use borrow.Author.Rules.{rules}
 use Rattle.wheel_event.proofs.move_status.Goals as goal
 
 pub returns-in-Static : goal.returns-in-Static

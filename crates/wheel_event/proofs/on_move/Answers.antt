@@ -1,5 +1,4 @@
 use Rattle.model.specs.Wheel.{on_move, scroll}
-use borrow.Author.Rules.{rules}
 use Rattle.wheel_event.proofs.on_move.Goals as goal
 
 pub returns : goal.returns

@@ -1,5 +1,4 @@
 use Rattle.model.specs.Wheel.{on_phase}
-use borrow.Author.Rules.{rules}
 use Rattle.wheel_event.proofs.on_phase.Goals as goal
 
 pub returns-in-Start : goal.returns-in-Start

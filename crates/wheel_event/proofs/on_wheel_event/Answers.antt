@@ -1,5 +1,4 @@
 use Rattle.model.specs.Wheel.{on_wheel_event}
-use borrow.Author.Rules.{rules}
 use Rattle.wheel_event.proofs.on_wheel_event.Goals as goal
 
 pub returns : goal.returns

@@ -1,5 +1,4 @@
 use Rattle.model.specs.Wheel.{small}
-use borrow.Author.Rules.{rules}
 use Rattle.wheel_event.proofs.small.Goals as goal
 
 pub returns-in-Point : goal.returns-in-Point

@@ -1,5 +1,4 @@
 use Rattle.model.specs.Wheel.{stopped_wheel}
-use borrow.Author.Rules.{rules}
 use Rattle.wheel_event.proofs.stopped.Goals as goal
 
 pub returns : goal.returns

@@ -1,7 +1,6 @@
 use borrow.Enum.Refused.{opened}
 use mathlib.Core.Path.{sym, ◌∙◌}
 use native.Mathlib.Omega.{arith}
-use borrow.Author.Rules.{rules}
 use Rattle.data.specs.Kinds.{wheel_kind}
 use Rattle.model.specs.Wheel.{wheel_event}
 use Rattle.event_loop.proofs.OfKind.{not_of_kind, is_other}

@@ -1,10 +1,7 @@
 use Prim.Native.Nat.{◌-◌, ◌≤◌}
-use mathlib.Core.Path.{◌≡◌, sym, ◌∙◌}
-use native.Mathlib.Omega.{arith}
-use borrow.Author.Rules.{rules}
+use mathlib.Core.Path.{◌≡◌}
 use Rattle.model.specs.Wheel.{wheel_events}
 use Rattle.event_loop.specs.Lists.{listed_events, wheel_list}
-use Rattle.wheel_loop.proofs.Loops.{wheel_loop}
 use Rattle.wheel_loop.proofs.wheel_events.Given as goal
 
 abbrev pub invariant-loop-i : goal.invariant-loop-i

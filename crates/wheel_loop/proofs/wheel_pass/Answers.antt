@@ -1,5 +1,4 @@
 use Rattle.model.specs.Wheel.{wheel_pass}
-use borrow.Author.Rules.{rules}
 use Rattle.wheel_loop.proofs.wheel_pass.Goals as goal
 
 pub returns : goal.returns

@@ -1,6 +1,5 @@
 use Rattle.widget_append.specs.Append.{append}
 use mathlib.Core.Path.{refl}
-use borrow.Author.Rules.{rules}
 use Rattle.widget_append.proofs.append.Goals as goal
 
 pub returns : goal.returns

@@ -1,7 +1,6 @@
 use Rattle.widget_append.specs.Append.{count_of}
 use borrow.Author.Tests.{eq-eqb, ne_eqb}
 use native.Mathlib.Omega.{arith}
-use borrow.Author.Rules.{rules}
 use Rattle.widget_append.proofs.count_of.Goals as goal
 
 pub returns-then-e-eq0 : goal.returns-then-e-eq0

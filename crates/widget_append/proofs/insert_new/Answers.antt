@@ -1,6 +1,5 @@
 use Rattle.widget_append.proofs.Cases.{gives, as_before, full, full_layers, short_new, appends}
 use borrow.Author.Tests.{lt-leb, le-leb, lt-ltb, le-ltb}
-use borrow.Author.Rules.{rules}
 use Rattle.widget_append.proofs.insert_new.Goals as goal
 
 pub returns-then-h-ge-MAX_WIDGETS : goal.returns-then-h-ge-MAX_WIDGETS

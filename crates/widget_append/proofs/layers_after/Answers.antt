@@ -1,6 +1,5 @@
 use Rattle.widget_append.specs.Append.{layers_after}
 use borrow.Author.Tests.{lt-ltb, le-ltb}
-use borrow.Author.Rules.{rules}
 use Rattle.widget_append.proofs.layers_after.Goals as goal
 
 pub returns-then-l-n : goal.returns-then-l-n

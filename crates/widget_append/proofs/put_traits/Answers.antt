@@ -1,4 +1,3 @@
-use borrow.Author.Rules.{rules}
 use Rattle.widget_append.proofs.put_traits.Goals as goal
 
 pub returns : goal.returns

@@ -1,8 +1,7 @@
 use Rattle.widget_append.proofs.Cases.{gives, as_before}
 use Rattle.widget_insert.proofs.Cases.{refuses, checks}
-use mathlib.Core.Path.{◌≡◌, sym, ◌∙◌, ap}
+use mathlib.Core.Path.{sym, ◌∙◌, ap}
 use Rattle.widget_insert.specs.Numbers.{refusal_of}
-use borrow.Author.Rules.{rules}
 use Rattle.widget_insert.proofs.decide.Goals as goal
 
 pub returns-in-Some : goal.returns-in-Some

@@ -1,5 +1,4 @@
 use Rattle.model.specs.Widgets.{edges_ok}
-use borrow.Author.Rules.{rules}
 use Rattle.widget_insert.proofs.edges_ok.Goals as goal
 
 pub returns : goal.returns

@@ -1,6 +1,5 @@
 use Rattle.widget_insert.specs.Insert.{fallen}
 use borrow.Author.Tests.{lt-ltb, le-ltb}
-use borrow.Author.Rules.{rules}
 use Rattle.widget_insert.proofs.fallen.Goals as goal
 
 pub returns-then-p-before : goal.returns-then-p-before

@@ -1,7 +1,6 @@
 use Rattle.widget_append.proofs.Cases.{gives}
 use Rattle.widget_insert.proofs.Cases.{is_new, is_known}
-use mathlib.Core.Path.{◌≡◌, sym, ◌∙◌}
-use borrow.Author.Rules.{rules}
+use mathlib.Core.Path.{sym, ◌∙◌}
 use Rattle.widget_insert.proofs.insert_checked.Goals as goal
 
 pub returns-then-e-eq0 : goal.returns-then-e-eq0

@@ -1,5 +1,4 @@
 use Rattle.widget_insert.specs.Insert.{moved_numbers}
-use borrow.Author.Rules.{rules}
 use Rattle.widget_insert.proofs.move_to_top.Goals as goal
 
 pub returns : goal.returns

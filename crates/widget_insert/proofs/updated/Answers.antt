@@ -1,5 +1,4 @@
 use Rattle.model.specs.Widgets.{updated}
-use borrow.Author.Rules.{rules}
 use Rattle.widget_insert.proofs.updated.Goals as goal
 
 pub returns : goal.returns

@@ -1,5 +1,4 @@
 use Rattle.model.specs.Widgets.{well_shaped}
-use borrow.Author.Rules.{rules}
 use Rattle.widget_insert.proofs.well_shaped.Goals as goal
 
 pub returns : goal.returns

@@ -5,7 +5,6 @@ use Rattle.model.specs.Pass.{rotation_event}
 use Rattle.zoom_and_rotation.proofs.Idle.{rotation_idle}
 use Rattle.event_loop.proofs.OfKind.{not_of_kind, is_other}
 use mathlib.Core.Path.{sym, ◌∙◌}
-use borrow.Author.Rules.{rules}
 use Rattle.zoom_and_rotation.proofs.rotation_at.Goals as goal
 
 pub returns-in_default : goal.returns-in_default

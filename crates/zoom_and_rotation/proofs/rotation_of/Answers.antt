@@ -1,11 +1,6 @@
-use Prim.Native.Nat.{◌-◌, ◌≤◌}
 use mathlib.Core.Path.{◌≡◌, sym, ◌∙◌}
 use lib.Ieee.{of_bits}
 use native.Mathlib.Omega.{arith}
-use borrow.Author.Rules.{rules}
-use Rattle.model.specs.Numbers.{+0}
-use Rattle.model.specs.Pass.{rotation_of}
-use Rattle.event_loop.specs.Lists.{listed_events, sums_list}
 use Rattle.zoom_and_rotation.proofs.Idle.{rotation_loop}
 use Rattle.zoom_and_rotation.proofs.rotation_of.Goals as goal
 

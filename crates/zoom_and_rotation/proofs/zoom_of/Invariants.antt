@@ -1,11 +1,8 @@
 use Prim.Native.Nat.{◌-◌, ◌≤◌}
-use mathlib.Core.Path.{◌≡◌, sym, ◌∙◌}
-use native.Mathlib.Omega.{arith}
-use borrow.Author.Rules.{rules}
+use mathlib.Core.Path.{◌≡◌}
 use Rattle.model.specs.Numbers.{one}
 use Rattle.model.specs.Pass.{zoom_of}
 use Rattle.event_loop.specs.Lists.{listed_events, sums_list}
-use Rattle.zoom_and_rotation.proofs.Idle.{zoom_loop}
 use Rattle.zoom_and_rotation.proofs.zoom_of.Given as goal
 
 abbrev pub invariant-loop-i : goal.invariant-loop-i

@@ -1,5 +1,4 @@
 use Prim.Native.Nat.{◌%◌}
-use mathlib.Core.Path.{◌≡◌, refl}
 use Rattle.zoom_factor.specs.Series.{below_zero}
 use borrow.Author.Tests.{eq-eqb, ne_eqb}
 use Rattle.zoom_factor.proofs.minus_part.Goals as goal

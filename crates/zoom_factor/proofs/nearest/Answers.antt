@@ -3,7 +3,6 @@ use native.Mathlib.Omega.{arith}
 use lib.Dec.{le→leb}
 use lib.Ieee.{in_float}
 use Rattle.zoom_factor.proofs.Patterns.{scaled}
-use borrow.Author.Rules.{rules}
 use Rattle.zoom_factor.proofs.nearest.Goals as goal
 
 pub int_to_float-result : goal.int_to_float-result

@@ -1,5 +1,3 @@
-use native.Mathlib.Omega.{arith}
-use borrow.Author.Rules.{rules}
 use Rattle.zoom_factor.proofs.Patterns.{below, moved}
 use Rattle.zoom_factor.proofs.units.Goals as goal
 

@@ -4,7 +4,6 @@ use native.Mathlib.Omega.{arith}
 use mathlib.Core.Bool.{Bool, true, false, not, ◌&&◌}
 use lib.Dec.{T}
 use lib.Ieee.{Float, binary32, fits, le, neg, of_bits}
-use borrow.Author.Rules.{rules}
 use Rattle.zoom_factor.specs.Answer.{unit_sized}
 use Rattle.zoom_factor.proofs.Errors.{itself}
 use Rattle.zoom_factor.proofs.Exponent.{number, pattern_small, answer}

@@ -1,5 +1,4 @@
 use Rattle.data.specs.Sense.{sense_or}
-use borrow.Author.Rules.{rules}
 use Rattle.data.proofs.sense.bitor.Goals as goal
 
 pub returns : goal.returns

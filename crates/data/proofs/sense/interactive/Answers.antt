@@ -1,5 +1,4 @@
 use Rattle.data.specs.Sense.{interactive}
-use borrow.Author.Rules.{rules}
 use Rattle.data.proofs.sense.interactive.Goals as goal
 
 pub returns : goal.returns

@@ -1,7 +1,6 @@
 use borrow.Author.Tests.{lt-ltb, le-ltb}
 use Rattle.emath_history.specs.Ring.{grown}
 use Rattle.emath_history.proofs.Samples.{place_next}
-use borrow.Author.Rules.{rules}
 use Rattle.emath_history.proofs.history.grown.Goals as goal
 
 pub returns-then-h-lt-MAX_LEN : goal.returns-then-h-lt-MAX_LEN

@@ -1,6 +1,5 @@
 use Rattle.emath_history.specs.Ring.{position_at}
 use mathlib.Core.Path.{refl}
-use borrow.Author.Rules.{rules}
 use Rattle.emath_history.proofs.history.position_at.Goals as goal
 
 pub returns : goal.returns

@@ -1,5 +1,4 @@
 use Rattle.event_loop.specs.Shaped.{event_or_other}
-use borrow.Author.Rules.{rules}
 use Rattle.event_readers.proofs.readers.event_or_other.Goals as goal
 
 pub returns-in-None : goal.returns-in-None

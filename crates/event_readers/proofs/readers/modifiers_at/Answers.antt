@@ -4,7 +4,6 @@ use Rattle.data.specs.Kinds.{modifiers_kind}
 use Rattle.feed.specs.Shape.{shape_by_kind}
 use Rattle.event_loop.proofs.Walk.{at_past}
 use Rattle.event_readers.proofs.KnownKind.{whole_as}
-use borrow.Author.Rules.{rules}
 use Rattle.event_readers.proofs.readers.modifiers_at.Goals as goal
 
 pub returns-then-at-feed : goal.returns-then-at-feed

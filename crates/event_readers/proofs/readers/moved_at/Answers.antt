@@ -5,7 +5,6 @@ use Rattle.feed.specs.Shape.{shape_by_kind}
 use Rattle.event_loop.proofs.Walk.{at_past}
 use Rattle.event_readers.proofs.KnownKind.{whole_as, short_as}
 use Rattle.feed.proofs.Words.{word_after}
-use borrow.Author.Rules.{rules}
 use Rattle.event_readers.proofs.readers.moved_at.Goals as goal
 
 pub returns-then-feed-at-gt2 : goal.returns-then-feed-at-gt2

@@ -4,7 +4,6 @@ use Rattle.data.specs.Kinds.{touch_kind}
 use Rattle.feed.specs.Shape.{shape_by_kind}
 use Rattle.event_loop.proofs.Walk.{at_past}
 use Rattle.event_readers.proofs.KnownKind.{whole_as, short_as}
-use borrow.Author.Rules.{rules}
 use Rattle.event_readers.proofs.readers.touch_at.Goals as goal
 
 pub returns-then-n-feed : goal.returns-then-n-feed

@@ -1,6 +1,5 @@
 use Rattle.feed.specs.Shape.{id_of}
 use mathlib.Core.Path.{refl}
-use borrow.Author.Rules.{rules}
 use Rattle.feed.proofs.fields.id_of.Goals as goal
 
 pub returns : goal.returns

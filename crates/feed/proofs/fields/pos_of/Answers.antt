@@ -1,5 +1,4 @@
 use Rattle.feed.specs.Shape.{pos_of}
-use borrow.Author.Rules.{rules}
 use Rattle.feed.proofs.fields.pos_of.Goals as goal
 
 pub returns : goal.returns

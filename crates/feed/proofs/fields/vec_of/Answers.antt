@@ -1,5 +1,4 @@
 use Rattle.feed.specs.Shape.{vec_of}
-use borrow.Author.Rules.{rules}
 use Rattle.feed.proofs.fields.vec_of.Goals as goal
 
 pub returns : goal.returns

@@ -2,7 +2,6 @@ use native.Mathlib.Omega.{arith}
 use Rattle.feed.specs.Split.{kind, following}
 use Rattle.feed.proofs.Lengths.{length_le}
 use borrow.Author.Tests.{ne_eqb}
-use borrow.Author.Rules.{rules}
 use Rattle.feed.proofs.split.following.Goals as goal
 
 pub overflow_cast-n : goal.overflow_cast-n

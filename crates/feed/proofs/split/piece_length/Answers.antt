@@ -1,7 +1,6 @@
 use native.Mathlib.Omega.{arith}
 use Rattle.feed.specs.Split.{piece_length}
 use Rattle.feed.proofs.Lengths.{following_le}
-use borrow.Author.Rules.{rules}
 use Rattle.feed.proofs.split.piece_length.Goals as goal
 
 pub overflow_add-result : goal.overflow_add-result

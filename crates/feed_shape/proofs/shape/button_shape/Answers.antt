@@ -2,7 +2,6 @@ use Rattle.feed.specs.Shape.{field_below}
 use Rattle.feed.specs.Shape.{clean}
 use Rattle.feed.specs.Shape.{button_shape}
 use borrow.Author.Tests.{le-ltb, lt-ltb}
-use borrow.Author.Rules.{rules}
 use Rattle.feed_shape.proofs.shape.button_shape.Goals as goal
 
 pub returns-then-number-lt-BUTTON_COUNT : goal.returns-then-number-lt-BUTTON_COUNT

@@ -1,7 +1,6 @@
 use Rattle.feed.specs.Shape.{clean}
 use Rattle.feed.specs.Shape.{modifiers_shape}
 use borrow.Author.Tests.{le-ltb, lt-ltb}
-use borrow.Author.Rules.{rules}
 use Rattle.feed_shape.proofs.shape.modifiers_shape.Goals as goal
 
 pub returns-then-low-lt32 : goal.returns-then-low-lt32

@@ -1,5 +1,4 @@
 use Rattle.feed.specs.Shape.{motion_shape}
-use borrow.Author.Rules.{rules}
 use Rattle.feed_shape.proofs.shape.motion_shape.Goals as goal
 
 pub returns : goal.returns

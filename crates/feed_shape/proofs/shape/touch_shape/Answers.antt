@@ -1,13 +1,9 @@
 use mathlib.Core.Path.{◌≡◌}
 use mathlib.Core.List.{List}
-use Prim.Native.Nat.{ℕ, suc, ◌+◌, ◌*◌, ◌/◌, ◌%◌, ◌≤◌, ◌<◌}
+use Prim.Native.Nat.{ℕ, suc, ◌+◌, ◌/◌, ◌%◌, ◌<◌}
 use native.Mathlib.Omega.{arith}
-use lib.Dec.{lit≤}
 use lib.Ieee.{Float}
-use lib.ListN.{get_or, length, drop}
-use mir.Syntax.{w64}
-use mir.Val.{Fits}
-use borrow.Author.Rules.{scaled_Fits}
+use lib.ListN.{get_or, drop}
 use borrow.Author.Tests.{le-ltb, lt-ltb, ne_eqb}
 use Rattle.emath.specs.declared.pos2.Pos2.{Pos2}
 use Rattle.data.specs.declared.event.Event.TheVariants.{Touch}

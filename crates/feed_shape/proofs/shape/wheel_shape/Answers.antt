@@ -2,7 +2,6 @@ use Rattle.feed.specs.Shape.{field_below}
 use Rattle.feed.specs.Shape.{clean}
 use Rattle.feed.specs.Shape.{wheel_shape}
 use borrow.Author.Tests.{le-ltb, lt-ltb}
-use borrow.Author.Rules.{rules}
 use Rattle.feed_shape.proofs.shape.wheel_shape.Goals as goal
 
 pub returns-then-number-lt-UNIT_COUNT : goal.returns-then-number-lt-UNIT_COUNT

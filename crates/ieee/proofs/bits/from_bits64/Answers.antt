@@ -1,4 +1,4 @@
-use Rattle.std.proofs.Common.{sym, ◌∙◌, rules}
+use Rattle.std.proofs.Common.{sym, ◌∙◌}
 use lib.Ieee.{binary64}
 use Rattle.ieee.proofs.Decode.{nan_pattern, pattern_no_nan, zero_by_zero}
 use Rattle.ieee.proofs.bits.from_bits64.Goals as goal

@@ -1,4 +1,4 @@
-use Rattle.std.proofs.Common.{T, sym, subst, rules}
+use Rattle.std.proofs.Common.{T, sym, subst}
 use lib.Ieee.{binary32}
 use Rattle.ieee.proofs.Decode.{no_nan, nan_written}
 use Rattle.ieee.proofs.bits.to_bits32.Goals as goal

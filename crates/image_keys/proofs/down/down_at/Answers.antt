@@ -2,7 +2,6 @@ use Rattle.image_keys.proofs.Bits.{set_bit}
 use Rattle.image_keys.specs.Keys.{down_code, down_place}
 use Rattle.image.specs.Places.{value_at, span}
 use mathlib.Core.Path.{◌∙◌}
-use borrow.Author.Rules.{rules}
 use Rattle.image_keys.proofs.down.down_at.Goals as goal
 
 pub returns : goal.returns

@@ -1,6 +1,5 @@
 use Rattle.image_keys.proofs.Bits.{down_list, down_in}
 use Rattle.key_state.specs.View.{down_of}
-use borrow.Author.Rules.{rules}
 use Rattle.image_keys.proofs.down.down_words.Goals as goal
 
 pub returns : goal.returns

@@ -3,7 +3,6 @@ use Rattle.image.specs.Codes.{write, size}
 use Rattle.image_keys.proofs.Bits.{down_in}
 use Rattle.key_state.specs.View.{down_of}
 use Rattle.image_options.proofs.Trip.{boolean_in, modifiers_in}
-use borrow.Author.Rules.{rules}
 use Rattle.image_keys.proofs.group.head_words.Goals as goal
 
 pub returns : goal.returns

@@ -1,6 +1,5 @@
 use Rattle.image.specs.Places.{bad_at, span}
 use Rattle.image.specs.Codes.{size}
-use borrow.Author.Rules.{rules}
 use Rattle.image_keys.proofs.group.keys_bad.Goals as goal
 
 pub returns : goal.returns

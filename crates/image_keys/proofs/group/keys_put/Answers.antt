@@ -5,7 +5,6 @@ use lib.Seq.{sets}
 use mathlib.Core.List.{List}
 use mathlib.Core.Path.{refl, ap, ◌∙◌}
 use Prim.Native.Nat.{ℕ}
-use borrow.Author.Rules.{rules}
 use Rattle.image_keys.proofs.group.keys_put.Goals as goal
 
 pub returns : goal.returns

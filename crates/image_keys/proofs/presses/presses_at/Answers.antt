@@ -3,12 +3,10 @@ use Rattle.image_keys.specs.Keys.{press_code}
 use Rattle.data.specs.Limits.{key_count}
 use Rattle.image.specs.Places.{value_at, rows_at}
 use lib.Seq.{take_all}
-use lib.ListN.{length, take, length-set}
+use lib.ListN.{length-set}
 use mathlib.Core.Path.{◌≡◌, refl, sym, ap, ◌∙◌}
-use mathlib.Core.List.{List}
 use native.Mathlib.Omega.{arith}
-use borrow.Author.Rules.{rules}
-use Prim.Native.Nat.{ℕ, ◌≤◌, ◌<◌, ◌-◌, ◌%◌}
+use Prim.Native.Nat.{ℕ, ◌<◌, ◌%◌}
 use Rattle.image_keys.proofs.presses.presses_at.Goals as goal
 
 pub loop-i-init : goal.loop-i-init

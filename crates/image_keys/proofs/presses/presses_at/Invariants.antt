@@ -1,14 +1,8 @@
-use Rattle.image_keys.proofs.Rows.{byte_of, read_more}
 use Rattle.image_keys.specs.Keys.{press_code}
-use Rattle.data.specs.Limits.{key_count}
 use Rattle.image.specs.Places.{value_at, rows_at}
-use lib.Seq.{take_all}
-use lib.ListN.{length, take, length-set}
-use mathlib.Core.Path.{◌≡◌, refl, sym, ap, ◌∙◌}
-use mathlib.Core.List.{List}
-use native.Mathlib.Omega.{arith}
-use borrow.Author.Rules.{rules}
-use Prim.Native.Nat.{ℕ, ◌≤◌, ◌<◌, ◌-◌, ◌%◌}
+use lib.ListN.{length, take}
+use mathlib.Core.Path.{◌≡◌}
+use Prim.Native.Nat.{◌≤◌, ◌-◌}
 use Rattle.image_keys.proofs.presses.presses_at.Given as goal
 
 abbrev pub invariant-loop-i : goal.invariant-loop-i

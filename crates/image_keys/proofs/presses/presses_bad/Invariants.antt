@@ -1,11 +1,8 @@
 use Rattle.image_keys.specs.Keys.{press_code}
 use Rattle.image_words.specs.Leaves.{found}
 use Rattle.image.specs.Places.{or_else, bad_at, rows_bad}
-use Rattle.image.proofs.Lists.{check_row, check_end}
-use mathlib.Core.Path.{◌≡◌, refl, sym, ◌∙◌}
+use mathlib.Core.Path.{◌≡◌}
 use Prim.Native.Nat.{◌+◌}
-use native.Mathlib.Omega.{arith}
-use borrow.Author.Rules.{rules}
 use Rattle.image_keys.proofs.presses.presses_bad.Given as goal
 
 abbrev pub invariant-loop-left : goal.invariant-loop-left

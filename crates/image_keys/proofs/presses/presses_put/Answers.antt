@@ -3,12 +3,9 @@ use Rattle.image_keys.proofs.Rows.{each_take}
 use Rattle.image_keys.specs.Keys.{press_code}
 use Rattle.image.specs.Codes.{In, Each}
 use lib.Seq.{sets, length-sets, take_all}
-use lib.ListN.{length, take}
+use lib.ListN.{take}
 use mathlib.Core.Path.{◌≡◌, refl, ap, subst, ◌∙◌}
-use mathlib.Core.List.{List}
 use native.Mathlib.Omega.{arith}
-use borrow.Author.Rules.{rules}
-use Prim.Native.Nat.{ℕ, ◌≤◌, ◌-◌}
 use Rattle.image_keys.proofs.presses.presses_put.Goals as goal
 
 pub loop-i-init : goal.loop-i-init

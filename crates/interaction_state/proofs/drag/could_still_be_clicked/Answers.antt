@@ -1,5 +1,4 @@
 use Rattle.model.specs.Interact.{could_still_be_clicked}
-use borrow.Author.Rules.{rules}
 use Rattle.interaction_state.proofs.drag.could_still_be_clicked.Goals as goal
 
 pub returns : goal.returns

@@ -2,9 +2,7 @@ use Rattle.model.specs.Interact.{get, widget_id}
 use mathlib.Core.Path.{sym, ◌∙◌, ap}
 use Rattle.id_set.specs.Ids.{option_of}
 use Rattle.interaction_state.specs.Types.{Found}
-use Rattle.interaction_state.specs.Lookup.{found_of}
 use Rattle.interaction_state.proofs.Looked.{looked_up, known_is, unknown_is}
-use borrow.Author.Rules.{rules}
 use Rattle.interaction_state.proofs.lookup.known_id.Goals as goal
 
 pub returns-then-f : goal.returns-then-f

@@ -2,7 +2,6 @@ use mathlib.Core.Path.{sym, ◌∙◌}
 use native.Mathlib.Omega.{arith}
 use Rattle.interaction_state.specs.Lookup.{at_entry, lookup, found_of}
 use Rattle.interaction_state.proofs.Looked.{entry_there}
-use borrow.Author.Rules.{rules}
 use Rattle.interaction_state.proofs.lookup.look_up.Goals as goal
 
 pub returns-then-e-eq0 : goal.returns-then-e-eq0

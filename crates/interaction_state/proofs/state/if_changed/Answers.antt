@@ -1,6 +1,5 @@
 use Rattle.model.specs.Interact.{if_changed}
 use Rattle.id_set.specs.Ids.{option_of}
-use borrow.Author.Rules.{rules}
 use Rattle.interaction_state.proofs.state.if_changed.Goals as goal
 
 pub returns-then-same_id : goal.returns-then-same_id

@@ -1,6 +1,5 @@
 use Rattle.model.specs.Interact.{same_id}
 use Rattle.id_set.specs.Ids.{option_of}
-use borrow.Author.Rules.{rules}
 use Rattle.interaction_state.proofs.state.is_none.Goals as goal
 
 pub returns-in-None : goal.returns-in-None

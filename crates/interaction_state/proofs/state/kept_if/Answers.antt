@@ -1,6 +1,5 @@
 use Rattle.model.specs.Interact.{kept_if}
 use Rattle.id_set.specs.Ids.{option_of}
-use borrow.Author.Rules.{rules}
 use Rattle.interaction_state.proofs.state.kept_if.Goals as goal
 
 pub returns-then-keep : goal.returns-then-keep

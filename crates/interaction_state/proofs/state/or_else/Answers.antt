@@ -1,6 +1,5 @@
 use Rattle.model.specs.Pass.{or_else}
 use Rattle.id_set.specs.Ids.{option_of}
-use borrow.Author.Rules.{rules}
 use Rattle.interaction_state.proofs.state.or_else.Goals as goal
 
 pub returns-in-None : goal.returns-in-None

@@ -1,4 +1,3 @@
-use borrow.Author.Rules.{rules}
 use Rattle.interaction_state.proofs.state.same_id.Goals as goal
 
 pub returns-in-None : goal.returns-in-None

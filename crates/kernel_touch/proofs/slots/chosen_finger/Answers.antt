@@ -1,11 +1,10 @@
 use Prim.Native.Nat.{◌<◌}
-use mathlib.Core.Path.{◌≡◌, ap}
+use mathlib.Core.Path.{◌≡◌}
 use native.Mathlib.Omega.{arith}
-use lib.ListN.{length, length-map}
+use lib.ListN.{length}
 use Rattle.kernel_values.specs.Value.{max_slots}
 use Rattle.kernel_touch.proofs.SlotList.{finger_is, no_finger_is}
 use Rattle.kernel_touch.specs.Slots.{chosen_finger, no_finger}
-use borrow.Author.Rules.{rules}
 use Rattle.kernel_touch.proofs.slots.chosen_finger.Goals as goal
 
 pub returns-then-at-lt-MAX_SLOTS : goal.returns-then-at-lt-MAX_SLOTS

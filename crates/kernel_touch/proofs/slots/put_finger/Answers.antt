@@ -1,13 +1,12 @@
 use Prim.Native.Nat.{◌<◌}
 use mathlib.Core.Path.{◌≡◌, ap}
 use native.Mathlib.Omega.{arith}
-use lib.ListN.{length, length-map}
+use lib.ListN.{length}
 use Rattle.kernel_values.specs.Value.{max_slots}
 use Rattle.kernel_touch.proofs.SlotList.{put_is, put_nothing}
 use mathlib.Core.List.{List}
 use Rattle.kernel_touch.specs.declared.slots.Slot.{Slot}
 use Rattle.kernel_touch.specs.Slots.{put_finger}
-use borrow.Author.Rules.{rules}
 use Rattle.kernel_touch.proofs.slots.put_finger.Goals as goal
 
 pub returns-then-at-lt-MAX_SLOTS : goal.returns-then-at-lt-MAX_SLOTS

@@ -1,6 +1,5 @@
 use mir.Facts.{to_z-of_z}
 use Rattle.kernel_touch.specs.Slots.{with_x}
-use borrow.Author.Rules.{rules}
 use Rattle.kernel_touch.proofs.slots.set_x.Goals as goal
 
 pub returns : goal.returns

@@ -1,12 +1,12 @@
-use Prim.Native.Nat.{◌<◌, ◌≤◌, ◌-◌}
+use Prim.Native.Nat.{◌<◌}
 use mathlib.Core.Path.{◌≡◌, refl, sym, ◌∙◌}
 use mathlib.Core.List.{map}
 use native.Mathlib.Numerals.{add-one}
 use native.Mathlib.Omega.{arith}
-use lib.ListN.{length, length-map, length-set}
+use lib.ListN.{length, length-set}
 use Rattle.kernel_values.specs.Value.{max_slots}
 use Rattle.kernel_touch.specs.Slots.{settle, settled}
-use Rattle.kernel_touch.proofs.SlotList.{settled_from, from_first, from_next, from_last}
+use Rattle.kernel_touch.proofs.SlotList.{from_first, from_next, from_last}
 use Rattle.kernel_touch.proofs.slots.settle.Goals as goal
 
 pub loop-i-init : goal.loop-i-init

@@ -1,12 +1,10 @@
-use Prim.Native.Nat.{◌<◌, ◌≤◌, ◌-◌}
-use mathlib.Core.Path.{◌≡◌, refl, sym, ◌∙◌}
+use Prim.Native.Nat.{◌≤◌, ◌-◌}
+use mathlib.Core.Path.{◌≡◌}
 use mathlib.Core.List.{map}
-use native.Mathlib.Numerals.{add-one}
-use native.Mathlib.Omega.{arith}
-use lib.ListN.{length, length-map, length-set}
+use lib.ListN.{length}
 use Rattle.kernel_values.specs.Value.{max_slots}
-use Rattle.kernel_touch.specs.Slots.{settle, settled}
-use Rattle.kernel_touch.proofs.SlotList.{settled_from, from_first, from_next, from_last}
+use Rattle.kernel_touch.specs.Slots.{settle}
+use Rattle.kernel_touch.proofs.SlotList.{settled_from}
 use Rattle.kernel_touch.proofs.slots.settle.Given as goal
 
 -- the slots before i are settled; nothing else changed

@@ -1,7 +1,6 @@
 use mathlib.Core.Path.{sym, ap, ◌∙◌}
 use mathlib.Core.Bool.{Bool, cond}
 use Rattle.kernel_touch.specs.Step.{after, skipped, done}
-use borrow.Author.Rules.{rules}
 use Rattle.kernel_touch.proofs.step.after.Goals as goal
 
 pub returns-then-k : goal.returns-then-k

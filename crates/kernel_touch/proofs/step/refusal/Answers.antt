@@ -1,5 +1,4 @@
 use Rattle.kernel_touch.specs.Step.{refusal}
-use borrow.Author.Rules.{rules}
 use Rattle.kernel_touch.proofs.step.refusal.Goals as goal
 
 pub returns-then-k : goal.returns-then-k

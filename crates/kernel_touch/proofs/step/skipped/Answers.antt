@@ -1,5 +1,4 @@
 use Rattle.kernel_touch.specs.Step.{skipped}
-use borrow.Author.Rules.{rules}
 use Rattle.kernel_touch.proofs.step.skipped.Goals as goal
 
 pub returns-then-is_end : goal.returns-then-is_end

@@ -1,6 +1,4 @@
 use Rattle.key_state.proofs.Members.{bit_is}
-use lib.Pow.{pow_pos}
-use borrow.Author.Rules.{rules}
 use Rattle.key_state.proofs.bits.bit.Goals as goal
 
 pub returns : goal.returns

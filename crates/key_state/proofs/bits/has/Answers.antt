@@ -1,7 +1,6 @@
 use mathlib.Core.Path.{sym}
 use Rattle.key_state.specs.Bits.{has}
 use Rattle.key_state.proofs.Members.{beyond}
-use borrow.Author.Tests.{le-ltb, lt-ltb}
 use borrow.Author.Rules.{rules}
 use Rattle.key_state.proofs.bits.has.Goals as goal
 

@@ -1,5 +1,4 @@
 use Rattle.key_state.proofs.Members.{shifted}
-use borrow.Author.Rules.{rules}
 use Rattle.key_state.proofs.bits.power.Goals as goal
 
 pub returns : goal.returns

@@ -3,7 +3,6 @@ use Prim.Native.Nat.{◌+◌, ◌^◌, ◌<◌}
 use mathlib.Core.Path.{sym, ◌∙◌}
 use Rattle.key_state.proofs.Members.{at_least, room}
 use Rattle.key_state.specs.Bits.{word_with}
-use borrow.Author.Rules.{rules}
 use Rattle.key_state.proofs.bits.word_with.Goals as goal
 
 pub returns-then-present : goal.returns-then-present

@@ -1,6 +1,5 @@
 use Rattle.key_state.specs.View.{one_more}
 use borrow.Author.Tests.{le-ltb, lt-ltb}
-use borrow.Author.Rules.{rules}
 use Rattle.key_state.proofs.keys.count_press.Goals as goal
 
 pub returns-then-n-lt255 : goal.returns-then-n-lt255

@@ -1,6 +1,5 @@
 use Rattle.key_state.proofs.Steps.{unfocused}
-use Rattle.model.specs.Pass.{key_event, no_keys}
-use borrow.Author.Rules.{rules}
+use Rattle.model.specs.Pass.{key_event}
 use Rattle.key_state.proofs.keys.focus.Goals as goal
 
 pub returns-then-focused : goal.returns-then-focused

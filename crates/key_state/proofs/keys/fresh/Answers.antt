@@ -1,5 +1,4 @@
 use Rattle.key_state.proofs.Steps.{fresh_is}
-use borrow.Author.Rules.{rules}
 use Rattle.key_state.proofs.keys.fresh.Goals as goal
 
 pub returns : goal.returns

@@ -6,7 +6,6 @@ use Rattle.event_loop.proofs.OfKind.{not_of_kind, is_other, fields}
 use Rattle.key_state.proofs.Steps.{named_below}
 use native.Mathlib.Omega.{arith}
 use mathlib.Core.Path.{refl, sym, ◌∙◌}
-use borrow.Author.Rules.{rules}
 use Rattle.key_state.proofs.keys.key_at.Goals as goal
 
 pub returns-in_default : goal.returns-in_default

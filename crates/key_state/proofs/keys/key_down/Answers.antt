@@ -1,5 +1,4 @@
 use borrow.Author.Tests.{le-ltb, lt-ltb}
-use borrow.Author.Rules.{rules}
 use Rattle.key_state.proofs.keys.key_down.Goals as goal
 
 pub returns-then-key-lt-KEY_COUNT : goal.returns-then-key-lt-KEY_COUNT

@@ -1,4 +1,3 @@
-use borrow.Author.Rules.{rules}
 use Rattle.key_state.proofs.keys.key_pressed.Goals as goal
 
 pub returns : goal.returns

@@ -1,14 +1,13 @@
-use Prim.Native.Nat.{ℕ, ◌-◌, ◌≤◌}
+use Prim.Native.Nat.{ℕ}
 use mathlib.Core.Path.{◌≡◌, refl, sym, ap, ◌∙◌}
 use native.Mathlib.Omega.{arith}
-use borrow.Author.Rules.{rules}
 use lib.ListN.{length, replicate, length-replicate}
 use Rattle.data.specs.Limits.{key_count}
 use Rattle.model.specs.Pass.{is_empty, key_events}
 use Rattle.model.specs.Pass as Shown
 use Rattle.event_loop.specs.Shaped.{shaped_events}
 use Rattle.event_loop.specs.Lists.{listed_events, keys_list}
-use Rattle.key_state.specs.View.{presses_of, keys, begun}
+use Rattle.key_state.specs.View.{keys, begun}
 use Rattle.key_state.proofs.Idle.{key_loop}
 use Rattle.key_state.proofs.Steps.{cleared, no_more, start, more, all_numbers}
 use Rattle.key_state.proofs.keys.keys_pass.Goals as goal

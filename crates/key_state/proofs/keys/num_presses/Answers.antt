@@ -1,5 +1,4 @@
 use borrow.Author.Tests.{lt-ltb, le-ltb}
-use borrow.Author.Rules.{rules}
 use Rattle.data.specs.Limits.{key_count}
 use Rattle.key_state.proofs.keys.num_presses.Goals as goal
 

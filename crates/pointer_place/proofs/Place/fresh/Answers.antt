@@ -1,4 +1,3 @@
-use borrow.Author.Rules.{rules}
 use Rattle.model.specs.Pass.{fresh_place}
 use Rattle.pointer_place.proofs.Place.fresh.Goals as goal
 

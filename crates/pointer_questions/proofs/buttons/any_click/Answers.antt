@@ -1,6 +1,5 @@
 use Rattle.model.specs.Questions.{reply}
 use Rattle.pointer_events.specs.Events.{asks}
-use borrow.Author.Rules.{rules}
 use Rattle.pointer_questions.proofs.buttons.any_click.Goals as goal
 
 pub returns : goal.returns

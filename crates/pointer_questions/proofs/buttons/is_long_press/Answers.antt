@@ -1,5 +1,4 @@
 use Rattle.model.specs.Pointer.{is_long_press}
-use borrow.Author.Rules.{rules}
 use Rattle.pointer_questions.proofs.buttons.is_long_press.Goals as goal
 
 pub returns-then-p : goal.returns-then-p

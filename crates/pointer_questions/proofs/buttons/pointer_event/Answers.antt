@@ -1,4 +1,3 @@
-use borrow.Author.Rules.{rules}
 use Rattle.pointer_questions.proofs.buttons.pointer_event.Goals as goal
 
 pub returns : goal.returns

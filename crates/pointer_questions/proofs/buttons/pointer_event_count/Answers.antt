@@ -1,6 +1,5 @@
 use mathlib.Core.Path.{sym, ◌∙◌}
 use Rattle.pointer_events.proofs.Stored.{events_length}
-use borrow.Author.Rules.{rules}
 use Rattle.pointer_questions.proofs.buttons.pointer_event_count.Goals as goal
 
 pub returns : goal.returns

@@ -1,5 +1,4 @@
 use Rattle.model.specs.Questions.{ask}
-use borrow.Author.Rules.{rules}
 use Rattle.pointer_questions.proofs.buttons.time_since_last_click.Goals as goal
 
 pub returns : goal.returns

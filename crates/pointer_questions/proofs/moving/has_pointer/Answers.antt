@@ -1,6 +1,5 @@
 use Rattle.model.specs.Interact.{has_pos}
 use Rattle.model.specs.Questions.{reply}
-use borrow.Author.Rules.{rules}
 use Rattle.pointer_questions.proofs.moving.has_pointer.Goals as goal
 
 pub returns-in-None : goal.returns-in-None

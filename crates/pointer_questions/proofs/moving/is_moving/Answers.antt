@@ -1,5 +1,4 @@
 use Rattle.model.specs.Questions.{reply}
-use borrow.Author.Rules.{rules}
 use Rattle.pointer_questions.proofs.moving.is_moving.Goals as goal
 
 pub returns : goal.returns

@@ -1,5 +1,4 @@
 use Rattle.model.specs.Questions.{ask, since}
-use borrow.Author.Rules.{rules}
 use Rattle.pointer_questions.proofs.moving.time_since_last_movement.Goals as goal
 
 pub returns-in-None : goal.returns-in-None

@@ -1,5 +1,4 @@
 use Rattle.model.specs.Questions.{reply, drag_delta}
-use borrow.Author.Rules.{rules}
 use Rattle.pointer_questions.proofs.moving.total_drag_delta.Goals as goal
 
 pub returns-in-None : goal.returns-in-None

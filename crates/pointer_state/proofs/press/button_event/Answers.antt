@@ -1,4 +1,3 @@
-use borrow.Author.Rules.{rules}
 use Rattle.pointer_state.proofs.press.button_event.Goals as goal
 
 pub returns-then-is_pressed : goal.returns-then-is_pressed

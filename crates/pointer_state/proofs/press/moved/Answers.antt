@@ -1,6 +1,5 @@
 use Rattle.model.specs.Pointer.{press_event, add_event, with_moved}
 use Rattle.pointer_events.proofs.Stored.{pushed_room, codes_written, positions_written}
-use borrow.Author.Rules.{rules}
 use Rattle.pointer_state.proofs.press.moved.Goals as goal
 
 pub returns : goal.returns

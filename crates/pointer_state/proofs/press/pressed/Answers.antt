@@ -1,6 +1,5 @@
 use Rattle.model.specs.Pointer.{press_event, press_button, with_moved}
 use Rattle.pointer_events.proofs.Stored.{pushed_room, codes_written, positions_written}
-use borrow.Author.Rules.{rules}
 use Rattle.pointer_state.proofs.press.pressed.Goals as goal
 
 pub returns : goal.returns

@@ -1,7 +1,6 @@
 use Rattle.model.specs.Pointer.{press_event, release, release_button}
 use Rattle.pointer_events.proofs.Stored.{pushed_room, codes_written, positions_written}
 use mathlib.Core.Path.{◌∙◌}
-use borrow.Author.Rules.{rules}
 use Rattle.pointer_state.proofs.press.released.Goals as goal
 
 pub returns : goal.returns

@@ -1,5 +1,5 @@
-use Prim.Native.Nat.{suc, ◌+◌, ◌-◌, ◌*◌, ◌≤◌}
-use mathlib.Core.Path.{◌≡◌, refl, sym, ◌∙◌}
+use Prim.Native.Nat.{suc, ◌+◌, ◌-◌, ◌*◌}
+use mathlib.Core.Path.{◌≡◌, sym, ◌∙◌}
 use native.Mathlib.Omega.{arith}
 use borrow.Author.Rules.{rules}
 use mathlib.Core.List.{[]}
@@ -11,7 +11,7 @@ use Rattle.event_loop.proofs.OfKind.{list_small}
 use Rattle.feed.proofs.Steps.{steps}
 use Rattle.feed_check.proofs.Found.{good_at, malformed_at, outside_at}
 use Rattle.survey.specs.Survey.{option}
-use Rattle.survey.proofs.Places.{Reads, reads_first, fits, reads_more, read_done, over_is, malformed_is, outside_is, none_is, none_some}
+use Rattle.survey.proofs.Places.{reads_first, fits, reads_more, read_done, over_is, malformed_is, outside_is, none_is, none_some}
 use Rattle.survey.proofs.reading.read.Goals as goal
 
 pub loop-at-init : goal.loop-at-init

@@ -1,15 +1,10 @@
-use Prim.Native.Nat.{ℕ, ◌+◌, ◌-◌, ◌≤◌}
+use Prim.Native.Nat.{◌+◌}
 use mathlib.Core.Path.{◌≡◌, refl, sym, ◌∙◌}
 use mathlib.Core.Option.{some}
 use native.Mathlib.Omega.{arith}
-use borrow.Author.Rules.{rules}
-use lib.ListN.{length, length-map}
-use Rattle.touch_device.specs.declared.Device.{Device}
-use Rattle.touch_state.specs.declared.devices.Devices.{Devices}
-use Rattle.touch_state.specs.View.{view, fits_touch}
+use lib.ListN.{length}
+use Rattle.touch_state.specs.View.{view}
 use Rattle.model.specs.Types.{NoPlace}
-use Rattle.model.specs.Pass.{crowded}
-use Rattle.event_loop.specs.Shaped.{shaped_at}
 use Rattle.event_loop.specs.Lists.{touch_list, listed}
 use Rattle.survey.specs.Survey.{option, crowd_then}
 use Rattle.survey.proofs.Places.{Holds, holds_first, holds_more, no_place_at, holds_last, none_some, not_crowded, fits_idle}

@@ -1,4 +1,3 @@
-use borrow.Author.Rules.{rules}
 use borrow.Author.Tests.{lt-ltb, le-ltb}
 use Rattle.touch_crowd.proofs.crowd.is_crowded.Goals as goal
 

@@ -4,7 +4,6 @@ use Rattle.touch_crowd.specs.Touch.{touch_of}
 use Rattle.survey.proofs.Places.{no_event_9}
 use Rattle.touch_crowd.proofs.TouchOf.{no_touch_of}
 use mathlib.Core.Path.{sym, ◌∙◌}
-use borrow.Author.Rules.{rules}
 use Rattle.touch_crowd.proofs.touch.touch_event_at.Goals as goal
 
 pub returns-in_default : goal.returns-in_default

@@ -1,4 +1,3 @@
-use borrow.Author.Rules.{rules}
 use Rattle.model.specs.Touch.{info, info_of}
 use Rattle.touch_device.proofs.info.info.Goals as goal
 

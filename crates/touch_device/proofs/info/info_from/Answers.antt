@@ -1,5 +1,4 @@
 use Rattle.model.specs.Touch.{info_from}
-use borrow.Author.Rules.{rules}
 use Rattle.touch_device.proofs.info.info_from.Goals as goal
 
 pub returns : goal.returns

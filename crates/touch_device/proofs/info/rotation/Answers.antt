@@ -1,5 +1,4 @@
 use Rattle.model.specs.Questions.{rotation_reply}
-use borrow.Author.Rules.{rules}
 use Rattle.touch_device.proofs.info.rotation.Goals as goal
 
 pub returns-in-None : goal.returns-in-None

@@ -1,5 +1,4 @@
 use Rattle.model.specs.Touch.{state_previous}
-use borrow.Author.Rules.{rules}
 use Rattle.touch_device.proofs.info.state_previous.Goals as goal
 
 pub returns-in-None : goal.returns-in-None

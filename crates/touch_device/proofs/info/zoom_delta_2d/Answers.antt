@@ -1,7 +1,6 @@
 use Rattle.model.specs.Touch.{zoom_delta_2d}
 use Rattle.model.specs.Numbers.{one}
 use lib.Ieee.{of_bits}
-use borrow.Author.Rules.{rules}
 use Rattle.touch_device.proofs.info.zoom_delta_2d.Goals as goal
 
 pub returns-in-Horizontal : goal.returns-in-Horizontal

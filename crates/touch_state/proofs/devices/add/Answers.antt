@@ -1,8 +1,7 @@
-use borrow.Author.Rules.{rules}
 use mathlib.Core.Path.{◌≡◌}
 use native.Mathlib.Omega.{arith}
 use Prim.Native.Nat.{◌≤◌}
-use lib.ListN.{length, take, length-take, length-map}
+use lib.ListN.{length, take, length-take}
 use Rattle.touch_state.specs.View.{device_id}
 use Rattle.touches.proofs.Upsert.{place_le}
 use Rattle.touch_state.proofs.Known.{unknown, touched_miss, touched_full}

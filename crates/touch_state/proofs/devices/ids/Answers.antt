@@ -1,6 +1,5 @@
-use borrow.Author.Rules.{rules}
 use mathlib.Core.Path.{◌≡◌}
-use lib.ListN.{length, length-map}
+use lib.ListN.{length}
 use Rattle.touch_state.proofs.Ids.{four}
 use Rattle.touch_state.proofs.devices.ids.Goals as goal
 

@@ -1,10 +1,7 @@
-use Prim.Native.Nat.{◌+◌, ◌-◌, ◌≤◌}
 use mathlib.Core.Path.{◌≡◌, ◌∙◌, sym}
-use borrow.Author.Rules.{rules}
 use borrow.Author.Tests.{eq-eqb, ne_eqb}
 use native.Mathlib.Omega.{arith}
-use lib.ListN.{length, take, drop, length-map}
-use Rattle.touches.specs.Touches.{index}
+use lib.ListN.{length}
 use Rattle.touches.proofs.Places.{index_skips, index_stops, index_ends}
 use Rattle.touch_state.proofs.Ids.{self, index_ids, enough}
 use Rattle.touch_state.proofs.devices.index_of.Goals as goal

@@ -1,12 +1,8 @@
 use Prim.Native.Nat.{◌+◌, ◌-◌, ◌≤◌}
-use mathlib.Core.Path.{◌≡◌, ◌∙◌, sym}
-use borrow.Author.Rules.{rules}
-use borrow.Author.Tests.{eq-eqb, ne_eqb}
-use native.Mathlib.Omega.{arith}
-use lib.ListN.{length, take, drop, length-map}
+use mathlib.Core.Path.{◌≡◌}
+use lib.ListN.{length, take, drop}
 use Rattle.touches.specs.Touches.{index}
-use Rattle.touches.proofs.Places.{index_skips, index_stops, index_ends}
-use Rattle.touch_state.proofs.Ids.{self, index_ids, enough}
+use Rattle.touch_state.proofs.Ids.{self}
 use Rattle.touch_state.proofs.devices.index_of.Given as goal
 
 abbrev pub invariant-loop-i : goal.invariant-loop-i

@@ -1,9 +1,7 @@
-use Prim.Native.Nat.{◌+◌, ◌-◌, ◌≤◌, ◌<◌}
-use mathlib.Core.Path.{◌≡◌, ◌∙◌, refl}
-use borrow.Author.Rules.{rules}
-use native.Mathlib.Omega.{arith}
-use lib.ListN.{length, take, drop, set, length-map, length-set}
-use Rattle.touches.proofs.Places.{first_of, held, held_start, held_step, held_end}
+use Prim.Native.Nat.{◌-◌, ◌≤◌, ◌<◌}
+use mathlib.Core.Path.{◌≡◌}
+use lib.ListN.{length}
+use Rattle.touches.proofs.Places.{held}
 use Rattle.touch_state.proofs.devices.insert_at.Given as goal
 
 abbrev pub invariant-loop-k : goal.invariant-loop-k

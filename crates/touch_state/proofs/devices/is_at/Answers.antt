@@ -1,7 +1,6 @@
-use borrow.Author.Rules.{rules}
 use mathlib.Core.Path.{◌≡◌, ◌∙◌, sym}
 use native.Mathlib.Omega.{arith}
-use lib.ListN.{length, length-take, length-map}
+use lib.ListN.{length, length-take}
 use Rattle.touches.proofs.Upsert.{at_place, at_no}
 use Rattle.touch_state.specs.View.{device_id}
 use Rattle.touch_state.proofs.Ids.{self, at_ids, below}

@@ -1,4 +1,3 @@
-use borrow.Author.Rules.{rules}
 use mathlib.Core.Path.{◌∙◌, sym}
 use Rattle.touch_state.specs.View.{known_at}
 use Rattle.touch_state.proofs.devices.known_at.Goals as goal

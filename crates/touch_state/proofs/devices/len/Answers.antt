@@ -1,6 +1,6 @@
 use mathlib.Core.Path.{◌≡◌}
 use native.Mathlib.Omega.{arith}
-use lib.ListN.{length, length-take, length-map}
+use lib.ListN.{length, length-take}
 use Rattle.touch_state.proofs.devices.len.Goals as goal
 
 pub returns-then-n-lt-MAX_DEVICES : goal.returns-then-n-lt-MAX_DEVICES

@@ -1,9 +1,7 @@
-use borrow.Author.Rules.{rules}
-use mathlib.Core.Path.{◌≡◌, ◌∙◌, refl, sym, ap}
+use mathlib.Core.Path.{◌≡◌, ◌∙◌, sym, ap}
 use native.Mathlib.Omega.{arith}
-use Prim.Native.Nat.{◌+◌, ◌-◌, ◌≤◌, ◌<◌}
-use mathlib.Core.List.{[], map}
-use lib.ListN.{length, take, drop, length-take, length-map, length-set}
+use mathlib.Core.List.{[]}
+use lib.ListN.{length, length-take, length-map}
 use Rattle.model.specs.Types.{no_gesture}
 use Rattle.model.specs.Touch.{no_place}
 use Rattle.touch_device.specs.declared.Device.{Device}

@@ -1,10 +1,7 @@
-use Prim.Native.Nat.{◌+◌, ◌-◌, ◌≤◌}
-use mathlib.Core.Path.{◌≡◌, ◌∙◌, sym}
-use borrow.Author.Rules.{rules}
+use mathlib.Core.Path.{◌≡◌, ◌∙◌}
 use borrow.Author.Tests.{le-ltb, lt-ltb}
 use native.Mathlib.Omega.{arith}
-use lib.ListN.{length, take, drop, length-map}
-use Rattle.touches.specs.Touches.{place}
+use lib.ListN.{length}
 use Rattle.touches.proofs.Places.{place_skips, place_stops, place_ends}
 use Rattle.touch_state.proofs.Ids.{self, place_ids, enough}
 use Rattle.touch_state.proofs.devices.place_of.Goals as goal

@@ -1,12 +1,8 @@
 use Prim.Native.Nat.{◌+◌, ◌-◌, ◌≤◌}
-use mathlib.Core.Path.{◌≡◌, ◌∙◌, sym}
-use borrow.Author.Rules.{rules}
-use borrow.Author.Tests.{le-ltb, lt-ltb}
-use native.Mathlib.Omega.{arith}
-use lib.ListN.{length, take, drop, length-map}
+use mathlib.Core.Path.{◌≡◌}
+use lib.ListN.{length, take, drop}
 use Rattle.touches.specs.Touches.{place}
-use Rattle.touches.proofs.Places.{place_skips, place_stops, place_ends}
-use Rattle.touch_state.proofs.Ids.{self, place_ids, enough}
+use Rattle.touch_state.proofs.Ids.{self}
 use Rattle.touch_state.proofs.devices.place_of.Given as goal
 
 abbrev pub invariant-loop-i : goal.invariant-loop-i

@@ -1,9 +1,7 @@
-use Prim.Native.Nat.{ℕ, ◌+◌, ◌-◌, ◌≤◌}
-use mathlib.Core.Path.{◌≡◌, refl, sym, ◌∙◌, ap}
+use mathlib.Core.Path.{◌≡◌, refl, sym, ◌∙◌}
 use Rattle.widget_index.specs.Table.{chain, find}
 use Rattle.widget_index.proofs.Chain.{stops, goes_on}
 use native.Mathlib.Omega.{arith}
-use borrow.Author.Rules.{rules}
 use Rattle.widget_index.proofs.index.find.Goals as goal
 
 pub loop-e-init : goal.loop-e-init

@@ -1,9 +1,6 @@
-use Prim.Native.Nat.{ℕ, ◌+◌, ◌-◌, ◌≤◌}
-use mathlib.Core.Path.{◌≡◌, refl, sym, ◌∙◌, ap}
-use Rattle.widget_index.specs.Table.{chain, find}
-use Rattle.widget_index.proofs.Chain.{stops, goes_on}
-use native.Mathlib.Omega.{arith}
-use borrow.Author.Rules.{rules}
+use Prim.Native.Nat.{◌≤◌}
+use mathlib.Core.Path.{◌≡◌}
+use Rattle.widget_index.specs.Table.{chain}
 use Rattle.widget_index.proofs.index.find.Given as goal
 
 abbrev pub invariant-loop-e : goal.invariant-loop-e

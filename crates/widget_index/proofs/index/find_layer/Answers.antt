@@ -1,10 +1,7 @@
-use Prim.Native.Nat.{ℕ, ◌+◌, ◌-◌, ◌≤◌}
-use mathlib.Core.Path.{◌≡◌, refl, sym, ◌∙◌, ap}
-use native.Mathlib.Nat.{le_antisymm}
+use mathlib.Core.Path.{◌≡◌, refl, sym, ◌∙◌}
 use Rattle.widget_index.specs.Table.{find_layer, last}
 use Rattle.widget_index.proofs.Chain.{last_stops, last_goes_on}
 use native.Mathlib.Omega.{arith}
-use borrow.Author.Rules.{rules}
 use Rattle.widget_index.proofs.index.find_layer.Goals as goal
 
 pub loop-e-init : goal.loop-e-init

@@ -1,7 +1,6 @@
 use Rattle.widget_index.specs.Table.{head}
 use borrow.Author.Tests.{eq-eqb, ne_eqb, le-leb, lt-leb}
 use native.Mathlib.Omega.{arith}
-use borrow.Author.Rules.{rules}
 use Rattle.widget_index.proofs.index.head.Goals as goal
 
 pub returns-then-e-eq0 : goal.returns-then-e-eq0

@@ -1,7 +1,6 @@
 use Rattle.widget_index.specs.Layout.{link_at}
 use borrow.Author.Tests.{le-leb, lt-leb}
 use native.Mathlib.Omega.{arith}
-use borrow.Author.Rules.{rules}
 use Rattle.widget_index.proofs.index.link.Goals as goal
 
 pub returns-then-e-s : goal.returns-then-e-s

@@ -1,4 +1,3 @@
-use borrow.Author.Rules.{rules}
 use Rattle.widget_index.proofs.table.widget_at.Goals as goal
 
 pub returns : goal.returns

@@ -1,5 +1,4 @@
 use Rattle.emath.specs.Vec.{distance}
-use borrow.Author.Rules.{rules}
 use Rattle.emath.proofs.pos2.Pos2.distance.Goals as goal
 
 pub returns : goal.returns

@@ -1,5 +1,4 @@
 use Rattle.emath.specs.Vec.{vec_abs}
-use borrow.Author.Rules.{rules}
 use Rattle.emath.proofs.vec2.Vec2.abs.Goals as goal
 
 pub returns : goal.returns

@@ -1,5 +1,4 @@
 use Rattle.emath.specs.Vec.{length}
-use borrow.Author.Rules.{rules}
 use Rattle.emath.proofs.vec2.Vec2.length.Goals as goal
 
 pub returns : goal.returns

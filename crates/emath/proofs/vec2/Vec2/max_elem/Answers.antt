@@ -1,5 +1,4 @@
 use Rattle.emath.specs.Vec.{max_elem}
-use borrow.Author.Rules.{rules}
 use Rattle.emath.proofs.vec2.Vec2.max_elem.Goals as goal
 
 pub returns : goal.returns

@@ -2,7 +2,6 @@ use mathlib.Core.Path.{◌≡◌}
 use mathlib.Core.Bool.{true, false}
 use lib.Ieee.{lt, of_bits}
 use Rattle.emath.specs.Vec.{+0, normalized}
-use borrow.Author.Rules.{rules}
 use Rattle.emath.proofs.vec2.Vec2.normalized.Goals as goal
 
 pub returns-then-len : goal.returns-then-len

@@ -1,7 +1,6 @@
 use mathlib.Core.Path.{sym, ◌∙◌}
 use Rattle.emath_history.specs.Ring.{view}
 use Rattle.emath_history.proofs.Samples.{duration_none, duration_some}
-use borrow.Author.Rules.{rules}
 use Rattle.emath_history.proofs.history.History.duration.Goals as goal
 
 pub returns-then-n-eq0 : goal.returns-then-n-eq0

@@ -1,11 +1,7 @@
-use Prim.Native.Nat.{◌≤◌, ◌<◌}
-use mathlib.Core.Path.{◌≡◌, refl, ◌∙◌}
-use mathlib.Core.List.{List}
+use mathlib.Core.Path.{refl, ◌∙◌}
 use native.Mathlib.Omega.{arith}
-use lib.Ieee.{Float}
 use borrow.Author.Rules.{rules}
-use Rattle.emath.specs.History.{max_len, max_age, drop_old}
-use Rattle.emath_history.specs.Ring.{samples}
+use Rattle.emath.specs.History.{max_age}
 use Rattle.emath_history.proofs.Samples.{few, recent, dropped, flushed}
 use Rattle.emath_history.proofs.history.History.flush.Goals as goal
 

@@ -1,12 +1,9 @@
 use Prim.Native.Nat.{◌≤◌, ◌<◌}
-use mathlib.Core.Path.{◌≡◌, refl, ◌∙◌}
+use mathlib.Core.Path.{◌≡◌}
 use mathlib.Core.List.{List}
-use native.Mathlib.Omega.{arith}
 use lib.Ieee.{Float}
-use borrow.Author.Rules.{rules}
-use Rattle.emath.specs.History.{max_len, max_age, drop_old}
+use Rattle.emath.specs.History.{max_len, drop_old}
 use Rattle.emath_history.specs.Ring.{samples}
-use Rattle.emath_history.proofs.Samples.{few, recent, dropped, flushed}
 use Rattle.emath_history.proofs.history.History.flush.Given as goal
 
 abbrev pub invariant-loop-len : goal.invariant-loop-len

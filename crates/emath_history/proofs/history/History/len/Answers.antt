@@ -1,6 +1,5 @@
 use mathlib.Core.Path.{sym, ◌∙◌}
 use Rattle.emath_history.proofs.Samples.{view_count}
-use borrow.Author.Rules.{rules}
 use Rattle.emath_history.proofs.history.History.len.Goals as goal
 
 pub returns : goal.returns

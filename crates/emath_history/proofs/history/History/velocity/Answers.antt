@@ -1,7 +1,6 @@
 use mathlib.Core.Path.{sym, ◌∙◌}
 use Rattle.emath_history.specs.Ring.{view}
 use Rattle.emath_history.proofs.Samples.{velocity_none, velocity_some, velocity_slow}
-use borrow.Author.Rules.{rules}
 use Rattle.emath_history.proofs.history.History.velocity.Goals as goal
 
 pub returns-then-n-eq0 : goal.returns-then-n-eq0
