@@ -29,7 +29,7 @@ returns c =
       refused = λ some. let z = reply.1 some in let t = c.if-reply-ne0.false in absurd (omega (arith, t));
       taken = λ none. (
         ap (λ (s : Step). s.reply.code) e ∙ reply.0 none,
-        subst (λ (m : Machine). Starts c.fresh-started.new.0 m) (sym (ap (λ (s : Step). s.machine) e)) (again c.fresh-started.ensures.0),
+        subst (λ (m : Machine). Starts c.fresh-started.new.presses m) (sym (ap (λ (s : Step). s.machine) e)) (again c.fresh-started.ensures.0),
         ap (λ (s : Step). s.machine.parked) e,
       );
     }

@@ -6,4 +6,4 @@ use Rattle.trace_parking.proofs.park.park_in.Goals as goal
 pub returns : goal.returns
 returns c =
     let s = c.args in
-    part_kept _ (s.room - 0) s.out.now c.park.new.1.1.1.1.1.1.0 c.park.result c.park.ensures
+    part_kept _ (s.room - 0) s.out.now c.park.new.out c.park.result c.park.ensures
