@@ -92,7 +92,7 @@ pub returns-in-12 : goal.returns-in-12
 returns-in-12 c = as_12 _ _ _ _ c.in-12.is c.bare-in-12.ensures
 
 pub returns-in-13-to-15 : goal.returns-in-13-to-15
-returns-in-13-to-15 c = unknown _ _ _ c.in_default-1.rest.0.0.0.0.0.0.0.0.0.0.0.0.1 c.in_default-1.rest.0.0.0.0.0.0.0.0.0.0.0.1 c.in_default-1.rest.0.0.0.0.0.0.0.0.0.0.1 c.in_default-1.rest.0.0.0.0.0.0.0.0.0.1 c.in_default-1.rest.0.0.0.0.0.0.0.0.1 c.in_default-1.rest.0.0.0.0.0.0.0.1 c.in_default-1.rest.0.0.0.0.0.0.1 c.in_default-1.rest.0.0.0.0.0.1 c.in_default-1.rest.0.0.0.0.1 c.in_default-1.rest.0.0.0.1 c.in_default-1.rest.0.0.1 c.in_default-1.rest.0.1 c.in_default-1.rest.1
+returns-in-13-to-15 c = unknown _ _ _ c.in-13-to-15.in_default-own.rest.0.0.0.0.0.0.0.0.0.0.0.0.1 c.in-13-to-15.in_default-own.rest.0.0.0.0.0.0.0.0.0.0.0.1 c.in-13-to-15.in_default-own.rest.0.0.0.0.0.0.0.0.0.0.1 c.in-13-to-15.in_default-own.rest.0.0.0.0.0.0.0.0.0.1 c.in-13-to-15.in_default-own.rest.0.0.0.0.0.0.0.0.1 c.in-13-to-15.in_default-own.rest.0.0.0.0.0.0.0.1 c.in-13-to-15.in_default-own.rest.0.0.0.0.0.0.1 c.in-13-to-15.in_default-own.rest.0.0.0.0.0.1 c.in-13-to-15.in_default-own.rest.0.0.0.0.1 c.in-13-to-15.in_default-own.rest.0.0.0.1 c.in-13-to-15.in_default-own.rest.0.0.1 c.in-13-to-15.in_default-own.rest.0.1 c.in-13-to-15.in_default-own.rest.1
 
 pub returns-in_default : goal.returns-in_default
-returns-in_default c = unknown _ _ _ c.in_default-1.rest.0.0.0.0.0.0.0.0.0.0.0.0.1 c.in_default-1.rest.0.0.0.0.0.0.0.0.0.0.0.1 c.in_default-1.rest.0.0.0.0.0.0.0.0.0.0.1 c.in_default-1.rest.0.0.0.0.0.0.0.0.0.1 c.in_default-1.rest.0.0.0.0.0.0.0.0.1 c.in_default-1.rest.0.0.0.0.0.0.0.1 c.in_default-1.rest.0.0.0.0.0.0.1 c.in_default-1.rest.0.0.0.0.0.1 c.in_default-1.rest.0.0.0.0.1 c.in_default-1.rest.0.0.0.1 c.in_default-1.rest.0.0.1 c.in_default-1.rest.0.1 c.in_default-1.rest.1
+returns-in_default c = unknown _ _ _ c.in_default.in_default-own.rest.0.0.0.0.0.0.0.0.0.0.0.0.1 c.in_default.in_default-own.rest.0.0.0.0.0.0.0.0.0.0.0.1 c.in_default.in_default-own.rest.0.0.0.0.0.0.0.0.0.0.1 c.in_default.in_default-own.rest.0.0.0.0.0.0.0.0.0.1 c.in_default.in_default-own.rest.0.0.0.0.0.0.0.0.1 c.in_default.in_default-own.rest.0.0.0.0.0.0.0.1 c.in_default.in_default-own.rest.0.0.0.0.0.0.1 c.in_default.in_default-own.rest.0.0.0.0.0.1 c.in_default.in_default-own.rest.0.0.0.0.1 c.in_default.in_default-own.rest.0.0.0.1 c.in_default.in_default-own.rest.0.0.1 c.in_default.in_default-own.rest.0.1 c.in_default.in_default-own.rest.1
