@@ -1,6 +1,7 @@
 // Runs one kind of call many times, for the table that bench/run.sh prints. Standard input is words of 32 bits, the low byte first: which kind, how
 // often, three numbers, how many words follow, and those. compare/src/bench.rs runs the same requests on egui and prints the same number.
 #![tactic(auto)]
+
 mod asks;
 mod exponents;
 mod inserts;

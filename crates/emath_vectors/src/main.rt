@@ -1,6 +1,7 @@
 // Replays stored cases through emath and says how many differ. Standard input is records of sixteen 32-bit words, the
 // low byte first: a kind, what goes in, and the results of the stand-ins that egui runs with. compare/vectors writes them.
 #![tactic(auto)]
+
 mod cases;
 mod record;
 

@@ -1,4 +1,5 @@
 // The event at a place of a feed, or its refusal.
 #![tactic(auto)]
+
 pub mod decode;
 pub mod kinds;

@@ -2,6 +2,7 @@
 // is records of 32 words of 32 bits, the low byte first. compare/vectors/feed.rs makes them with the decoder of the
 // comparison with egui and with egui's own modifiers.rs, and says what stands where.
 #![tactic(auto)]
+
 mod cases;
 mod fields;
 mod record;

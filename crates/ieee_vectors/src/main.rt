@@ -3,6 +3,7 @@
 // bits, the operand's pattern and the result's, and each function has as many chunks of them.
 // Every NaN counts as one.
 #![tactic(auto)]
+
 mod pairs;
 
 const STDIN_FILENO: i32 = 0;

@@ -3,6 +3,7 @@
 //   replay sums      one checksum a call
 //   replay whole     the answers' words
 #![tactic(auto)]
+
 use std::env::FillError;
 use std::rt::Env;
 use trace::run::{Form, replay};

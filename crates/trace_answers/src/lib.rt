@@ -1,5 +1,6 @@
 // The answers of ASK, DUMP and RESTED: every question, and the whole state but for the widgets, in the order of compare/FORMAT.md.
 #![tactic(auto)]
+
 pub mod ask;
 pub mod devices;
 pub mod dump;

@@ -1,3 +1,4 @@
 // INTERACT, read from a request and answered.
 #![tactic(auto)]
+
 pub mod interact;

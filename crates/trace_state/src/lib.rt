@@ -1,4 +1,5 @@
 // Parts of the answer of DUMP.
 #![tactic(auto)]
+
 pub mod devices;
 pub mod parts;

@@ -1,5 +1,6 @@
 // INSERT: an insertion, with the layer's widgets lent.
 #![tactic(auto)]
+
 pub mod insert;
 pub mod lent;
 pub mod widgets;

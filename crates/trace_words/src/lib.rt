@@ -1,5 +1,6 @@
 // The words of compare/FORMAT.md: what a request says, and the words of an answer.
 #![tactic(auto)]
+
 pub mod records;
 pub mod reply;
 pub mod request;

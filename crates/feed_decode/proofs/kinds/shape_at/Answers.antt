@@ -16,6 +16,36 @@ offset_bounds-feed-at c = omega arith
 pub bounds-feed-at : goal.bounds-feed-at
 bounds-feed-at c = omega arith
 
+pub bounds-feed-at-in-3 : goal.bounds-feed-at-in-3
+bounds-feed-at-in-3 c = omega (arith, length_least _ 3 c.in-3.is)
+
+pub bounds-feed-at-in-3-2 : goal.bounds-feed-at-in-3-2
+bounds-feed-at-in-3-2 c = omega (arith, length_least _ 3 c.in-3.is)
+
+pub bounds-feed-at-in-4 : goal.bounds-feed-at-in-4
+bounds-feed-at-in-4 c = omega (arith, length_least _ 4 c.in-4.is)
+
+pub bounds-feed-at-in-4-2 : goal.bounds-feed-at-in-4-2
+bounds-feed-at-in-4-2 c = omega (arith, length_least _ 4 c.in-4.is)
+
+pub bounds-feed-at-in-5 : goal.bounds-feed-at-in-5
+bounds-feed-at-in-5 c = omega (arith, length_least _ 5 c.in-5.is)
+
+pub bounds-feed-at-in-5-2 : goal.bounds-feed-at-in-5-2
+bounds-feed-at-in-5-2 c = omega (arith, length_least _ 5 c.in-5.is)
+
+pub bounds-feed-at-in-7 : goal.bounds-feed-at-in-7
+bounds-feed-at-in-7 c = omega (arith, length_least _ 7 c.in-7.is)
+
+pub bounds-feed-at-in-8 : goal.bounds-feed-at-in-8
+bounds-feed-at-in-8 c = omega (arith, length_least _ 8 c.in-8.is)
+
+pub bounds-feed-at-in-10 : goal.bounds-feed-at-in-10
+bounds-feed-at-in-10 c = omega (arith, length_least _ 10 c.in-10.is)
+
+pub bounds-feed-at-in-10-2 : goal.bounds-feed-at-in-10-2
+bounds-feed-at-in-10-2 c = omega (arith, length_least _ 10 c.in-10.is)
+
 pub key_shape-requires : goal.key_shape-requires
 key_shape-requires c = tt
 
