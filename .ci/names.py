@@ -56,8 +56,15 @@ class Crate:
 
     def rt(self, path, module):
         kind = None
-        for line in open(path, encoding='utf-8'):
-            m = re.match(r'(\s*)(?:#\[no_mangle\] )?(?:pub )?(?:extern "C" )?(fn|struct|enum|const|type|mod|impl|use) ([A-Za-z0-9_:]+)', line)
+        with open(path, encoding='utf-8') as f:
+            text = f.read()
+        # what a use line brings by a list: a module of the path has it too
+        for path_of, items in re.findall(r'(?m)^\s*(?:pub )?use ([A-Za-z0-9_:]+)::\{([^}]*)\}', text):
+            for item in re.findall(r'[A-Za-z0-9_]+', items):
+                self.add(module, item)
+                self.add(path_of.split('::')[-1], item)
+        for line in text.split('\n'):
+            m = re.match(r'(\s*)(?:pub )?(?:extern "C" )?(fn|struct|enum|const|type|mod|impl|use) ([A-Za-z0-9_:]+)', line)
             if m:
                 word, name = m.group(2), m.group(3).rstrip(":").split("::")[-1]
                 self.add(module, name)
