@@ -1,9 +1,9 @@
 -- `History` of positions as a list of samples, the oldest first, after 01 item 1. Times are f64.
-use Rattle.std.specs.Prelude.{ℕ, ◌-◌, ◌&&◌, cond, List, [], ◌∷◌, ◌++◌, ltb, length, drop, Float}
+use Rattle.std.specs.Prelude.{ℕ, ◌-◌, ◌&&◌, cond, List, [], ◌∷◌, ◌++◌, ltb, length, drop, Float, Option, Some, None}
 use Rattle.std.specs.Float.{binary32, binary64}
 use Rattle.std.specs.Float.Ieee.{sub, lt, of_bits}
 use Rattle.ieee_narrow.specs.Narrow.{narrow}
-use Rattle.emath.specs.Types.{Pos2, MaybeVec2, no_vec, some_vec}
+use Rattle.emath.specs.Types.{Pos2, Vec2}
 use Rattle.emath.specs.Vec.{+0, pos_sub, vec_div}
 
 pub record Sample : Type 0 where
@@ -44,8 +44,8 @@ duration [] = +0
 duration (s ∷ h) = narrow binary32 (sub binary64 (last s h).time s.time)
 
 -- "Velocity is the position difference divided by that duration, or none if it is not above 0"
-unfoldable pub velocity : List Sample → MaybeVec2
-velocity [] = no_vec
+unfoldable pub velocity : List Sample → Option Vec2
+velocity [] = None
 velocity (s ∷ h) =
     let d = duration (s ∷ h) in
-    cond (lt +0 d) (some_vec (vec_div (pos_sub (last s h).pos s.pos) d)) no_vec
+    cond (lt +0 d) (Some (vec_div (pos_sub (last s h).pos s.pos) d)) None

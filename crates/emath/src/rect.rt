@@ -11,6 +11,7 @@ pub struct Rect {
 }
 
 impl Rect {
+    #[tactic(auto, unfolding(crate::specs::Vec::height))]
     pub fn height(self) -> f32
         ensures { result ≡ height self }
     {

@@ -9,9 +9,10 @@ use lib.Dec.{ltb}
 use lib.ListN.{length, drop, get_or, set, length-append, length-set}
 use lib.Seq.{get_or-set_same, get_or-set_other}
 use lib.Ieee.{Float, nan, binary32, binary64, sub, lt, of_bits}
+use Rattle.std.specs.Prelude.{Some, None}
 use Rattle.ieee_narrow.specs.Narrow.{narrow}
 use borrow.Author.Tests.{lt-ltb, le-ltb, ltb-true, ltb-false}
-use Rattle.emath_history.specs.Types.{Pos2, History, no_vec, some_vec}
+use Rattle.emath_history.specs.Types.{Pos2, History}
 use Rattle.emath.specs.Vec.{pos_sub, vec_div}
 use Rattle.emath.specs.History.{Sample, min_len, max_len, max_age, drop_old, flush, add, last, duration, velocity}
 use Rattle.emath_history.specs.Ring.{place, position_at, sample_at, samples, count, view, free, grown, set_position}
@@ -97,7 +98,7 @@ module _ (ts ps : List Float) where
   unfolding samples duration of_bits
   duration_none i n e = rw e
 
-  pub velocity_none : (i n : ℕ) → n ≡ 0 → no_vec ≡ velocity (samples ts ps i n)
+  pub velocity_none : (i n : ℕ) → n ≡ 0 → None ≡ velocity (samples ts ps i n)
   unfolding samples velocity
   velocity_none i n e = rw e
 
@@ -110,12 +111,12 @@ module _ (ts ps : List Float) where
   duration_some i (suc n) h = rw (last_at i n)
 
   module _ (d : Float) where
-    pub velocity_some : (i n : ℕ) → (n ≡ 0 → ⊥) → d ≡ duration (samples ts ps i n) → lt (of_bits binary32 0) d ≡ true → some_vec (vec_div (pos_sub (position_at ps (last_place i n)) (position_at ps (place i))) d) ≡ velocity (samples ts ps i n)
+    pub velocity_some : (i n : ℕ) → (n ≡ 0 → ⊥) → d ≡ duration (samples ts ps i n) → lt (of_bits binary32 0) d ≡ true → Some (vec_div (pos_sub (position_at ps (last_place i n)) (position_at ps (place i))) d) ≡ velocity (samples ts ps i n)
     unfolding samples sample_at velocity of_bits
     velocity_some i zero h e l = absurd (h refl)
     velocity_some i (suc n) h e l = rw (← e, l, last_at i n)
 
-    pub velocity_slow : (i n : ℕ) → (n ≡ 0 → ⊥) → d ≡ duration (samples ts ps i n) → lt (of_bits binary32 0) d ≡ false → no_vec ≡ velocity (samples ts ps i n)
+    pub velocity_slow : (i n : ℕ) → (n ≡ 0 → ⊥) → d ≡ duration (samples ts ps i n) → lt (of_bits binary32 0) d ≡ false → None ≡ velocity (samples ts ps i n)
     unfolding samples velocity of_bits
     velocity_slow i zero h e l = absurd (h refl)
     velocity_slow i (suc n) h e l = rw (← e, l)
@@ -134,6 +135,12 @@ module _ (ts ps : List Float) where
   unfolding view
   flushed now h r n c l d e =
       rw (min-eq_left l, flush_few now h.start (count h) (omega arith), ← c, ← samples_place h.start n) (sym e ∙ sym d)
+
+-- The loop of `flush`: where it began and where it stands, the limit drops down to the same samples.
+pub record Dropping (limit : Float) (times : List Float) (from_start from_len start len : ℕ) : Type 0 where
+  pub in_ring : start < max_len
+  pub held : len ≤ max_len
+  pub same : (positions : List Float) → drop_old limit (samples times positions from_start from_len) ≡ drop_old limit (samples times positions start len)
 
 -- ---- one sample written
 

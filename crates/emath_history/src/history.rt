@@ -5,7 +5,7 @@ ghost use Rattle.emath.specs.History.{max_len, flush, duration, velocity};
 ghost use Rattle.emath_history.specs.Ring.{count, free, grown, view, Added, Cleared, position_at, set_position};
 
 use emath::pos2::Pos2;
-use emath::vec2::MaybeVec2;
+use emath::vec2::Vec2;
 
 pub const MIN_LEN: usize = 2;
 
@@ -16,6 +16,8 @@ pub const PARTS: usize = 2 * MAX_LEN;
 
 pub const MAX_AGE: f32 = 0.1;
 
+// The two arrays are two parameters, and no struct of loans: a host lends them apart, `flush` and `duration` read the times
+// alone, and what an addition leaves of each is said of that array.
 // `len` samples from place `start` on. Any numbers mean something: the place is taken modulo 1,000, and a larger count is 1,000.
 #[derive(Clone, Copy)]
 pub struct History {
@@ -24,12 +26,14 @@ pub struct History {
 }
 
 impl History {
+    #[tactic(auto, unfolding(crate::specs::Ring::view, crate::specs::Ring::samples))]
     pub fn new() -> History
         ensures { (times positions : List Float) → view times positions result ≡ [] }
     {
         History { start: 0, len: 0 }
     }
 
+    #[tactic(auto, unfolding(crate::specs::Ring::view, crate::specs::Ring::samples))]
     pub fn clear(self) -> History
         ensures { Cleared self result }
     {
@@ -39,6 +43,7 @@ impl History {
         }
     }
 
+    #[tactic(auto, using(crate::proofs::Samples::view_count))]
     pub fn len(self) -> usize
         ensures { (times positions : List Float) → result ≡ length (view times positions self) }
     {
@@ -67,13 +72,9 @@ impl History {
         let limit = time - MAX_AGE as f64;
         let mut start = self.start % MAX_LEN;
         let mut len = count(self);
-        while MIN_LEN < len {
-            if times[start] < limit {
-                start = (start + 1) % MAX_LEN;
-                len -= 1;
-            } else {
-                return History { start, len };
-            }
+        while MIN_LEN < len && times[start] < limit {
+            start = (start + 1) % MAX_LEN;
+            len -= 1;
         }
         History { start, len }
     }
@@ -91,12 +92,12 @@ impl History {
         ieee_narrow::narrow(times[last] - times[first])
     }
 
-    pub fn velocity(self, times: &[f64; MAX_LEN], positions: &[f32; PARTS]) -> MaybeVec2
+    pub fn velocity(self, times: &[f64; MAX_LEN], positions: &[f32; PARTS]) -> Option<Vec2>
         ensures { result ≡ velocity (view times.now positions.now self) }
     {
         let n = count(self);
         if n == 0 {
-            return MaybeVec2::None;
+            return None;
         }
         let dt = self.duration(times);
         if dt > 0.0 {
@@ -104,16 +105,16 @@ impl History {
             let last = (first + (n - 1)) % MAX_LEN;
             let from = position_at(positions, first);
             let to = position_at(positions, last);
-            return MaybeVec2::Some(to.sub(from).div(dt));
+            return Some((to - from) / dt);
         }
-        MaybeVec2::None
+        None
     }
 }
 
 fn count(h: History) -> usize
     ensures { result ≡ count h }
 {
-    if h.len < MAX_LEN { h.len } else { MAX_LEN }
+    h.len.min(MAX_LEN)
 }
 
 // The place for one sample more: the one after the newest, which is the oldest's where all are taken.
@@ -124,6 +125,7 @@ fn free(h: History) -> usize
 }
 
 // One sample more at the end. Where all places are taken, the oldest sample's is the one that was written.
+#[tactic(auto, using(crate::proofs::Samples::place_next), unfolding(crate::specs::Ring::grown))]
 fn grown(h: History) -> History
     ensures { result ≡ grown h }
 {
@@ -154,6 +156,7 @@ fn set_position(positions: &mut [f32], i: usize, pos: Pos2)
     positions[i * 2 + 1] = pos.y;
 }
 
+#[tactic(auto, unfolding(crate::specs::Ring::position_at))]
 fn position_at(positions: &[f32; PARTS], i: usize) -> Pos2
     requires { i < max_len }
     ensures { result ≡ position_at positions.now i }

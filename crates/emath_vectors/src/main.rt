@@ -8,7 +8,12 @@ mod record;
 use cases::Tally;
 use emath_history::history::{MAX_LEN, PARTS};
 
+const STDIN_FILENO: i32 = 0;
+
 const STDOUT_FILENO: i32 = 1;
+
+// so that the loop ends
+const MAX_RECORDS: u64 = 1_000_000;
 
 fn print_count(name: &[u8], t: Tally) {
     io::write_all(STDOUT_FILENO, name);
@@ -18,29 +23,23 @@ fn print_count(name: &[u8], t: Tally) {
     io::write_all(STDOUT_FILENO, b" differ\n");
 }
 
-// A million records at most, so that the loop ends.
 fn replay_all() -> cases::State {
     let mut record = [0u8; 64];
     let mut times = [0.0f64; MAX_LEN];
     let mut positions = [0.0f32; PARTS];
     let mut s = cases::start();
-    let mut left: u64 = 1_000_000;
-    while left > 0 {
-        if io::read_full(0, &mut record) != 64 {
-            return s;
+    for _ in 0..MAX_RECORDS {
+        if io::read_full(STDIN_FILENO, &mut record) != record.len() {
+            break;
         }
-        s = cases::replay(s, &record, &mut times, &mut positions);
-        left -= 1;
+        cases::replay(&mut s, &record, &mut times, &mut positions);
     }
     s
 }
 
 fn main() {
     let s = replay_all();
-    let vectors = s.vectors;
-    let arithmetic = s.arithmetic;
-    let history = s.history;
-    print_count(b"vectors: ", vectors);
-    print_count(b"arithmetic: ", arithmetic);
-    print_count(b"history: ", history);
+    print_count(b"vectors: ", s.vectors);
+    print_count(b"arithmetic: ", s.arithmetic);
+    print_count(b"history: ", s.history);
 }

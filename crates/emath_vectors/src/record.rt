@@ -7,19 +7,12 @@ use emath::pos2::Pos2;
 use emath::vec2::Vec2;
 use ieee::bits::{from_bits32, from_bits64, to_bits32};
 
-fn low(x: u8) -> u32
-    ensures value { result ≡ x }
-    ensures upper_bound { result < 256 }
-{
-    x as u32
-}
-
 // Word i of the sixteen, the low byte first.
 pub fn word(b: &[u8; 64], i: usize) -> u32
     ensures { result ≡ word_at b.now (i % 16 * 4) }
 {
     let j = i % 16 * 4;
-    low(b[j]) + low(b[j + 1]) * 0x100 + low(b[j + 2]) * 0x1_0000 + low(b[j + 3]) * 0x100_0000
+    u32::from_le_bytes([b[j], b[j + 1], b[j + 2], b[j + 3]])
 }
 
 pub fn f32_at(b: &[u8; 64], i: usize) -> f32
@@ -66,5 +59,5 @@ pub fn same(x: f32, y: f32) -> bool
 pub fn same_vec(v: Vec2, w: Vec2) -> bool
     ensures { result ≡ (to_bits binary32 v.x == to_bits binary32 w.x && to_bits binary32 v.y == to_bits binary32 w.y) }
 {
-    same(v.x, w.x) & same(v.y, w.y)
+    same(v.x, w.x) && same(v.y, w.y)
 }

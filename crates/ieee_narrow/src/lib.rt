@@ -40,6 +40,7 @@ fn narrow_pattern(b: u64) -> u64
 }
 
 // The nearest f32, of two as near the even one; an infinity from 2^128 less half a step on.
+// (std's `nearest_f64_to_f32_with_nan` gives the same, and takes 7 instructions more.)
 pub fn narrow(x: f64) -> f32
     ensures { result ≡ narrow binary32 x }
 {

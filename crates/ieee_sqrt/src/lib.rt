@@ -13,10 +13,7 @@ ghost use Rattle.ieee_sqrt.specs.Patterns.{Radicand, Rooted, Positive, RootOf};
 fn digit(rem: u64, t: u64) -> u64
     ensures { result ≡ cond (leb t rem) 1 0 }
 {
-    if rem < t {
-        return 0;
-    }
-    1
+    u64::from(t <= rem)
 }
 
 // The whole root of the leading 2n of d's 62 digits, digit by digit: each turn takes the next two
@@ -30,15 +27,13 @@ fn root_digits(d: u64, n: u64) -> u64
     let mut left = d;
     let mut rem: u64 = 0;
     let mut root: u64 = 0;
-    let mut i: u64 = 0;
-    while i < n {
+    for i in 0..n {
         rem = rem * 4 + (left >> 60);
         left = left % 0x1000_0000_0000_0000 * 4;
         let t = root * 4 + 1;
         let one = digit(rem, t);
         rem = rem - t * one;
         root = root * 2 + one;
-        i += 1;
     }
     root
 }
@@ -73,6 +68,8 @@ fn root_bits(b: u64, p: u64, low: u64) -> u64
 }
 
 // A zero, the infinity and a NaN are their own roots. What is below zero has none.
+// (A function for each type and no generic one: what the two share is `root_bits`. What is left names the type's patterns and
+// constants in each line, and a trait that has these for both would be longer than both.)
 pub fn sqrt32(x: f32) -> f32
     ensures { result ≡ sqrt binary32 x }
 {

@@ -6,52 +6,45 @@
 
 mod pairs;
 
+use pairs::{Kind, PAIR};
+
 const STDIN_FILENO: i32 = 0;
 
 const STDOUT_FILENO: i32 = 1;
 
-#[derive(Clone, Copy)]
+// of each function
+const CHUNKS: usize = 6;
+
+#[derive(Clone, Copy, Default)]
 struct Tally {
     pairs: u64,
     differ: u64,
 }
 
-// one chunk of at most 65,536 bytes
-fn chunk(kind: u64) -> Tally {
-    let mut buf = io::large_buffer();
-    let n = io::read_full(STDIN_FILENO, &mut buf);
-    Tally {
-        pairs: n as u64 / 16,
-        differ: pairs::differ(kind, &buf[..n]),
+impl Tally {
+    // One chunk more, of at most 65,536 bytes.
+    fn read(&mut self, kind: Kind) {
+        let mut buf = io::large_buffer();
+        let n = io::read_full(STDIN_FILENO, &mut buf);
+        self.pairs = self.pairs.wrapping_add((n / PAIR) as u64);
+        self.differ = self.differ.wrapping_add(pairs::differ(kind, &buf[..n]));
     }
 }
 
-fn total(kind: u64) -> Tally {
-    let mut all = Tally {
-        pairs: 0,
-        differ: 0,
-    };
-    let mut i: u64 = 0;
-    while i < 6 {
-        let t = chunk(kind);
-        all.pairs = std::num::wrapping_add_u64(all.pairs, t.pairs);
-        all.differ = std::num::wrapping_add_u64(all.differ, t.differ);
-        i += 1;
+fn report(name: &[u8], kind: Kind) {
+    let mut all = Tally::default();
+    for _ in 0..CHUNKS {
+        all.read(kind);
     }
-    all
-}
-
-fn report(name: &[u8], kind: u64) {
-    let t = total(kind);
     io::write_all(STDOUT_FILENO, name);
-    io::print_decimal(STDOUT_FILENO, t.pairs);
+    io::print_decimal(STDOUT_FILENO, all.pairs);
     io::write_all(STDOUT_FILENO, b" pairs, ");
-    io::print_decimal(STDOUT_FILENO, t.differ);
+    io::print_decimal(STDOUT_FILENO, all.differ);
     io::write_all(STDOUT_FILENO, b" differ\n");
 }
 
 fn main() {
-    report(b"narrow: ", 0);
-    report(b"sqrt32: ", 1);
-    report(b"sqrt64: ", 2);
+    report(b"narrow: ", Kind::Narrow);
+    report(b"sqrt32: ", Kind::Sqrt32);
+    report(b"sqrt64: ", Kind::Sqrt64);
 }

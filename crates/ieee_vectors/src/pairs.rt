@@ -1,80 +1,81 @@
 // The comparison, on a slice.
 ghost use Rattle.std.specs.Prelude.{◌≡◌, ◌+◌, ◌/◌, ◌%◌, ◌^◌, ◌<◌, ◌≤◌, length, from_bits};
 ghost use Rattle.std.specs.Float.{binary32};
-ghost use Rattle.ieee_vectors.specs.Pairs.{word, answer, stored, difference, differing};
+ghost use Rattle.ieee_vectors.specs.Pairs.{word, answer, stored, is_different, differing};
 
-fn wide(x: u8) -> u64
-    ensures value { result ≡ x }
-    ensures upper_bound { result < 256 }
-{
-    x as u64
+use ieee::bits::{from_bits32, from_bits64, to_bits32, to_bits64};
+
+// two words: the operand's pattern and the result's
+pub const PAIR: usize = 16;
+
+// The function that a chunk of pairs belongs to.
+#[derive(Clone, Copy)]
+pub enum Kind {
+    Narrow,
+    Sqrt32,
+    Sqrt64,
 }
 
 fn word_at(s: &[u8], at: usize) -> u64
     requires { at + 8 ≤ length s.now }
     ensures { result ≡ word s.now at }
 {
-    let low = wide(s[at])
-        + wide(s[at + 1]) * 0x100
-        + wide(s[at + 2]) * 0x1_0000
-        + wide(s[at + 3]) * 0x100_0000;
-    let high = wide(s[at + 4])
-        + wide(s[at + 5]) * 0x100
-        + wide(s[at + 6]) * 0x1_0000
-        + wide(s[at + 7]) * 0x100_0000;
-    low + high * 0x1_0000_0000
+    u64::from_le_bytes([
+        s[at],
+        s[at + 1],
+        s[at + 2],
+        s[at + 3],
+        s[at + 4],
+        s[at + 5],
+        s[at + 6],
+        s[at + 7],
+    ])
 }
 
 fn value32(b: u64) -> f32
     ensures { result ≡ from_bits binary32 (b % 2 ^ 32) }
 {
-    ieee::bits::from_bits32((b % 0x1_0000_0000) as u32)
+    from_bits32((b % 0x1_0000_0000) as u32)
 }
 
-fn computed(kind: u64, x: u64) -> u64
+fn computed(kind: Kind, x: u64) -> u64
     ensures { result ≡ answer kind x }
 {
-    if kind == 0 {
-        return ieee::bits::to_bits32(ieee_narrow::narrow(ieee::bits::from_bits64(x))) as u64;
+    match kind {
+        Kind::Narrow => to_bits32(ieee_narrow::narrow(from_bits64(x))) as u64,
+        Kind::Sqrt32 => to_bits32(ieee_sqrt::sqrt32(value32(x))) as u64,
+        Kind::Sqrt64 => to_bits64(ieee_sqrt::sqrt64(from_bits64(x))),
     }
-    if kind == 1 {
-        return ieee::bits::to_bits32(ieee_sqrt::sqrt32(value32(x))) as u64;
-    }
-    ieee::bits::to_bits64(ieee_sqrt::sqrt64(ieee::bits::from_bits64(x)))
 }
 
-fn expected(kind: u64, y: u64) -> u64
+fn expected(kind: Kind, y: u64) -> u64
     ensures { result ≡ stored kind y }
 {
-    if kind < 2 {
-        return ieee::bits::to_bits32(value32(y)) as u64;
+    match kind {
+        Kind::Narrow | Kind::Sqrt32 => to_bits32(value32(y)) as u64,
+        Kind::Sqrt64 => to_bits64(from_bits64(y)),
     }
-    ieee::bits::to_bits64(ieee::bits::from_bits64(y))
 }
 
-// 1 if the pair at `at` differs, else 0.
-fn differs(kind: u64, s: &[u8], at: usize) -> u64
+fn differs(kind: Kind, s: &[u8], at: usize) -> bool
     requires { at + 16 ≤ length s.now }
-    ensures { result ≡ difference kind s.now at }
+    ensures { result ≡ is_different kind s.now at }
 {
     let x = computed(kind, word_at(s, at));
     let y = expected(kind, word_at(s, at + 8));
-    if x == y {
-        return 0;
-    }
-    1
+    x != y
 }
 
 // How many of the pairs of s differ.
-pub fn differ(kind: u64, s: &[u8]) -> u64
-    ensures { result ≡ differing kind s.now (length s.now / 16) }
+#[tactic(auto, unfolding(crate::specs::Pairs::differing))]
+pub fn differ(kind: Kind, s: &[u8]) -> u64
+    ensures { result ≡ differing kind s.now (length s.now / PAIR) }
 {
-    let n = s.len() / 16;
     let mut count: u64 = 0;
-    let mut i = 0;
-    while i < n {
-        count += differs(kind, s, i * 16);
-        i += 1;
+    for i in 0..s.len() / PAIR {
+        if differs(kind, s, i * PAIR) {
+            count += 1;
+        }
     }
     count
 }

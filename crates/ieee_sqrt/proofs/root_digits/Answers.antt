@@ -110,17 +110,11 @@ overflow_mul-rem c = omega (arith, bound c.loop-i.invariant c.loop-i-test.true c
 pub overflow_add-rem : goal.overflow_add-rem
 overflow_add-rem c = omega (arith, bound c.loop-i.invariant c.loop-i-test.true c.requires.1)
 
-pub overflow_mul-left : goal.overflow_mul-left
-overflow_mul-left c = omega arith
-
 pub overflow_mul-t : goal.overflow_mul-t
 overflow_mul-t c = omega (arith, bound c.loop-i.invariant c.loop-i-test.true c.requires.1)
 
 pub overflow_add-t : goal.overflow_add-t
 overflow_add-t c = omega (arith, bound c.loop-i.invariant c.loop-i-test.true c.requires.1)
-
-pub digit-one-requires : goal.digit-one-requires
-digit-one-requires c = tt
 
 pub overflow_mul-rem-in-loop-i : goal.overflow_mul-rem-in-loop-i
 overflow_mul-rem-in-loop-i c = omega (arith, found c, bound c.loop-i.invariant c.loop-i-test.true c.requires.1)
@@ -133,12 +127,6 @@ overflow_mul-root c = omega (arith, bound c.loop-i.invariant c.loop-i-test.true 
 
 pub overflow_add-root : goal.overflow_add-root
 overflow_add-root c = omega (arith, found c, bound c.loop-i.invariant c.loop-i-test.true c.requires.1)
-
-pub overflow_add-i : goal.overflow_add-i
-overflow_add-i c = omega arith
-
-pub loop-i-smaller : goal.loop-i-smaller
-loop-i-smaller c = omega arith
 
 pub loop-i-preserved : goal.loop-i-preserved
 loop-i-preserved c =

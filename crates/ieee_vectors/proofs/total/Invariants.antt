@@ -1,8 +1,0 @@
-use Rattle.std.proofs.Common.{◌-◌, ◌≤◌, arith}
-use Rattle.ieee_vectors.proofs.total.Given as goal
-
-abbrev pub invariant-loop-i : goal.invariant-loop-i
-invariant-loop-i l = l.i ≤ 6
-
-abbrev pub decreases-loop-i : goal.decreases-loop-i
-decreases-loop-i l = 6 - l.i
