@@ -1,8 +1,8 @@
 -- 01's limits and "Domain". Ranges compare as IEEE 754 does: -0.0 is in "0 to ..", and no range holds a NaN.
-use Rattle.std.specs.Prelude.{ℕ, Bool, true, ◌&&◌, Float}
+use Rattle.std.specs.Prelude.{ℕ, Bool, true, ◌&&◌, Float, Option, None, Some}
 use Rattle.std.specs.Float.{binary32, binary64}
 use Rattle.std.specs.Float.Ieee.{lt, le, fits, of_bits}
-use Rattle.data.specs.Types.{Pos2, Vec2, Rect, InputOptions, MaybeF32, no_force, some_force}
+use Rattle.data.specs.Types.{Pos2, Vec2, Rect, InputOptions}
 use Rattle.data.specs.Types.{Event, Key, ModifiersChanged, PointerMoved, MouseMoved, Button, PointerGone, Zoom, Rotate, Touch, MouseWheel, WindowFocused, Other}
 
 -- "At most 64 events, 4 devices ever, 10 touches held per device, 1,024 widgets, 32 layers, 64 entries a hit list"
@@ -123,9 +123,9 @@ unit_interval_ok x = within32 zero32 one32 x
 unfoldable pub force_ok : Float → Bool
 force_ok x = within32 zero32 one32 x
 
-unfoldable pub maybe_force_ok : MaybeF32 → Bool
-maybe_force_ok no_force = true
-maybe_force_ok (some_force x) = force_ok x
+unfoldable pub maybe_force_ok : Option Float → Bool
+maybe_force_ok None = true
+maybe_force_ok (Some x) = force_ok x
 
 -- "line speed and click distance 0 to 65,536"
 unfoldable pub length_ok : Float → Bool

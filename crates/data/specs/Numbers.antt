@@ -1,8 +1,7 @@
 -- 01's number of each case of each enum: "a definition states this paper's number and values for each of the enum's cases".
-use Rattle.std.specs.Prelude.{ℕ, List, [], ◌∷◌, Float}
-use Rattle.std.proofs.Math.Option.{Option, none, some}
+use Rattle.std.specs.Prelude.{ℕ, List, [], ◌∷◌, Float, Option, None, Some}
 use Rattle.data.specs.Kinds.{key_kind, modifiers_kind, moved_kind, motion_kind, button_kind, gone_kind, zoom_kind, rotate_kind, touch_kind, wheel_kind, focus_kind, other_kind}
-use Rattle.data.specs.Types.{Pos2, Click, no_click, some_click}
+use Rattle.data.specs.Types.{Pos2, Click}
 use Rattle.data.specs.Types.{PointerButton, Primary, Secondary, Middle, Extra1, Extra2, TouchPhase, Start, Move, End, Cancel}
 use Rattle.data.specs.Types.{MouseWheelUnit, Point, Line, Page, MouseWheelSource, Unknown, Wheel, Trackpad, Momentum}
 use Rattle.data.specs.Types.{Status, Static, Smoothing, InTouch, PinchType, Horizontal, Vertical, Proportional}
@@ -71,20 +70,20 @@ pointer_event_number (Released click button) = 2
 
 -- its values: the position of a move or a press; the button of a press or a release; and "a release carries a click or none"
 abbrev pub pointer_event_position : PointerEvent → Option Pos2
-pointer_event_position (Moved pos) = some pos
-pointer_event_position (Pressed pos button) = some pos
-pointer_event_position (Released click button) = none
+pointer_event_position (Moved pos) = Some pos
+pointer_event_position (Pressed pos button) = Some pos
+pointer_event_position (Released click button) = None
 
 abbrev pub pointer_event_button : PointerEvent → Option ℕ
-pointer_event_button (Moved pos) = none
-pointer_event_button (Pressed pos button) = some (button_number button)
-pointer_event_button (Released click button) = some (button_number button)
+pointer_event_button (Moved pos) = None
+pointer_event_button (Pressed pos button) = Some (button_number button)
+pointer_event_button (Released click button) = Some (button_number button)
 
 abbrev pub pointer_event_click : PointerEvent → Option Click
-pointer_event_click (Moved pos) = none
-pointer_event_click (Pressed pos button) = none
-pointer_event_click (Released no_click button) = none
-pointer_event_click (Released (some_click click) button) = some click
+pointer_event_click (Moved pos) = None
+pointer_event_click (Pressed pos button) = None
+pointer_event_click (Released None button) = None
+pointer_event_click (Released (Some click) button) = Some click
 
 -- the kind, of "The feed"
 abbrev pub kind_number : Event → ℕ
@@ -116,11 +115,11 @@ pass_refusal_number (NoPlace index) = 5
 
 -- "Word indices, and row 4's index in a pass, name an event's first word"; row 3 has none
 abbrev pub pass_refusal_index : PassRefusal → Option ℕ
-pass_refusal_index (Malformed index) = some index
-pass_refusal_index (OutsideDomain index) = some index
-pass_refusal_index TimeBelow = none
-pass_refusal_index (TooManyEvents index) = some index
-pass_refusal_index (NoPlace index) = some index
+pass_refusal_index (Malformed index) = Some index
+pass_refusal_index (OutsideDomain index) = Some index
+pass_refusal_index TimeBelow = None
+pass_refusal_index (TooManyEvents index) = Some index
+pass_refusal_index (NoPlace index) = Some index
 
 abbrev pub pass_row : PassRefusal → Row
 pass_row q = record { number = pass_refusal_number q; index = pass_refusal_index q }
@@ -136,12 +135,12 @@ insert_refusal_number insertion.ZeroId = 9
 
 -- "in insert it is 0", in the rows that return one
 abbrev pub insert_refusal_index : InsertRefusal → Option ℕ
-insert_refusal_index insertion.Malformed = some 0
-insert_refusal_index insertion.OutsideDomain = some 0
-insert_refusal_index insertion.Full = none
-insert_refusal_index insertion.OtherLayer = none
-insert_refusal_index insertion.ShortSlice = none
-insert_refusal_index insertion.ZeroId = none
+insert_refusal_index insertion.Malformed = Some 0
+insert_refusal_index insertion.OutsideDomain = Some 0
+insert_refusal_index insertion.Full = None
+insert_refusal_index insertion.OtherLayer = None
+insert_refusal_index insertion.ShortSlice = None
+insert_refusal_index insertion.ZeroId = None
 
 abbrev pub insert_row : InsertRefusal → Row
 insert_row q = record { number = insert_refusal_number q; index = insert_refusal_index q }
@@ -156,11 +155,11 @@ interact_refusal_number interaction.TallyFull = 10
 
 -- "in interact an index is the entry's place in its list from 0"
 abbrev pub interact_refusal_index : InteractRefusal → Option ℕ
-interact_refusal_index (interaction.Malformed index) = some index
-interact_refusal_index (interaction.TooManyHits index) = some index
-interact_refusal_index interaction.ShortBuffer = none
-interact_refusal_index interaction.ZeroId = none
-interact_refusal_index interaction.TallyFull = none
+interact_refusal_index (interaction.Malformed index) = Some index
+interact_refusal_index (interaction.TooManyHits index) = Some index
+interact_refusal_index interaction.ShortBuffer = None
+interact_refusal_index interaction.ZeroId = None
+interact_refusal_index interaction.TallyFull = None
 
 abbrev pub interact_row : InteractRefusal → Row
 interact_row q = record { number = interact_refusal_number q; index = interact_refusal_index q }

@@ -2,7 +2,7 @@
 use crate::modifiers::Modifiers;
 use crate::mouse_wheel::{MouseWheelSource, MouseWheelUnit};
 use crate::pointer::PointerButton;
-use crate::touch::{MaybeF32, TouchPhase};
+use crate::touch::TouchPhase;
 use emath::pos2::Pos2;
 use emath::vec2::Vec2;
 
@@ -19,7 +19,7 @@ pub enum Event {
     Zoom(f32),
     Rotate(f32),
     // device_id, id, phase, pos, force
-    Touch(u64, u64, TouchPhase, Pos2, MaybeF32),
+    Touch(u64, u64, TouchPhase, Pos2, Option<f32>),
     // unit, delta, phase, source, modifiers
     MouseWheel(MouseWheelUnit, Vec2, TouchPhase, MouseWheelSource, Modifiers),
     WindowFocused(bool),

@@ -47,13 +47,6 @@ impl MouseWheelSource {
     }
 }
 
-// Option<MouseWheelSource>
-#[derive(Clone, Copy)]
-pub enum MaybeMouseWheelSource {
-    None,
-    Some(MouseWheelSource),
-}
-
 #[derive(Clone, Copy)]
 pub enum Status {
     Static,

@@ -48,18 +48,11 @@ pub struct Click {
     pub modifiers: Modifiers,
 }
 
-// Option<Click>
-#[derive(Clone, Copy)]
-pub enum MaybeClick {
-    None,
-    Some(Click),
-}
-
 #[derive(Clone, Copy)]
 pub enum PointerEvent {
     Moved(Pos2),
     Pressed(Pos2, PointerButton),
-    Released(MaybeClick, PointerButton),
+    Released(Option<Click>, PointerButton),
 }
 
 impl PointerEvent {
@@ -73,11 +66,4 @@ impl PointerEvent {
             PointerEvent::Released(_, _) => 2,
         }
     }
-}
-
-// Option<f64>: a time
-#[derive(Clone, Copy)]
-pub enum MaybeF64 {
-    None,
-    Some(f64),
 }

@@ -27,19 +27,12 @@ impl TouchPhase {
     }
 }
 
-// Option<f32>: a touch's force
-#[derive(Clone, Copy)]
-pub enum MaybeF32 {
-    None,
-    Some(f32),
-}
-
 // A touch that is held, with its id, which egui keeps as the key of a map.
 #[derive(Clone, Copy)]
 pub struct ActiveTouch {
     pub id: u64,
     pub pos: Pos2,
-    pub force: MaybeF32,
+    pub force: Option<f32>,
 }
 
 #[derive(Clone, Copy)]
@@ -72,27 +65,13 @@ pub struct DynGestureState {
     pub heading: Vec2,
 }
 
-// Option<DynGestureState>
-#[derive(Clone, Copy)]
-pub enum MaybeDynGestureState {
-    None,
-    Some(DynGestureState),
-}
-
 #[derive(Clone, Copy)]
 pub struct GestureState {
     pub start_time: f64,
     pub start_pointer_pos: Pos2,
     pub pinch_type: PinchType,
-    pub previous: MaybeDynGestureState,
+    pub previous: Option<DynGestureState>,
     pub current: DynGestureState,
-}
-
-// Option<GestureState>
-#[derive(Clone, Copy)]
-pub enum MaybeGestureState {
-    None,
-    Some(GestureState),
 }
 
 // The rotation of a pass: the sum of the feed's radians, or the previous and the current heading of a gesture.
@@ -127,11 +106,4 @@ pub struct MultiTouchInfo {
     pub heading: Vec2,
     pub translation_delta: Vec2,
     pub force: f32,
-}
-
-// Option<MultiTouchInfo>
-#[derive(Clone, Copy)]
-pub enum MaybeMultiTouchInfo {
-    None,
-    Some(MultiTouchInfo),
 }

@@ -13,7 +13,6 @@ use crate::limits::{
 };
 use data::event::Event;
 use data::options::InputOptions;
-use data::touch::MaybeF32;
 use emath::pos2::Pos2;
 use emath::rect::Rect;
 use emath::vec2::Vec2;
@@ -82,12 +81,12 @@ pub fn force_ok(x: f32) -> bool
     within32(0.0, 1.0, x)
 }
 
-pub fn maybe_force_ok(f: MaybeF32) -> bool
+pub fn maybe_force_ok(f: Option<f32>) -> bool
     ensures { result ≡ maybe_force_ok f }
 {
     match f {
-        MaybeF32::None => true,
-        MaybeF32::Some(x) => force_ok(x),
+        None => true,
+        Some(x) => force_ok(x),
     }
 }
 

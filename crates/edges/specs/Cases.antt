@@ -1,12 +1,11 @@
 -- 01, "Edges": the lines marked P and the two after them, as one table. Definitions only.
-use Rattle.std.specs.Prelude.{ℕ, ◌+◌, ◌*◌, Bool, true, false, cond, List, [], ◌∷◌, ◌++◌, eqb, replicate, Float}
-use Rattle.std.proofs.Math.Option.{Option, none, some}
+use Rattle.std.specs.Prelude.{ℕ, ◌+◌, ◌*◌, Bool, true, false, cond, List, [], ◌∷◌, ◌++◌, eqb, replicate, Float, Option, None, Some}
 use Rattle.std.specs.Float.{nan, binary64}
 use Rattle.std.specs.Float.Ieee.{round}
 use Rattle.data.specs.Modifiers.{no_modifiers}
 use Rattle.feed.specs.Encode.{encode_all}
 use Rattle.model.specs.Options.{default_options}
-use Rattle.model.specs.Types.{Pos2, Vec2, Rect, InputOptions, WidgetRect, Primary, Point, Unknown, Trackpad, Start, Move, no_force, no_click, some_click}
+use Rattle.model.specs.Types.{Pos2, Vec2, Rect, InputOptions, WidgetRect, Primary, Point, Unknown, Trackpad, Start, Move}
 use Rattle.model.specs.Types.{PointerEvent, Moved, Pressed, Released, Event, PointerMoved, Button, Touch, MouseWheel}
 use Rattle.model.specs.Pass.{PassInput, fresh}
 use Rattle.model.specs.Widgets.{no_widgets}
@@ -66,7 +65,7 @@ given t rect factor o ws =
 
 -- a pass at a time, with the smoothing factor 0.5
 unfoldable pub pass_at : Float → InputOptions → List Event → PassInput
-pass_at t o es = given (some t) (some (record { min = pos 0 0; max = pos 640 480 })) (dec 0 5000) o (encode_all es)
+pass_at t o es = given (Some t) (Some (record { min = pos 0 0; max = pos 640 480 })) (dec 0 5000) o (encode_all es)
 
 unfoldable pub at : Float → InputOptions → List Event → Step
 at t o es = passes (pass_at t o es)
@@ -79,7 +78,7 @@ release p = Button p Primary false no_modifiers
 
 -- a release at p that is a click, and the number that it counts
 unfoldable pub clicks : Pos2 → ℕ → PointerEvent
-clicks p n = Released (some_click (record { pos = p; count = n; modifiers = no_modifiers })) Primary
+clicks p n = Released (Some (record { pos = p; count = n; modifiers = no_modifiers })) Primary
 
 -- a press and a release at p, in a pass at t: the release is a click that counts n
 unfoldable pub click : InputOptions → Float → Pos2 → ℕ → List Step
@@ -94,10 +93,10 @@ point delta = MouseWheel Point delta Move Unknown no_modifiers
 
 -- of device 1
 unfoldable pub finger_starts : ℕ → Pos2 → Event
-finger_starts i p = Touch 1 i Start p no_force
+finger_starts i p = Touch 1 i Start p None
 
 unfoldable pub finger_moves : ℕ → Pos2 → Event
-finger_moves i p = Touch 1 i Move p no_force
+finger_moves i p = Touch 1 i Move p None
 
 -- ---- the table
 
@@ -189,11 +188,11 @@ widget id sense =
 unfoldable pub on_it : InteractInput
 on_it =
     record {
-      widgets = λ d. cond (eqb d 7) (some (widget 7 2)) none;
+      widgets = λ d. cond (eqb d 7) (Some (widget 7 2)) None;
       close = record { id = 7; sense = 2 } ∷ [];
       contains_pointer = record { id = 7; sense = 2 } ∷ [];
-      click = none;
-      drag = some (record { id = 7; sense = 2 });
+      click = None;
+      drag = Some (record { id = 7; sense = 2 });
       hovered_places = 66;
       contains_places = 66;
     }
@@ -202,9 +201,9 @@ on_it =
 unfoldable pub dragged_on : List Step
 dragged_on =
     at (dec 1 0) default_options (press (pos 5 5) ∷ [])
-    ∷ interacts on_it (record { drag_started = some 7; dragged = some 7; drag_stopped = none })
+    ∷ interacts on_it (record { drag_started = Some 7; dragged = Some 7; drag_stopped = None })
     ∷ at (dec 2 0) default_options (release (pos 5 5) ∷ press (pos 5 5) ∷ [])
-    ∷ interacts on_it (record { drag_started = none; dragged = some 7; drag_stopped = none }) ∷ []
+    ∷ interacts on_it (record { drag_started = None; dragged = Some 7; drag_stopped = None }) ∷ []
 
 -- "Coincident fingers kept still: zoom is 0/0, not a number."
 unfoldable pub coincident : List Step
@@ -222,7 +221,7 @@ lone_release = at (dec 1 0) default_options (release (pos 0 0) ∷ []) ∷ answe
 unfoldable pub second_release : List Step
 second_release =
     at (dec 1 0) default_options (release (pos 0 0) ∷ release (pos 0 0) ∷ [])
-    ∷ answers pointer_events (events (Released no_click Primary ∷ clicks (pos 0 0) 1 ∷ [])) ∷ []
+    ∷ answers pointer_events (events (Released None Primary ∷ clicks (pos 0 0) 1 ∷ [])) ∷ []
 
 -- "widgets a, b, c; a moved to top: b, c, a.": 11, 12, 13 in a slice of three places that holds 99s
 unfoldable pub moved_to_top : List Step

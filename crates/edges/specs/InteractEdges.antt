@@ -1,6 +1,5 @@
 -- Edges of the definitions of an insertion and of an interact that 01 names no case for. Definitions only.
-use Rattle.std.specs.Prelude.{ℕ, zero, suc, ◌+◌, Bool, true, false, cond, List, [], ◌∷◌, ◌++◌, eqb, replicate}
-use Rattle.std.proofs.Math.Option.{Option, none, some}
+use Rattle.std.specs.Prelude.{ℕ, zero, suc, ◌+◌, Bool, true, false, cond, List, [], ◌∷◌, ◌++◌, eqb, replicate, Option, None, Some}
 use Rattle.data.specs.Limits.{id_places, max_tally, max_layers, max_hits}
 use Rattle.data.specs.Modifiers.{no_modifiers}
 use Rattle.data.specs.Numbers.{Row}
@@ -8,7 +7,7 @@ use Rattle.data.specs.Sense.{senses_click, senses_drag}
 use Rattle.model.specs.Types.{Rect, LayerId, WidgetRect, Secondary, Key, PointerMoved, PointerGone, Button}
 use Rattle.model.specs.Interact.{Hit, InteractInput, InteractionSnapshot}
 use Rattle.model.specs.Widgets.{WidgetRects, Known}
-use Rattle.model.specs.Questions.{bool, count, widget, tally}
+use Rattle.model.specs.Questions.{count, widget, tally}
 use Rattle.model.specs.Questions as Q
 use Rattle.edges.specs.Steps.{Step, answers, replies, snapshots, interacts, refuses_interact, tallies, inserts, refuses_insert, stands_at, records, lends, keeps}
 use Rattle.edges.specs.Cases.{dec, pos, at, press, release, click_duration, finger_starts, on_it}
@@ -137,8 +136,8 @@ OfInsertion = records_refused ∷ thirty_third_layer ∷ full_set ∷ insert_ord
 
 -- the widget with an id
 unfoldable pub among : List WidgetRect → ℕ → Option WidgetRect
-among [] d = none
-among (w ∷ ws) d = cond (eqb d w.id) (some w) (among ws d)
+among [] d = None
+among (w ∷ ws) d = cond (eqb d w.id) (Some w) (among ws d)
 
 -- widgets and hits: close, contains_pointer, click, drag; both id buffers have the places that they need
 unfoldable pub hits : List WidgetRect → List Hit → List Hit → Option Hit → Option Hit → InteractInput
@@ -160,14 +159,14 @@ hit id sense = record { id = id; sense = sense }
 unfoldable pub on : WidgetRect → InteractInput
 on w =
     let h = hit w.id w.sense in
-    hits (w ∷ []) (h ∷ []) (h ∷ []) (cond (senses_click w.sense) (some h) none) (cond (senses_drag w.sense) (some h) none)
+    hits (w ∷ []) (h ∷ []) (h ∷ []) (cond (senses_click w.sense) (Some h) None) (cond (senses_drag w.sense) (Some h) None)
 
 unfoldable pub off : WidgetRect → InteractInput
-off w = hits (w ∷ []) [] [] none none
+off w = hits (w ∷ []) [] [] None None
 
 -- no widget at all
 unfoldable pub on_nothing : InteractInput
-on_nothing = hits [] [] [] none none
+on_nothing = hits [] [] [] None None
 
 -- widgets that sense clicks, drags, both
 unfoldable pub button : ℕ → WidgetRect
@@ -197,7 +196,7 @@ unfoldable pub drags : InteractInput → Option ℕ → Option ℕ → Option �
 drags x s d p = interacts x (record { drag_started = s; dragged = d; drag_stopped = p })
 
 unfoldable pub nothing_happens : InteractInput → Step
-nothing_happens x = drags x none none none
+nothing_happens x = drags x None None None
 
 -- what might be clicked, what might be dragged
 unfoldable pub might : Option ℕ → Option ℕ → List Step
@@ -210,95 +209,95 @@ disabled sense = made 7 1 (layer 1 1) sense false true nine nine
 unfoldable pub disabled_drag : List Step
 disabled_drag =
     then (dec 1 0) (press (pos 5 5) ∷ [])
-    ∷ snapshots (on (disabled 2)) (answer none none none none none (7 ∷ []) (7 ∷ [])) ∷ (might none (some 7) ++ (replies tally (count 0) ∷ []))
+    ∷ snapshots (on (disabled 2)) (answer None None None None None (7 ∷ []) (7 ∷ [])) ∷ (might None (Some 7) ++ (replies tally (count 0) ∷ []))
 
 unfoldable pub disabled_click : List Step
 disabled_click =
-    then (dec 1 0) (press (pos 5 5) ∷ release (pos 5 5) ∷ []) ∷ snapshots (on (disabled 1)) (answer (some 7) none none none none (7 ∷ []) (7 ∷ [])) ∷ []
+    then (dec 1 0) (press (pos 5 5) ∷ release (pos 5 5) ∷ []) ∷ snapshots (on (disabled 1)) (answer (Some 7) None None None None (7 ∷ []) (7 ∷ [])) ∷ []
 
 -- pressed and released: a click, once; the second release of that pass clicks nothing, and leaves the click
 unfoldable pub clicked_once : List Step
 clicked_once =
-    then (dec 1 0) (press (pos 5 5) ∷ []) ∷ nothing_happens (on (button 7)) ∷ (might (some 7) none
+    then (dec 1 0) (press (pos 5 5) ∷ []) ∷ nothing_happens (on (button 7)) ∷ (might (Some 7) None
     ++ (then (dec 1 1250) (release (pos 5 5) ∷ release (pos 5 5) ∷ [])
-    ∷ snapshots (on (button 7)) (answer (some 7) none none none none (7 ∷ []) (7 ∷ [])) ∷ (might none none
-    ++ (then (dec 1 2500) [] ∷ snapshots (off (button 7)) (answer none none none none none [] []) ∷ []))))
+    ∷ snapshots (on (button 7)) (answer (Some 7) None None None None (7 ∷ []) (7 ∷ [])) ∷ (might None None
+    ++ (then (dec 1 2500) [] ∷ snapshots (off (button 7)) (answer None None None None None [] []) ∷ []))))
 
 -- the widget that might be clicked is gone for a pass, and so is the click
 unfoldable pub clicked_and_gone : List Step
 clicked_and_gone =
-    then (dec 1 0) (press (pos 5 5) ∷ []) ∷ nothing_happens (on (button 7)) ∷ then (dec 1 1250) [] ∷ nothing_happens on_nothing ∷ (might none none
-    ++ (then (dec 1 2500) (release (pos 5 5) ∷ []) ∷ snapshots (on (button 7)) (answer none none none none none (7 ∷ []) (7 ∷ [])) ∷ []))
+    then (dec 1 0) (press (pos 5 5) ∷ []) ∷ nothing_happens (on (button 7)) ∷ then (dec 1 1250) [] ∷ nothing_happens on_nothing ∷ (might None None
+    ++ (then (dec 1 2500) (release (pos 5 5) ∷ []) ∷ snapshots (on (button 7)) (answer None None None None None (7 ∷ []) (7 ∷ [])) ∷ []))
 
 -- a second press names no other widget
 unfoldable pub pressed_twice : List Step
 pressed_twice =
     then (dec 1 0) (press (pos 5 5) ∷ []) ∷ nothing_happens (on (both 7)) ∷ then (dec 1 1250) (Button (pos 5 5) Secondary true no_modifiers ∷ [])
-    ∷ nothing_happens (hits (both 7 ∷ both 8 ∷ []) [] (hit 7 3 ∷ []) (some (hit 8 3)) (some (hit 8 3))) ∷ might (some 7) (some 7)
+    ∷ nothing_happens (hits (both 7 ∷ both 8 ∷ []) [] (hit 7 3 ∷ []) (Some (hit 8 3)) (Some (hit 8 3))) ∷ might (Some 7) (Some 7)
 
 -- a widget that senses both waits until the press is decided, and is no click then
 unfoldable pub decided_drag : List Step
 decided_drag =
     then (dec 1 0) (press (pos 5 5) ∷ []) ∷ nothing_happens (on (both 7))
-    ∷ then (dec 1 1250) (PointerMoved (pos 100 5) ∷ []) ∷ snapshots (on (both 7)) (answer none none (some 7) (some 7) none (7 ∷ []) (7 ∷ [])) ∷ (might none (some 7)
-    ++ (then (dec 1 2500) (release (pos 100 5) ∷ []) ∷ snapshots (on (both 7)) (answer none none none none (some 7) (7 ∷ []) (7 ∷ []))
+    ∷ then (dec 1 1250) (PointerMoved (pos 100 5) ∷ []) ∷ snapshots (on (both 7)) (answer None None (Some 7) (Some 7) None (7 ∷ []) (7 ∷ [])) ∷ (might None (Some 7)
+    ++ (then (dec 1 2500) (release (pos 100 5) ∷ []) ∷ snapshots (on (both 7)) (answer None None None None (Some 7) (7 ∷ []) (7 ∷ []))
     ∷ replies tally (count 1) ∷ []))
 
 -- or until the pointer has left it: neither in contains_pointer nor the click's hit
 unfoldable pub left_by_the_pointer : InteractInput → Option ℕ → List Step
 left_by_the_pointer x d =
-    then (dec 1 0) (press (pos 5 5) ∷ []) ∷ nothing_happens (on (both 7)) ∷ then (dec 1 1250) (PointerMoved (pos 6 5) ∷ []) ∷ drags x d d none ∷ []
+    then (dec 1 0) (press (pos 5 5) ∷ []) ∷ nothing_happens (on (both 7)) ∷ then (dec 1 1250) (PointerMoved (pos 6 5) ∷ []) ∷ drags x d d None ∷ []
 
 unfoldable pub undecided : List (List Step)
 undecided =
-    left_by_the_pointer (off (both 7)) (some 7) ∷ left_by_the_pointer (hits (both 7 ∷ []) [] (hit 7 3 ∷ []) (some (hit 8 1)) none) none
-    ∷ left_by_the_pointer (hits (both 7 ∷ []) [] (hit 8 3 ∷ []) (some (hit 7 3)) none) none
-    ∷ left_by_the_pointer (hits (both 7 ∷ []) (hit 7 3 ∷ []) (hit 8 3 ∷ []) (some (hit 8 1)) (some (hit 7 3))) (some 7) ∷ []
+    left_by_the_pointer (off (both 7)) (Some 7) ∷ left_by_the_pointer (hits (both 7 ∷ []) [] (hit 7 3 ∷ []) (Some (hit 8 1)) None) None
+    ∷ left_by_the_pointer (hits (both 7 ∷ []) [] (hit 8 3 ∷ []) (Some (hit 7 3)) None) None
+    ∷ left_by_the_pointer (hits (both 7 ∷ []) (hit 7 3 ∷ []) (hit 8 3 ∷ []) (Some (hit 8 1)) (Some (hit 7 3))) (Some 7) ∷ []
 
 -- 01, "Slips to refuse": "Removing a dragged widget's drag when the widget vanishes." It stays; Escape ends it, another key doesn't
 unfoldable pub dragged_and_gone : List Step
 dragged_and_gone =
-    then (dec 1 0) (press (pos 5 5) ∷ []) ∷ drags (on (handle 7)) (some 7) (some 7) none
-    ∷ then (dec 1 1250) [] ∷ snapshots on_nothing (answer none none none (some 7) none (7 ∷ []) []) ∷ (might none (some 7)
-    ++ (then (dec 1 2500) (PointerGone ∷ Key 5 true ∷ []) ∷ drags (on (handle 7)) none (some 7) none ∷ (might none none
-    ++ (then (dec 1 3750) (Key 4 true ∷ []) ∷ drags (on (handle 7)) none none (some 7) ∷ []))))
+    then (dec 1 0) (press (pos 5 5) ∷ []) ∷ drags (on (handle 7)) (Some 7) (Some 7) None
+    ∷ then (dec 1 1250) [] ∷ snapshots on_nothing (answer None None None (Some 7) None (7 ∷ []) []) ∷ (might None (Some 7)
+    ++ (then (dec 1 2500) (PointerGone ∷ Key 5 true ∷ []) ∷ drags (on (handle 7)) None (Some 7) None ∷ (might None None
+    ++ (then (dec 1 3750) (Key 4 true ∷ []) ∷ drags (on (handle 7)) None None (Some 7) ∷ []))))
 
 unfoldable pub escaped : List Step
 escaped =
-    then (dec 1 0) (press (pos 5 5) ∷ []) ∷ drags (on (handle 7)) (some 7) (some 7) none ∷ then (dec 1 1250) (Key 4 true ∷ []) ∷ drags (on (handle 7)) none none (some 7)
-    ∷ (might none none ++ (then (dec 1 2500) [] ∷ nothing_happens (on (handle 7)) ∷ []))
+    then (dec 1 0) (press (pos 5 5) ∷ []) ∷ drags (on (handle 7)) (Some 7) (Some 7) None ∷ then (dec 1 1250) (Key 4 true ∷ []) ∷ drags (on (handle 7)) None None (Some 7)
+    ∷ (might None None ++ (then (dec 1 2500) [] ∷ nothing_happens (on (handle 7)) ∷ []))
 
 -- a release and a press on another widget in one pass: one drag stops, the other starts
 unfoldable pub another_dragged : List Step
 another_dragged =
-    then (dec 1 0) (press (pos 5 5) ∷ []) ∷ drags (on (handle 7)) (some 7) (some 7) none
-    ∷ then (dec 1 1250) (release (pos 5 5) ∷ press (pos 6 6) ∷ []) ∷ drags (on (handle 8)) (some 8) (some 8) (some 7) ∷ replies tally (count 2) ∷ []
+    then (dec 1 0) (press (pos 5 5) ∷ []) ∷ drags (on (handle 7)) (Some 7) (Some 7) None
+    ∷ then (dec 1 1250) (release (pos 5 5) ∷ press (pos 6 6) ∷ []) ∷ drags (on (handle 8)) (Some 8) (Some 8) (Some 7) ∷ replies tally (count 2) ∷ []
 
 -- a long touch is a click of what might be clicked, and no drag; the release clicks no more
 unfoldable pub long_touched : List Step
 long_touched =
     at (dec 1 0) (click_duration (dec 0 7500)) (press (pos 5 5) ∷ finger_starts 1 (pos 5 5) ∷ []) ∷ nothing_happens (on (both 7))
-    ∷ at (dec 2 0) (click_duration (dec 0 7500)) [] ∷ snapshots (on (both 7)) (answer (some 7) (some 7) none none none (7 ∷ []) (7 ∷ [])) ∷ (might none none
-    ++ (at (dec 2 1250) (click_duration (dec 0 7500)) (release (pos 5 5) ∷ []) ∷ snapshots (on (both 7)) (answer none none none none none (7 ∷ []) (7 ∷ [])) ∷ []))
+    ∷ at (dec 2 0) (click_duration (dec 0 7500)) [] ∷ snapshots (on (both 7)) (answer (Some 7) (Some 7) None None None (7 ∷ []) (7 ∷ [])) ∷ (might None None
+    ++ (at (dec 2 1250) (click_duration (dec 0 7500)) (release (pos 5 5) ∷ []) ∷ snapshots (on (both 7)) (answer None None None None None (7 ∷ []) (7 ∷ [])) ∷ []))
 
 -- held as long without a finger, it is no touch
 unfoldable pub long_pressed : List Step
 long_pressed =
     at (dec 1 0) (click_duration (dec 0 7500)) (press (pos 5 5) ∷ []) ∷ nothing_happens (on (button 7))
-    ∷ at (dec 2 0) (click_duration (dec 0 7500)) [] ∷ snapshots (on (button 7)) (answer none none none none none (7 ∷ []) (7 ∷ [])) ∷ might none none
+    ∷ at (dec 2 0) (click_duration (dec 0 7500)) [] ∷ snapshots (on (button 7)) (answer None None None None None (7 ∷ []) (7 ∷ [])) ∷ might None None
 
 -- with no button down: hits, hovered, contains_pointer
 unfoldable pub hovers : List Hit → List Hit → Option Hit → Option Hit → List ℕ → List ℕ → List Step
-hovers close contains click drag hovered all = snapshots (hits [] close contains click drag) (answer none none none none none hovered all) ∷ []
+hovers close contains click drag hovered all = snapshots (hits [] close contains click drag) (answer None None None None None hovered all) ∷ []
 
 -- a label on top of the button is hovered with it, one below it is not, and one that is not close counts as the lowest; ids leave ascending, once each
 unfoldable pub hovered_sets : List (List Step)
 hovered_sets =
-    hovers (hit 30 0 ∷ hit 20 1 ∷ hit 10 4 ∷ []) (hit 30 0 ∷ hit 20 1 ∷ hit 10 4 ∷ hit 30 0 ∷ []) (some (hit 20 1)) none (10 ∷ 20 ∷ []) (10 ∷ 20 ∷ 30 ∷ [])
-    ∷ hovers (hit 20 1 ∷ hit 15 0 ∷ hit 30 2 ∷ []) (hit 15 0 ∷ []) (some (hit 20 1)) (some (hit 30 2)) (20 ∷ 30 ∷ []) (15 ∷ 20 ∷ 30 ∷ [])
-    ∷ hovers (hit 30 2 ∷ hit 15 0 ∷ hit 20 1 ∷ []) (hit 15 0 ∷ []) (some (hit 20 1)) (some (hit 30 2)) (20 ∷ 30 ∷ []) (15 ∷ 20 ∷ 30 ∷ [])
-    ∷ hovers (hit 5 0 ∷ hit 20 1 ∷ []) (hit 9 0 ∷ []) (some (hit 20 1)) none (20 ∷ []) (9 ∷ 20 ∷ [])
-    ∷ hovers (hit 20 1 ∷ []) (hit 9 0 ∷ hit 8 1 ∷ hit 7 2 ∷ []) (some (hit 20 1)) none (9 ∷ 20 ∷ []) (7 ∷ 8 ∷ 9 ∷ 20 ∷ []) ∷ []
+    hovers (hit 30 0 ∷ hit 20 1 ∷ hit 10 4 ∷ []) (hit 30 0 ∷ hit 20 1 ∷ hit 10 4 ∷ hit 30 0 ∷ []) (Some (hit 20 1)) None (10 ∷ 20 ∷ []) (10 ∷ 20 ∷ 30 ∷ [])
+    ∷ hovers (hit 20 1 ∷ hit 15 0 ∷ hit 30 2 ∷ []) (hit 15 0 ∷ []) (Some (hit 20 1)) (Some (hit 30 2)) (20 ∷ 30 ∷ []) (15 ∷ 20 ∷ 30 ∷ [])
+    ∷ hovers (hit 30 2 ∷ hit 15 0 ∷ hit 20 1 ∷ []) (hit 15 0 ∷ []) (Some (hit 20 1)) (Some (hit 30 2)) (20 ∷ 30 ∷ []) (15 ∷ 20 ∷ 30 ∷ [])
+    ∷ hovers (hit 5 0 ∷ hit 20 1 ∷ []) (hit 9 0 ∷ []) (Some (hit 20 1)) None (20 ∷ []) (9 ∷ 20 ∷ [])
+    ∷ hovers (hit 20 1 ∷ []) (hit 9 0 ∷ hit 8 1 ∷ hit 7 2 ∷ []) (Some (hit 20 1)) None (9 ∷ 20 ∷ []) (7 ∷ 8 ∷ 9 ∷ 20 ∷ []) ∷ []
 
 -- ---- refusals of an interact
 
@@ -334,24 +333,24 @@ bad = hit 0 8
 -- "Interact: 8, then by list close, contains_pointer, click, drag: 4, 1, 9 by entry": what breaks two answers the earlier
 unfoldable pub interact_order : List Step
 interact_order =
-    refuses_interact (with_places 65 66 (hits [] (bad ∷ []) [] none none)) (bare_row 8) ∷ refuses_interact (with_places 66 65 on_it) (bare_row 8)
-    ∷ refuses (replicate max_hits good ++ (bad ∷ [])) (bad_sense ∷ []) none none (row 4 64)
-    ∷ refuses (good ∷ bad_id ∷ replicate max_hits good) (bad_sense ∷ []) none none (bare_row 9)
-    ∷ refuses (good ∷ good ∷ bad ∷ []) (bad_id ∷ []) none none (row 1 2)
-    ∷ refuses (good ∷ bad_id ∷ bad_sense ∷ []) [] none none (bare_row 9)
-    ∷ refuses [] (replicate max_hits good ++ (good ∷ [])) (some bad_sense) none (row 4 64)
-    ∷ refuses [] (good ∷ bad_sense ∷ []) (some bad_id) none (row 1 1)
-    ∷ refuses [] [] (some bad) (some bad_id) (row 1 0) ∷ refuses [] [] (some bad_id) (some bad_sense) (bare_row 9)
-    ∷ refuses [] [] none (some bad_sense) (row 1 0) ∷ refuses [] [] none (some bad_id) (bare_row 9)
-    ∷ nothing_happens (hits [] (replicate max_hits good) (replicate max_hits good) (some good) (some good)) ∷ []
+    refuses_interact (with_places 65 66 (hits [] (bad ∷ []) [] None None)) (bare_row 8) ∷ refuses_interact (with_places 66 65 on_it) (bare_row 8)
+    ∷ refuses (replicate max_hits good ++ (bad ∷ [])) (bad_sense ∷ []) None None (row 4 64)
+    ∷ refuses (good ∷ bad_id ∷ replicate max_hits good) (bad_sense ∷ []) None None (bare_row 9)
+    ∷ refuses (good ∷ good ∷ bad ∷ []) (bad_id ∷ []) None None (row 1 2)
+    ∷ refuses (good ∷ bad_id ∷ bad_sense ∷ []) [] None None (bare_row 9)
+    ∷ refuses [] (replicate max_hits good ++ (good ∷ [])) (Some bad_sense) None (row 4 64)
+    ∷ refuses [] (good ∷ bad_sense ∷ []) (Some bad_id) None (row 1 1)
+    ∷ refuses [] [] (Some bad) (Some bad_id) (row 1 0) ∷ refuses [] [] (Some bad_id) (Some bad_sense) (bare_row 9)
+    ∷ refuses [] [] None (Some bad_sense) (row 1 0) ∷ refuses [] [] None (Some bad_id) (bare_row 9)
+    ∷ nothing_happens (hits [] (replicate max_hits good) (replicate max_hits good) (Some good) (Some good)) ∷ []
 
 -- "last 10": with the tally full only a start is refused, and only if nothing else is
 unfoldable pub full_tally : List Step
 full_tally =
     then (dec 1 0) (press (pos 5 5) ∷ []) ∷ tallies max_tally ∷ nothing_happens (off (handle 7)) ∷ refuses_interact (on (handle 7)) (bare_row 10)
     ∷ refuses_interact (with_places 65 66 (on (handle 7))) (bare_row 8) ∷ nothing_happens (on (disabled 2))
-    ∷ tallies 4294967294 ∷ drags (on (handle 7)) (some 7) (some 7) none ∷ replies tally (count max_tally)
-    ∷ then (dec 2 0) (release (pos 5 5) ∷ []) ∷ drags (on (handle 7)) none none (some 7) ∷ replies tally (count max_tally) ∷ []
+    ∷ tallies 4294967294 ∷ drags (on (handle 7)) (Some 7) (Some 7) None ∷ replies tally (count max_tally)
+    ∷ then (dec 2 0) (release (pos 5 5) ∷ []) ∷ drags (on (handle 7)) None None (Some 7) ∷ replies tally (count max_tally) ∷ []
 
 unfoldable pub OfInteract : List (List Step)
 OfInteract =

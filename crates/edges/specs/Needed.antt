@@ -1,10 +1,9 @@
 -- The clearing pass (01): two pasts that it clears, and for each of its parts, and for the wait before the first press, two pasts that are not alike later
 -- without it. Definitions only; all of it is evaluated.
-use Rattle.std.specs.Prelude.{◌≡◌, Bool, true, false, not, ◌&&◌, List, [], ◌∷◌, ◌++◌, Float}
-use Rattle.std.proofs.Math.Option.{none}
+use Rattle.std.specs.Prelude.{◌≡◌, Bool, true, false, not, ◌&&◌, List, [], ◌∷◌, ◌++◌, Float, None}
 use Rattle.std.specs.Float.{binary64}
 use Rattle.data.specs.Modifiers.{no_modifiers}
-use Rattle.model.specs.Types.{Primary, Secondary, Middle, Extra1, Extra2, Point, Unknown, Trackpad, Start, End, no_force}
+use Rattle.model.specs.Types.{Primary, Secondary, Middle, Extra1, Extra2, Point, Unknown, Trackpad, Start, End}
 use Rattle.model.specs.Types.{Event, Key, PointerMoved, MouseMoved, Button, PointerGone, Touch, MouseWheel, WindowFocused}
 use Rattle.model.specs.Pass.{Panel, fresh}
 use Rattle.model.specs.Interact.{InteractInput}
@@ -21,7 +20,7 @@ unfoldable pub at : Float → List Event → Call
 at t es = passes (pass_at t (delay (dec 0 2500)) es)
 
 unfoldable pub ends : List Event
-ends = Touch 1 1 End (pos 0 0) no_force ∷ []
+ends = Touch 1 1 End (pos 0 0) None ∷ []
 
 unfoldable pub releases : List Event
 releases =
@@ -42,7 +41,7 @@ pointer_gone = PointerGone ∷ []
 
 -- with the pointer on no widget
 unfoldable pub on_nothing : InteractInput
-on_nothing = record { widgets = λ d. none; close = []; contains_pointer = []; click = none; drag = none; hovered_places = 66; contains_places = 66 }
+on_nothing = record { widgets = λ d. None; close = []; contains_pointer = []; click = None; drag = None; hovered_places = 66; contains_places = 66 }
 
 -- a clearing pass at 2.0 with some feed, and its interact
 unfoldable pub clearing : List Event → List Call
@@ -95,7 +94,7 @@ whole = ends ++ releases ++ relative_motion ++ wheel_end ++ focus_lost ++ pointe
 unfoldable pub part_ends : Part
 part_ends =
     record {
-      left = at (dec 1 0) (Touch 1 1 Start (pos 0 0) no_force ∷ []) ∷ [];
+      left = at (dec 1 0) (Touch 1 1 Start (pos 0 0) None ∷ []) ∷ [];
       right = [];
       feed = releases ++ relative_motion ++ wheel_end ++ focus_lost ++ pointer_gone;
       later = at (dec 3 0) [] ∷ [];
@@ -187,13 +186,13 @@ unfoldable pub lost_release : List Call
 lost_release = at (dec 1 0) (press (pos 0 0) ∷ PointerMoved (pos 100 0) ∷ Key 5 true ∷ []) ∷ interacts on_it ∷ []
 
 unfoldable pub held_finger : List Call
-held_finger = at (dec 1 0) (PointerMoved (pos 3 3) ∷ Touch 1 1 Start (pos 3 3) no_force ∷ []) ∷ []
+held_finger = at (dec 1 0) (PointerMoved (pos 3 3) ∷ Touch 1 1 Start (pos 3 3) None ∷ []) ∷ []
 
 -- presses, clicks, a drag, fingers: from twice the delay on
 unfoldable pub later_calls : List Call
 later_calls =
     at (dec 2 1000) [] ∷ interacts on_it ∷ at (dec 2 5000) (press (pos 5 5) ∷ []) ∷ interacts on_it ∷ at (dec 2 6000) (release (pos 5 5) ∷ []) ∷ interacts on_it
-    ∷ at (dec 2 7000) (press (pos 5 5) ∷ release (pos 5 5) ∷ Touch 1 1 Start (pos 0 0) no_force ∷ Touch 1 2 Start (pos 4 0) no_force ∷ []) ∷ interacts on_nothing
+    ∷ at (dec 2 7000) (press (pos 5 5) ∷ release (pos 5 5) ∷ Touch 1 1 Start (pos 0 0) None ∷ Touch 1 2 Start (pos 4 0) None ∷ []) ∷ interacts on_nothing
     ∷ at (dec 2 8000) (MouseWheel Point (vec 0 9) Start Trackpad no_modifiers ∷ Key 5 true ∷ []) ∷ []
 
 -- of every settled question one

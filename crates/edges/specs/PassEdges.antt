@@ -1,6 +1,5 @@
 -- Edges of the definitions of a pass that 01 names no case for: the wheel, touches, the pointer, keys and sums, refusals. Definitions only.
-use Rattle.std.specs.Prelude.{ℕ, zero, suc, ◌+◌, ◌*◌, Bool, true, false, List, [], ◌∷◌, ◌++◌, replicate, Float}
-use Rattle.std.proofs.Math.Option.{none, some}
+use Rattle.std.specs.Prelude.{ℕ, zero, suc, ◌+◌, ◌*◌, Bool, true, false, List, [], ◌∷◌, ◌++◌, replicate, Float, None, Some}
 use Rattle.std.specs.Float.{binary32, binary64}
 use Rattle.std.specs.Float.Ieee.{round, of_bits, to_bits}
 use Rattle.data.specs.Modifiers.{no_modifiers}
@@ -8,8 +7,8 @@ use Rattle.data.specs.Numbers.{Row}
 use Rattle.feed.specs.Encode.{encode_all}
 use Rattle.model.specs.Options.{default_options}
 use Rattle.model.specs.Types.{Pos2, Vec2, Modifiers, Primary, Secondary, Point, Line, Page, Unknown, Wheel, Trackpad, Momentum, Start, Move, End, Cancel}
-use Rattle.model.specs.Types.{TouchPhase, MouseWheelUnit, MouseWheelSource, no_force, some_force, no_pos, some_pos, no_vec, some_vec, no_time, some_time, no_number, Some_number, no_source, some_source}
-use Rattle.model.specs.Types.{MultiTouchInfo, no_info, some_info, Radians, Headings, some_click, Pressed, Released}
+use Rattle.model.specs.Types.{TouchPhase, MouseWheelUnit, MouseWheelSource}
+use Rattle.model.specs.Types.{MultiTouchInfo, Radians, Headings, Pressed, Released}
 use Rattle.model.specs.Types.{Event, Key, ModifiersChanged, PointerMoved, MouseMoved, Button, PointerGone, Zoom, Rotate, Touch, MouseWheel, WindowFocused}
 use Rattle.model.specs.Pass.{PassInput}
 use Rattle.model.specs.Questions.{bool, count, number, vector, maybe_vector, maybe_position, maybe_seconds, maybe_number, rectangle, flags, source, zoom, zoom_2d, rotation, gesture, events, has_touch_screen}
@@ -55,10 +54,10 @@ then t es = at t default_options es
 
 -- a row that returns an index, and one that doesn't
 unfoldable pub row : ℕ → ℕ → Row
-row n i = record { number = n; index = some i }
+row n i = record { number = n; index = Some i }
 
 unfoldable pub bare_row : ℕ → Row
-bare_row n = record { number = n; index = none }
+bare_row n = record { number = n; index = None }
 
 -- ---- the wheel
 
@@ -107,7 +106,7 @@ deltas =
 unfoldable pub in_touch : List Step
 in_touch =
     then (dec 1 0) (MouseWheel Point (vec 0 0) Start Trackpad no_modifiers ∷ MouseWheel Line (vec 0 1) Move Trackpad no_modifiers ∷ [])
-    ∷ answers Q.smooth_scroll_delta (vector (vec 0 40)) ∷ unprocessed (vec 0 0) ∷ answers Q.scroll_source (source (some_source Trackpad)) ∷ []
+    ∷ answers Q.smooth_scroll_delta (vector (vec 0 40)) ∷ unprocessed (vec 0 0) ∷ answers Q.scroll_source (source (Some Trackpad)) ∷ []
 
 -- a Start keeps what is left to scroll
 unfoldable pub start_keeps : List Step
@@ -120,7 +119,7 @@ unfoldable pub stops : TouchPhase → List Step
 stops phase =
     then (dec 1 0) (point (vec 0 64) ∷ [])
     ∷ then (dec 1 625) (point (vec 0 1) ∷ MouseWheel Point (vec 0 64) phase Wheel no_modifiers ∷ [])
-    ∷ answers Q.is_scrolling (bool false) ∷ answers Q.scroll_source (source no_source)
+    ∷ answers Q.is_scrolling (bool false) ∷ answers Q.scroll_source (source None)
     ∷ answers Q.smooth_scroll_delta (vector (vec 0 0)) ∷ unprocessed (vec 0 0)
     ∷ then (dec 1 5625) [] ∷ answers Q.time_since_last_scroll (number (dec 0 5000)) ∷ []
 
@@ -170,7 +169,7 @@ started t p =
     }
 
 unfoldable pub has_started : Float → Pos2 → Step
-has_started t p = answers Q.multi_touch (gesture (some_info (started t p)))
+has_started t p = answers Q.multi_touch (gesture (Some (started t p)))
 
 -- 01 item 4: "The gesture's start position is the pointer's interact position of the pass before.": (1,1), and not this pass's (9,9)
 unfoldable pub start_position : List Step
@@ -181,19 +180,19 @@ start_position =
 unfoldable pub no_start_position : List Step
 no_start_position =
     then (dec 1 0) (PointerMoved (pos 9 9) ∷ two_fingers)
-    ∷ answers Q.multi_touch (gesture no_info) ∷ answers Q.any_touches (bool true) ∷ then (dec 1 1250) [] ∷ has_started (dec 1 1250) (pos 9 9) ∷ []
+    ∷ answers Q.multi_touch (gesture None) ∷ answers Q.any_touches (bool true) ∷ then (dec 1 1250) [] ∷ has_started (dec 1 1250) (pos 9 9) ∷ []
 
 -- a pointer gone in the pass before keeps its interact position, and for that pass only
 unfoldable pub pointer_just_gone : List Step
 pointer_just_gone =
     then (dec 1 0) (PointerMoved (pos 1 1) ∷ PointerGone ∷ [])
-    ∷ answers Q.latest_pos (maybe_position no_pos) ∷ answers Q.interact_pos (maybe_position (some_pos (pos 1 1)))
+    ∷ answers Q.latest_pos (maybe_position None) ∷ answers Q.interact_pos (maybe_position (Some (pos 1 1)))
     ∷ then (dec 1 1250) two_fingers ∷ has_started (dec 1 1250) (pos 1 1) ∷ []
 
 unfoldable pub pointer_long_gone : List Step
 pointer_long_gone =
-    then (dec 1 0) (PointerMoved (pos 1 1) ∷ PointerGone ∷ []) ∷ then (dec 1 625) [] ∷ answers Q.interact_pos (maybe_position no_pos)
-    ∷ then (dec 1 1250) two_fingers ∷ answers Q.multi_touch (gesture no_info) ∷ []
+    then (dec 1 0) (PointerMoved (pos 1 1) ∷ PointerGone ∷ []) ∷ then (dec 1 625) [] ∷ answers Q.interact_pos (maybe_position None)
+    ∷ then (dec 1 1250) two_fingers ∷ answers Q.multi_touch (gesture None) ∷ []
 
 -- the first finger by id is the heading's, also if it came later; a Start of a held id replaces it
 unfoldable pub fingers_by_id : List Step
@@ -230,21 +229,21 @@ finger_comes =
 
 unfoldable pub finger_elsewhere : List Step
 finger_elsewhere =
-    from_there (pos 4 0) (finger_moves 2 (pos 8 0) ∷ Touch 2 3 Start (pos 4 8) no_force ∷ MouseWheel Point (vec 0 8) Move Wheel ctrl_held ∷ [])
+    from_there (pos 4 0) (finger_moves 2 (pos 8 0) ∷ Touch 2 3 Start (pos 4 8) None ∷ MouseWheel Point (vec 0 8) Move Wheel ctrl_held ∷ [])
     ++ (answers Q.zoom_delta (zoom (dec 2 0) (dec 0 0)) ∷ [])
 
 unfoldable pub third_finger_goes : TouchPhase → List Step
 third_finger_goes phase =
     then (dec 1 0) (PointerMoved (pos 0 0) ∷ []) ∷ then (dec 1 1250) (two_fingers ++ (finger_starts 3 (pos 4 8) ∷ []))
-    ∷ then (dec 1 2500) (finger_moves 2 (pos 8 0) ∷ Touch 1 3 phase (pos 4 8) no_force ∷ []) ∷ answers Q.zoom_delta (zoom (dec 1 0) (dec 0 0)) ∷ []
+    ∷ then (dec 1 2500) (finger_moves 2 (pos 8 0) ∷ Touch 1 3 phase (pos 4 8) None ∷ []) ∷ answers Q.zoom_delta (zoom (dec 1 0) (dec 0 0)) ∷ []
 
 -- End and Cancel of one of two fingers end the gesture; the other is still there, and a Move of the lifted one is nothing
 unfoldable pub finger_goes : TouchPhase → List Step
 finger_goes phase =
-    from_there (pos 4 0) (Touch 1 2 phase (pos 4 0) no_force ∷ [])
-    ++ (answers Q.multi_touch (gesture no_info) ∷ answers Q.any_touches (bool true)
-    ∷ then (dec 1 5000) (finger_moves 2 (pos 4 0) ∷ []) ∷ answers Q.multi_touch (gesture no_info)
-    ∷ then (dec 1 7500) (Touch 1 1 phase (pos 0 0) no_force ∷ []) ∷ answers Q.any_touches (bool false) ∷ replies has_touch_screen (bool true) ∷ [])
+    from_there (pos 4 0) (Touch 1 2 phase (pos 4 0) None ∷ [])
+    ++ (answers Q.multi_touch (gesture None) ∷ answers Q.any_touches (bool true)
+    ∷ then (dec 1 5000) (finger_moves 2 (pos 4 0) ∷ []) ∷ answers Q.multi_touch (gesture None)
+    ∷ then (dec 1 7500) (Touch 1 1 phase (pos 0 0) None ∷ []) ∷ answers Q.any_touches (bool false) ∷ replies has_touch_screen (bool true) ∷ [])
 
 -- a gesture's rotation is two headings, its zoom has no exponent, its translation is no scroll
 unfoldable pub headings : List Step
@@ -258,9 +257,9 @@ headings =
 unfoldable pub forces : List Step
 forces =
     then (dec 1 0) (PointerMoved (pos 1 1) ∷ [])
-    ∷ then (dec 1 1250) (Touch 1 1 Start (pos 0 0) (some_force (dec 0 5000)) ∷ finger_starts 2 (pos 4 0) ∷ [])
+    ∷ then (dec 1 1250) (Touch 1 1 Start (pos 0 0) (Some (dec 0 5000)) ∷ finger_starts 2 (pos 4 0) ∷ [])
     ∷ answers (Q.info_of_device 1)
-    (gesture (some_info
+    (gesture (Some
     (record {
       start_time = dec 1 1250;
       start_pos = pos 1 1;
@@ -273,13 +272,13 @@ forces =
       translation_delta = vec 0 0;
       force = dec 0 2500;
     })))
-    ∷ answers (Q.info_of_device 2) (gesture no_info) ∷ []
+    ∷ answers (Q.info_of_device 2) (gesture None) ∷ []
 
 -- 01 item 6: "those of the first device by id that has one": device 2 alone, then device 1
 unfoldable pub first_device : List Step
 first_device =
     then (dec 1 0) (PointerMoved (pos 1 1) ∷ [])
-    ∷ then (dec 1 1250) (Touch 2 1 Start (pos 0 0) no_force ∷ Touch 2 2 Start (pos 4 0) no_force ∷ finger_starts 1 (pos 0 0) ∷ [])
+    ∷ then (dec 1 1250) (Touch 2 1 Start (pos 0 0) None ∷ Touch 2 2 Start (pos 4 0) None ∷ finger_starts 1 (pos 0 0) ∷ [])
     ∷ has_started (dec 1 1250) (pos 1 1)
     ∷ then (dec 1 2500) (finger_starts 2 (pos 4 0) ∷ []) ∷ has_started (dec 1 2500) (pos 1 1) ∷ []
 
@@ -317,7 +316,7 @@ unfoldable pub flags_of_release : List Step
 flags_of_release =
     then (dec 1 0) (Button (pos 1 1) Secondary true ctrl_held ∷ Button (pos 2 1) Secondary false shift_held ∷ [])
     ∷ answers Q.pointer_events
-    (events (Pressed (pos 1 1) Secondary ∷ Released (some_click (record { pos = pos 2 1; count = 1; modifiers = shift_held })) Secondary ∷ []))
+    (events (Pressed (pos 1 1) Secondary ∷ Released (Some (record { pos = pos 2 1; count = 1; modifiers = shift_held })) Secondary ∷ []))
     ∷ answers (Q.button_released Secondary) (bool true) ∷ answers (Q.button_clicked Primary) (bool false) ∷ answers Q.any_down (bool false) ∷ []
 
 -- a press at 1.0 with the click duration 0.75, held to t: could it be a click, is it decidedly dragged, is it a long press
@@ -343,9 +342,9 @@ decided =
 -- a long touch is one pass long, and wants a repaint before it
 unfoldable pub long_touch : List Step
 long_touch =
-    at (dec 1 0) (click_duration (dec 0 7500)) (press (pos 0 0) ∷ finger_starts 1 (pos 0 0) ∷ []) ∷ answers Q.wants_repaint_after (maybe_seconds (some_time (dec 0 0)))
-    ∷ at (dec 1 2500) (click_duration (dec 0 7500)) [] ∷ answers Q.wants_repaint_after (maybe_seconds (some_time (dec 0 5000)))
-    ∷ at (dec 1 7500) (click_duration (dec 0 7500)) [] ∷ answers Q.wants_repaint_after (maybe_seconds no_time) ∷ answers Q.is_long_touch (bool false)
+    at (dec 1 0) (click_duration (dec 0 7500)) (press (pos 0 0) ∷ finger_starts 1 (pos 0 0) ∷ []) ∷ answers Q.wants_repaint_after (maybe_seconds (Some (dec 0 0)))
+    ∷ at (dec 1 2500) (click_duration (dec 0 7500)) [] ∷ answers Q.wants_repaint_after (maybe_seconds (Some (dec 0 5000)))
+    ∷ at (dec 1 7500) (click_duration (dec 0 7500)) [] ∷ answers Q.wants_repaint_after (maybe_seconds None) ∷ answers Q.is_long_touch (bool false)
     ∷ at (dec 2 0) (click_duration (dec 0 7500)) [] ∷ answers Q.is_long_touch (bool true)
     ∷ at (dec 3 0) (click_duration (dec 0 7500)) [] ∷ answers Q.is_long_touch (bool false) ∷ []
 
@@ -353,23 +352,23 @@ long_touch =
 unfoldable pub slow_repaint : List Step
 slow_repaint =
     then (dec 1 0) (point (vec 0 8) ∷ [])
-    ∷ passes (given (some (dec 1 100)) none (dec 0 9375) default_options []) ∷ answers Q.wants_repaint_after (maybe_seconds (some_time (dec 0 0))) ∷ []
+    ∷ passes (given (Some (dec 1 100)) None (dec 0 9375) default_options []) ∷ answers Q.wants_repaint_after (maybe_seconds (Some (dec 0 0))) ∷ []
 
 unfoldable pub no_repaint : List Step
 no_repaint =
     then (dec 1 0) (point (vec 0 8) ∷ []) ∷ then (dec 1 100) []
-    ∷ passes (given (some (dec 1 200)) none (dec 0 9375) default_options []) ∷ answers Q.wants_repaint_after (maybe_seconds no_time) ∷ []
+    ∷ passes (given (Some (dec 1 200)) None (dec 0 9375) default_options []) ∷ answers Q.wants_repaint_after (maybe_seconds None) ∷ []
 
 -- `delta` is from the pass before to the end of this one; a press sets the origin, a release takes it away
 unfoldable pub drags_delta : List Step
 drags_delta =
     then (dec 1 0) (PointerMoved (pos 1 1) ∷ []) ∷ answers Q.delta (vector (vec 0 0))
     ∷ then (dec 1 1250) (press (pos 2 2) ∷ PointerMoved (pos 7 7) ∷ PointerMoved (pos 4 5) ∷ [])
-    ∷ answers Q.delta (vector (vec 3 4)) ∷ answers Q.total_drag_delta (maybe_vector (some_vec (vec 2 3)))
-    ∷ answers Q.press_origin (maybe_position (some_pos (pos 2 2))) ∷ answers Q.press_start_time (maybe_seconds (some_time (dec 1 1250)))
+    ∷ answers Q.delta (vector (vec 3 4)) ∷ answers Q.total_drag_delta (maybe_vector (Some (vec 2 3)))
+    ∷ answers Q.press_origin (maybe_position (Some (pos 2 2))) ∷ answers Q.press_start_time (maybe_seconds (Some (dec 1 1250)))
     ∷ then (dec 1 2500) (release (pos 4 5) ∷ PointerGone ∷ [])
-    ∷ answers Q.delta (vector (vec 0 0)) ∷ answers Q.total_drag_delta (maybe_vector no_vec)
-    ∷ answers Q.press_origin (maybe_position no_pos) ∷ answers Q.press_start_time (maybe_seconds no_time) ∷ answers Q.has_pointer (bool false) ∷ []
+    ∷ answers Q.delta (vector (vec 0 0)) ∷ answers Q.total_drag_delta (maybe_vector None)
+    ∷ answers Q.press_origin (maybe_position None) ∷ answers Q.press_start_time (maybe_seconds None) ∷ answers Q.has_pointer (bool false) ∷ []
 
 -- three samples, two of them at 0 and the last, 2 points further, at t
 unfoldable pub three_samples : Float → List Step
@@ -397,18 +396,18 @@ pressed_moving =
 -- relative motion adds up, and is zero in later passes
 unfoldable pub motions : List Step
 motions =
-    then (dec 1 0) [] ∷ answers Q.motion (maybe_vector no_vec)
-    ∷ then (dec 2 0) (MouseMoved (vec 1 1) ∷ MouseMoved (vec 2 3) ∷ []) ∷ answers Q.motion (maybe_vector (some_vec (vec 3 4)))
-    ∷ then (dec 3 0) [] ∷ answers Q.motion (maybe_vector (some_vec (vec 0 0))) ∷ []
+    then (dec 1 0) [] ∷ answers Q.motion (maybe_vector None)
+    ∷ then (dec 2 0) (MouseMoved (vec 1 1) ∷ MouseMoved (vec 2 3) ∷ []) ∷ answers Q.motion (maybe_vector (Some (vec 3 4)))
+    ∷ then (dec 3 0) [] ∷ answers Q.motion (maybe_vector (Some (vec 0 0))) ∷ []
 
 -- 02 A.4: none before any movement; relative motion, a press and a gone pointer are none; a move to the same place is one; a refused pass leaves it
 unfoldable pub moved_ago : Float → Step
-moved_ago x = replies Q.time_since_last_movement (maybe_number (Some_number x))
+moved_ago x = replies Q.time_since_last_movement (maybe_number (Some x))
 
 unfoldable pub pointer_rests : List Step
 pointer_rests =
-    replies Q.time_since_last_movement (maybe_number no_number)
-    ∷ then (dec 0 5000) (MouseMoved (vec 1 1) ∷ press (pos 1 1) ∷ []) ∷ replies Q.time_since_last_movement (maybe_number no_number)
+    replies Q.time_since_last_movement (maybe_number None)
+    ∷ then (dec 0 5000) (MouseMoved (vec 1 1) ∷ press (pos 1 1) ∷ []) ∷ replies Q.time_since_last_movement (maybe_number None)
     ∷ then (dec 1 0) (PointerMoved (pos 3 4) ∷ []) ∷ moved_ago (dec 0 0) ∷ then (dec 1 5000) [] ∷ moved_ago (dec 0 5000)
     ∷ refuses_pass (pass_at (dec 1 0) default_options (PointerMoved (pos 5 5) ∷ [])) (bare_row 3) ∷ moved_ago (dec 0 5000)
     ∷ then (dec 2 0) (PointerGone ∷ []) ∷ moved_ago (dec 1 0) ∷ then (dec 3 0) (PointerMoved (pos 3 4) ∷ []) ∷ moved_ago (dec 0 0) ∷ []
@@ -454,7 +453,7 @@ axes =
 -- no time given: the old one and predicted dt; no rectangle given: the old one, whose height is a page
 unfoldable pub not_given : List Step
 not_given =
-    then (dec 1 0) [] ∷ passes (given none none (dec 0 5000) default_options (encode_all (MouseWheel Page (vec 0 1) Move Wheel no_modifiers ∷ [])))
+    then (dec 1 0) [] ∷ passes (given None None (dec 0 5000) default_options (encode_all (MouseWheel Page (vec 0 1) Move Wheel no_modifiers ∷ [])))
     ∷ answers Q.time (number (dec 1 625)) ∷ answers Q.unstable_dt (number (dec 0 625)) ∷ answers Q.stable_dt (number (dec 0 625))
     ∷ answers Q.viewport_rect (rectangle (record { min = pos 0 0; max = pos 640 480 })) ∷ answers Q.smooth_scroll_delta (vector (vec 0 240))
     ∷ then (dec 3 625) [] ∷ answers Q.unstable_dt (number (dec 2 0)) ∷ answers Q.stable_dt (number (dec 0 625)) ∷ []
@@ -463,8 +462,8 @@ not_given =
 unfoldable pub requested : PassInput
 requested =
     record {
-      time = some (dec 3 0);
-      screen_rect = none;
+      time = Some (dec 3 0);
+      screen_rect = None;
       predicted_dt = dec 0 1250;
       smoothing_factor = dec 0 5000;
       pixels_per_point = dec 2 0;
@@ -482,14 +481,14 @@ repaint_requested =
 
 unfoldable pub never_given : List Step
 never_given =
-    passes (given none none (dec 0 5000) default_options (encode_all (MouseWheel Page (vec 0 1) Move Wheel no_modifiers ∷ [])))
+    passes (given None None (dec 0 5000) default_options (encode_all (MouseWheel Page (vec 0 1) Move Wheel no_modifiers ∷ [])))
     ∷ answers Q.time (number (dec 0 625)) ∷ answers Q.smooth_scroll_delta (vector (vec 0 5000)) ∷ []
 
 -- ---- refusals of a pass
 
 -- a feed as words, at 1.0
 unfoldable pub words : List ℕ → PassInput
-words ws = given (some (dec 1 0)) none (dec 0 5000) default_options ws
+words ws = given (Some (dec 1 0)) None (dec 0 5000) default_options ws
 
 unfoldable pub refused : List ℕ → Row → List Step
 refused ws r = refuses_pass (words ws) r ∷ []
@@ -511,12 +510,12 @@ limit_of e x = taken (encode_all (e x ∷ [])) ∷ refused (encode_all (e (past3
 unfoldable pub domain : List (List Step)
 domain =
     limit_of (λ x. PointerMoved (on_x x)) (dec 65536 0) ++ (limit_of Zoom (dec 1024 0) ++ (limit_of Rotate (dec 64 0)
-    ++ (limit_of (λ x. Touch 1 1 Start (pos 0 0) (some_force x)) (dec 1 0) ++ (limit_of (λ x. MouseMoved (record { x = x; y = x })) (dec 65536 0)
+    ++ (limit_of (λ x. Touch 1 1 Start (pos 0 0) (Some x)) (dec 1 0) ++ (limit_of (λ x. MouseMoved (record { x = x; y = x })) (dec 65536 0)
     ++ (refused (encode_all (Zoom (dec 0 0) ∷ [])) (row 2 0) ∷ [])))))
 
 -- device d, touch i
 unfoldable pub touch : ℕ → ℕ → TouchPhase → Event
-touch d i phase = Touch d i phase (pos 0 0) no_force
+touch d i phase = Touch d i phase (pos 0 0) None
 
 unfoldable pub four_devices : List Event
 four_devices = touch 1 1 Start ∷ touch 2 1 Move ∷ touch 3 1 End ∷ touch 4 1 Cancel ∷ []
@@ -550,15 +549,15 @@ crowds =
 unfoldable pub pass_order : List (List Step)
 pass_order =
     (then (dec 2 0) []
-    ∷ refuses_pass (given (some (dec 1 0)) none (past32 (dec 1 0)) default_options (0 ∷ [])) (row 2 0)
-    ∷ refuses_pass (given (some (dec 1 0)) none (dec 1 0) default_options (0 ∷ [])) (bare_row 3)
-    ∷ refuses_pass (given (some (past (dec 4294967296 0))) none (dec 1 0) default_options []) (row 2 0)
-    ∷ refuses_pass (given (some (dec 2 0)) none (dec 1 0) (click_duration (past (dec 3600 0))) []) (row 2 0)
-    ∷ passes (given (some (dec 2 0)) none (dec 1 0) (click_duration (dec 3600 0)) [])
-    ∷ passes (given (some (dec 4294967296 0)) none (dec 1 0) default_options []) ∷ [])
+    ∷ refuses_pass (given (Some (dec 1 0)) None (past32 (dec 1 0)) default_options (0 ∷ [])) (row 2 0)
+    ∷ refuses_pass (given (Some (dec 1 0)) None (dec 1 0) default_options (0 ∷ [])) (bare_row 3)
+    ∷ refuses_pass (given (Some (past (dec 4294967296 0))) None (dec 1 0) default_options []) (row 2 0)
+    ∷ refuses_pass (given (Some (dec 2 0)) None (dec 1 0) (click_duration (past (dec 3600 0))) []) (row 2 0)
+    ∷ passes (given (Some (dec 2 0)) None (dec 1 0) (click_duration (dec 3600 0)) [])
+    ∷ passes (given (Some (dec 4294967296 0)) None (dec 1 0) default_options []) ∷ [])
     ∷ refused (0x3000_0001 ∷ 0x7fc0_0000 ∷ 0 ∷ []) (row 1 0)
     ∷ refused (0x3000_0000 ∷ 0x7fc0_0000 ∷ 0 ∷ 0 ∷ []) (row 2 0)
-    ∷ refused (encode_all (four_devices ++ (Touch 5 1 Start (on_x (past32 (dec 65536 0))) no_force ∷ []))) (row 2 28)
+    ∷ refused (encode_all (four_devices ++ (Touch 5 1 Start (on_x (past32 (dec 65536 0))) None ∷ []))) (row 2 28)
     ∷ refused (encode_all (four_devices ++ (touch 5 1 Start ∷ PointerMoved (on_x (past32 (dec 65536 0))) ∷ []))) (row 5 28) ∷ []
 
 unfoldable pub OfAPass : List (List Step)

@@ -1,6 +1,5 @@
 -- A case is a list of steps, each with what is expected there; one check computes them on the model. Definitions only.
-use Rattle.std.specs.Prelude.{ℕ, Bool, true, false, ◌&&◌, List, [], ◌∷◌, map, eqb, take, drop}
-use Rattle.std.proofs.Math.Option.{Option, none, some}
+use Rattle.std.specs.Prelude.{ℕ, Bool, true, false, ◌&&◌, List, [], ◌∷◌, map, eqb, take, drop, Option, None, Some}
 use Rattle.std.specs.Float.{binary64}
 use Rattle.data.specs.Numbers.{Row, pass_row, insert_row, interact_row}
 use Rattle.feed.specs.Encode.{vec_words}
@@ -68,48 +67,48 @@ unfoldable pub same_row : Row → Row → Bool
 same_row a b = eqb a.number b.number && same_id a.index b.index
 
 unfoldable pub kept_if : Bool → State → Option State
-kept_if false s = none
-kept_if true s = some s
+kept_if false s = None
+kept_if true s = Some s
 
 -- the state after a step, or none where the step is not as expected
 unfoldable pub if_taken : State → Passed → Option State
-if_taken s (P.refused r) = none
-if_taken s (P.taken p) = some (with_panel s p)
+if_taken s (P.refused r) = None
+if_taken s (P.taken p) = Some (with_panel s p)
 
 unfoldable pub if_pass_refused : State → Row → Passed → Option State
 if_pass_refused s r (P.refused q) = kept_if (same_row r (pass_row q)) s
-if_pass_refused s r (P.taken p) = none
+if_pass_refused s r (P.taken p) = None
 
 unfoldable pub drags_as : Drags → InteractionSnapshot → Bool
 drags_as d a = same_id d.drag_started a.drag_started && (same_id d.dragged a.dragged && same_id d.drag_stopped a.drag_stopped)
 
 unfoldable pub if_drags : State → Drags → Interacted → Option State
-if_drags s d (I.refused r) = none
+if_drags s d (I.refused r) = None
 if_drags s d (I.answered a p) = kept_if (drags_as d a) (with_panel s p)
 
 unfoldable pub if_answered : State → InteractionSnapshot → Interacted → Option State
-if_answered s b (I.refused r) = none
+if_answered s b (I.refused r) = None
 if_answered s b (I.answered a p) = kept_if (same (snapshot_words a) (snapshot_words b)) (with_panel s p)
 
 unfoldable pub if_interact_refused : State → Row → Interacted → Option State
 if_interact_refused s r (I.refused q) = kept_if (same_row r (interact_row q)) s
-if_interact_refused s r (I.answered a p) = none
+if_interact_refused s r (I.answered a p) = None
 
 unfoldable pub if_inserted : State → List ℕ → Inserted → Option State
-if_inserted s ids (W.refused r) = none
+if_inserted s ids (W.refused r) = None
 if_inserted s ids (W.inserted i) = kept_if (same (map (λ (w : WidgetRect). w.id) i.slice) ids) (with_widgets s i.widgets i.slice)
 
 unfoldable pub if_insert_refused : State → Row → Inserted → Option State
 if_insert_refused s r (W.refused q) = kept_if (same_row r (insert_row q)) s
-if_insert_refused s r (W.inserted i) = none
+if_insert_refused s r (W.inserted i) = None
 
 unfoldable pub is_at : ℕ → Option Known → Bool
-is_at n none = false
-is_at n (some k) = eqb n k.position
+is_at n None = false
+is_at n (Some k) = eqb n k.position
 
 unfoldable pub is_record : WidgetRect → List WidgetRect → Option Known → Bool
-is_record w slice none = false
-is_record w slice (some k) = same (widget_words w) (widget_words k.widget) && same (widget_words w) (widgets_words (take 1 (drop k.position slice)))
+is_record w slice None = false
+is_record w slice (Some k) = same (widget_words w) (widget_words k.widget) && same (widget_words w) (widgets_words (take 1 (drop k.position slice)))
 
 unfoldable pub is_reply : Question → Reply → Panel → Bool
 is_reply q r p = same (reply_words binary64 (ask q p)) (reply_words binary64 r)
@@ -124,18 +123,18 @@ step s (are_down n) = kept_if (eqb n s.panel.press.held.down.count) s
 step s (interacts x d) = if_drags s d (interact s.panel x)
 step s (snapshots x a) = if_answered s a (interact s.panel x)
 step s (refuses_interact x r) = if_interact_refused s r (interact s.panel x)
-step s (tallies n) = some (with_panel s (with_interaction s.panel s.panel.interaction n))
+step s (tallies n) = Some (with_panel s (with_interaction s.panel s.panel.interaction n))
 step s (inserts top w ids) = if_inserted s ids (insert top s.widgets s.slice w)
 step s (refuses_insert w r) = if_insert_refused s r (insert false s.widgets s.slice w)
 step s (stands_at d n) = kept_if (is_at n (find_known d s.widgets.by_id)) s
 step s (records w) = kept_if (is_record w s.slice (find_known w.id s.widgets.by_id)) s
-step s (lends slice) = some (with_widgets s s.widgets slice)
-step s (keeps ws) = some (with_widgets s ws s.slice)
+step s (lends slice) = Some (with_widgets s s.widgets slice)
+step s (keeps ws) = Some (with_widgets s ws s.slice)
 
 -- once a step is not as expected, the case fails
 unfoldable pub go_on : Option State → Step → Option State
-go_on none t = none
-go_on (some s) t = step s t
+go_on None t = None
+go_on (Some s) t = step s t
 
 unfoldable pub steps : Option State → List Step → Bool
 steps s [] = is_some s
@@ -144,4 +143,4 @@ steps s (t ∷ ts) = steps (go_on s t) ts
 -- every case, each from the same state
 unfoldable pub check_all : State → List (List Step) → Bool
 check_all s [] = true
-check_all s (c ∷ cs) = steps (some s) c && check_all s cs
+check_all s (c ∷ cs) = steps (Some s) c && check_all s cs

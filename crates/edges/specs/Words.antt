@@ -1,15 +1,14 @@
 -- The words of a reply, of a snapshot and of a widget's record: what is compared. A float is its bit pattern, and a not-a-number is always the same one. Definitions only.
-use Rattle.std.specs.Prelude.{ℕ, ◌+◌, ◌*◌, Bool, true, false, ◌&&◌, List, [], ◌∷◌, ◌++◌, eqb, length, replicate, Float}
-use Rattle.std.proofs.Math.Option.{Option, none, some}
+use Rattle.std.specs.Prelude.{ℕ, ◌+◌, ◌*◌, Bool, true, false, ◌&&◌, List, [], ◌∷◌, ◌++◌, eqb, length, replicate, Float, Option, None, Some}
 use Rattle.std.specs.Float.{Format, binary32, binary64}
 use Rattle.std.specs.Float.Ieee.{to_bits}
 use Rattle.data.specs.Bits.{bit_number}
 use Rattle.data.specs.Modifiers.{modifiers_number}
 use Rattle.data.specs.Numbers.{button_number, source_number}
 use Rattle.feed.specs.Encode.{id_words, pos_words, vec_words, float_word}
-use Rattle.model.specs.Types.{WidgetRect, Rect, MaybePos2, no_pos, some_pos, MaybeVec2, no_vec, some_vec, MaybeF64, no_time, some_time, MaybeF32, no_number, Some_number}
-use Rattle.model.specs.Types.{no_click, some_click, PointerEvent, Moved, Pressed, Released, MaybeMouseWheelSource, no_source, some_source}
-use Rattle.model.specs.Types.{Rotation, Radians, Headings, MultiTouchInfo, MaybeMultiTouchInfo, no_info, some_info}
+use Rattle.model.specs.Types.{WidgetRect, Rect, Pos2, Vec2}
+use Rattle.model.specs.Types.{PointerEvent, Moved, Pressed, Released, MouseWheelSource}
+use Rattle.model.specs.Types.{Rotation, Radians, Headings, MultiTouchInfo}
 use Rattle.model.specs.Interact.{InteractionSnapshot}
 use Rattle.model.specs.Questions.{Reply, bool, count, number, vector, maybe_vector, maybe_position, maybe_seconds, maybe_number, rectangle, flags, source, zoom, zoom_2d, rotation, gesture, events, widget}
 
@@ -31,33 +30,33 @@ present ws = 1 ∷ ws
 unfoldable pub absent : ℕ → List ℕ
 absent n = 0 ∷ replicate n 0
 
-unfoldable pub maybe_pos_words : MaybePos2 → List ℕ
-maybe_pos_words no_pos = absent 2
-maybe_pos_words (some_pos p) = present (pos_words p)
+unfoldable pub maybe_pos_words : Option Pos2 → List ℕ
+maybe_pos_words None = absent 2
+maybe_pos_words (Some p) = present (pos_words p)
 
-unfoldable pub maybe_vec_words : MaybeVec2 → List ℕ
-maybe_vec_words no_vec = absent 2
-maybe_vec_words (some_vec v) = present (vec_words v)
+unfoldable pub maybe_vec_words : Option Vec2 → List ℕ
+maybe_vec_words None = absent 2
+maybe_vec_words (Some v) = present (vec_words v)
 
-unfoldable pub maybe_time_words : MaybeF64 → List ℕ
-maybe_time_words no_time = absent 2
-maybe_time_words (some_time t) = present (float_words binary64 t)
+unfoldable pub maybe_time_words : Option Float → List ℕ
+maybe_time_words None = absent 2
+maybe_time_words (Some t) = present (float_words binary64 t)
 
-unfoldable pub maybe_number_words : MaybeF32 → List ℕ
-maybe_number_words no_number = absent 1
-maybe_number_words (Some_number x) = present (float_word x ∷ [])
+unfoldable pub maybe_number_words : Option Float → List ℕ
+maybe_number_words None = absent 1
+maybe_number_words (Some x) = present (float_word x ∷ [])
 
 unfoldable pub rect_words : Rect → List ℕ
 rect_words r = pos_words r.min ++ pos_words r.max
 
 -- an id, or 0 for none
 unfoldable pub maybe_id_words : Option ℕ → List ℕ
-maybe_id_words none = 0 ∷ 0 ∷ []
-maybe_id_words (some d) = id_words d
+maybe_id_words None = 0 ∷ 0 ∷ []
+maybe_id_words (Some d) = id_words d
 
-unfoldable pub source_word : MaybeMouseWheelSource → ℕ
-source_word no_source = 0
-source_word (some_source s) = 1 + source_number s
+unfoldable pub source_word : Option MouseWheelSource → ℕ
+source_word None = 0
+source_word (Some s) = 1 + source_number s
 
 unfoldable pub rotation_words : Rotation → List ℕ
 rotation_words (Radians sum) = 0 ∷ float_word sum ∷ 0 ∷ 0 ∷ 0 ∷ []
@@ -73,16 +72,16 @@ info_words g =
     ∷ (vec_words g.zoom_delta_2d
     ++ (vec_words g.previous_heading ++ (vec_words g.heading ++ (vec_words g.translation_delta ++ (float_word g.force ∷ []))))))))
 
-unfoldable pub maybe_info_words : MaybeMultiTouchInfo → List ℕ
-maybe_info_words no_info = absent 17
-maybe_info_words (some_info g) = present (info_words g)
+unfoldable pub maybe_info_words : Option MultiTouchInfo → List ℕ
+maybe_info_words None = absent 17
+maybe_info_words (Some g) = present (info_words g)
 
 -- 5 words: kind, button and whether it clicks; position, count, flags
 unfoldable pub pointer_event_words : PointerEvent → List ℕ
 pointer_event_words (Moved v) = 0 ∷ pos_words v ++ (0 ∷ 0 ∷ [])
 pointer_event_words (Pressed v b) = (1 + 256 * button_number b) ∷ pos_words v ++ (0 ∷ 0 ∷ [])
-pointer_event_words (Released no_click b) = (2 + 256 * button_number b) ∷ 0 ∷ 0 ∷ 0 ∷ 0 ∷ []
-pointer_event_words (Released (some_click c) b) = (2 + 256 * button_number b + 65536) ∷ pos_words c.pos ++ (c.count ∷ modifiers_number c.modifiers ∷ [])
+pointer_event_words (Released None b) = (2 + 256 * button_number b) ∷ 0 ∷ 0 ∷ 0 ∷ 0 ∷ []
+pointer_event_words (Released (Some c) b) = (2 + 256 * button_number b + 65536) ∷ pos_words c.pos ++ (c.count ∷ modifiers_number c.modifiers ∷ [])
 
 unfoldable pub pointer_events_words : List PointerEvent → List ℕ
 pointer_events_words [] = []

@@ -1,7 +1,7 @@
 -- The laws of specs/Laws.antt that need no round trip. Assumes nothing.
+use Rattle.std.specs.Prelude.{None, Some}
 use mathlib.Core.Path.{◌≡◌, refl, sym, ◌∙◌}
 use mathlib.Core.List.{List, [], ◌∷◌, ◌++◌, map}
-use mathlib.Core.Option.{none, some}
 use Prim.Native.Nat.{ℕ, zero, suc, ◌≤◌}
 use native.Mathlib.Omega.{arith}
 use lib.ListN.{length}
@@ -29,7 +29,7 @@ walk = record { first = items_first; past = items_none; next = items_next }
 
 -- ---- refusals event by event
 over : (left : ℕ) (before : List (ℕ × Event)) (i : Item) (after : List Item) → length before ≡ left →
-    first_refusal left (map good_item before ++ i ∷ after) ≡ some (TooManyEvents i.index)
+    first_refusal left (map good_item before ++ i ∷ after) ≡ Some (TooManyEvents i.index)
 unfolding first_refusal then_refusal
 over zero [] i after h = refl
 over zero (b ∷ before) i after h = absurd (omega arith)
@@ -40,7 +40,7 @@ pub event_sixty_five : EventSixtyFive
 unfolding feed_refusal
 event_sixty_five ws before i after h e = rw e (over max_events before i after h)
 
-some_none : {X : Type 0} {r : PassRefusal} → some r ≡ none → X
+some_none : {X : Type 0} {r : PassRefusal} → Some r ≡ None → X
 some_none e = let z : ◌≡◌ {A = ℕ} 0 1 = cc in absurd (omega arith)
 
 abbrev what : Item → Decoded
@@ -49,13 +49,13 @@ what i = i.what
 abbrev Fine : ℕ → List Item → Type 0
 Fine left is = (length is ≤ left) × (map what is ≡ map good (events_of is))
 
-accepted_from : (left : ℕ) (is : List Item) → first_refusal left is ≡ none → Fine left is
+accepted_from : (left : ℕ) (is : List Item) → first_refusal left is ≡ None → Fine left is
 unfolding first_refusal events_of then_refusal then_events
 accepted_from left [] h = (omega arith, refl)
 accepted_from zero (i ∷ is) h = some_none h
 accepted_from (suc left) (i ∷ is) h = go i.what refl h (λ k. accepted_from left is k)
   where
-    go : (d : Decoded) → i.what ≡ d → then_refusal i.index d (first_refusal left is) ≡ none → (first_refusal left is ≡ none → Fine left is) →
+    go : (d : Decoded) → i.what ≡ d → then_refusal i.index d (first_refusal left is) ≡ None → (first_refusal left is ≡ None → Fine left is) →
         (suc (length is) ≤ suc left) × (i.what ∷ map what is ≡ map good (then_events i.what (events_of is)))
     go (good e) p h later =
         let rest = later h in

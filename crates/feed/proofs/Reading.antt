@@ -1,4 +1,5 @@
 -- `event_at` by the words that follow a place, and the walk from place to place: `items`, one by one. Assumes nothing.
+use Rattle.std.specs.Prelude.{Some, Err}
 use mathlib.Core.Path.{◌≡◌, refl, ap, ◌∙◌}
 use mathlib.Core.Bool.{Bool, true, false, cond}
 use mathlib.Core.List.{List, [], ◌∷◌}
@@ -10,8 +11,7 @@ use lib.ListN.{get_or, length, take, drop, length-drop, drop_of_length-le}
 use lib.Seq.{take_all, length-take-le, get_or-take, drop-cons, drop-drop}
 use borrow.Author.Tests.{eqb-true, ltb-true, ltb-false, lt-ltb, le-ltb}
 use Rattle.data.specs.Kinds.{key_kind, modifiers_kind, moved_kind, motion_kind, button_kind, gone_kind, zoom_kind, rotate_kind, touch_kind, wheel_kind}
-use Rattle.feed.specs.Types.{some_force}
-use Rattle.feed.specs.Types.found as found
+use Rattle.feed.specs.Types.fault as fault
 use Rattle.feed.specs.Split.{kind, low_bits, lengths, following, piece_length, pieces, pieces_from}
 use Rattle.feed.specs.Shape.{float_of, force_of, touch_shape, shape_by_kind, shape}
 use Rattle.feed.specs.Decode.{decode, check_floats, item_of, items, items_after, piece_at, found_at, event_at}
@@ -31,7 +31,7 @@ module _ (k low : ℕ) (us ws : List ℕ)
   force_same : eqb k touch_kind ≡ true → force_of (low / 4 % 2) (get_or us 6 0) ≡ force_of (low / 4 % 2) (get_or ws 6 0)
   unfolding force_of
   force_same t =
-      cond_same (eqb (low / 4 % 2) 1) (λ p. ap (λ (w : ℕ). some_force (float_of w)) (same-force (eqb-true k touch_kind t) (eqb-true (low / 4 % 2) 1 p))) refl
+      cond_same (eqb (low / 4 % 2) 1) (λ p. ap (λ (w : ℕ). Some (float_of w)) (same-force (eqb-true k touch_kind t) (eqb-true (low / 4 % 2) 1 p))) refl
 
   touch_same : eqb k touch_kind ≡ true → touch_shape low us ≡ touch_shape low ws
   unfolding touch_shape
@@ -73,7 +73,7 @@ shape_taken w ws = go (ltb (following w) (length ws)) refl
 
 -- the three ways of `event_at`
 module _ (ws : List ℕ) (at : ℕ) where
-  pub event_at_past : length ws ≤ at → event_at ws at ≡ found.Malformed
+  pub event_at_past : length ws ≤ at → event_at ws at ≡ Err fault.Malformed
   unfolding event_at piece_at piece_length decode shape check_floats found_at
   event_at_past h = rw (drop_of_length-le ws h)
 
@@ -85,7 +85,7 @@ module _ (ws : List ℕ) (at : ℕ) where
   after : at < length ws → length (drop (suc at) ws) + 1 ≡ length ws - at
   after h = rw (length-drop (suc at) ws) (omega arith)
 
-  pub event_at_short : at < length ws → length ws - at ≤ following (get_or ws at 0) → event_at ws at ≡ found.Malformed
+  pub event_at_short : at < length ws → length ws - at ≤ following (get_or ws at 0) → event_at ws at ≡ Err fault.Malformed
   unfolding shape check_floats found_at
   event_at_short h short =
       event_at_here h ∙ rw (lt-ltb (length (drop (suc at) ws)) (following (get_or ws at 0)) (omega (arith, after h)))

@@ -1,4 +1,5 @@
 -- What is encoded is decoded again. Assumes nothing.
+use Rattle.std.specs.Prelude.{Option, None, Some}
 use mathlib.Core.Path.{◌≡◌, refl, ap, ◌∙◌}
 use mathlib.Core.Bool.{Bool, true, false, cond}
 use mathlib.Core.List.{List, [], ◌∷◌}
@@ -17,9 +18,8 @@ use Rattle.data.specs.Modifiers.{modifiers_number, modifiers_of}
 use Rattle.data.specs.Numbers.{button_number, phase_number, unit_number, source_number}
 use Rattle.data.specs.Limits.{key_count, within32, coordinate_ok, pos_ok, vec_ok, zoom_ok, radians_ok, force_ok, maybe_force_ok, event_ok}
 use Rattle.feed.specs.Types.{Pos2, Vec2, Modifiers, PointerButton, Primary, Secondary, Middle, Extra1, Extra2, MouseWheelUnit, Point, Line, Page}
-use Rattle.feed.specs.Types.{MouseWheelSource, Unknown, Wheel, Trackpad, Momentum, TouchPhase, Start, Move, End, Cancel, MaybeF32, no_force, some_force}
+use Rattle.feed.specs.Types.{MouseWheelSource, Unknown, Wheel, Trackpad, Momentum, TouchPhase, Start, Move, End, Cancel}
 use Rattle.feed.specs.Types.{Event, Key, ModifiersChanged, PointerMoved, MouseMoved, Button, PointerGone, Zoom, Rotate, Touch, MouseWheel, WindowFocused, Other}
-use Rattle.feed.specs.Types.{no_event, some_event}
 use Rattle.feed.specs.Split.{kind, low_bits, lengths, following}
 use Rattle.feed.specs.Shape.{clean, field_below, button_of, phase_of, unit_of, source_of, float_of, pos_of, vec_of, id_of, force_of, key_shape, modifiers_shape, moved_shape, motion_shape, button_shape, zoom_shape, rotate_shape, touch_shape, wheel_shape, focus_shape, shape_by_kind, shape}
 use Rattle.feed.specs.Decode.{decode, check_floats}
@@ -28,7 +28,7 @@ use Rattle.feed.specs.Laws.{DecodeAfterEncode}
 
 -- ---- the first word
 shape_head : (k f : ℕ) (ws : List ℕ) → f < kind_unit →
-    shape ((k * kind_unit + f) ∷ ws) ≡ cond (ltb (length ws) (get_or lengths k 0 + cond (eqb k touch_kind) (f / 4 % 2) 0)) no_event (shape_by_kind k f ws)
+    shape ((k * kind_unit + f) ∷ ws) ≡ cond (ltb (length ws) (get_or lengths k 0 + cond (eqb k touch_kind) (f / 4 % 2) 0)) None (shape_by_kind k f ws)
 unfolding shape following
 shape_head k f ws h =
     let kinds : kind (k * kind_unit + f) ≡ k = omega arith in
@@ -150,7 +150,7 @@ id_back id = omega arith
 top_digit : (n d m : ℕ) → n ≡ d → d < m → n % m ≡ d
 top_digit n d m e h = ap (λ (x : ℕ). x % m) e ∙ mod-eq_of_lt h
 
-key_back : (place f : ℕ) (pressed : Bool) → place < key_count → f ≡ place + 256 * bit_number pressed → key_shape f ≡ some_event (Key place pressed)
+key_back : (place f : ℕ) (pressed : Bool) → place < key_count → f ≡ place + 256 * bit_number pressed → key_shape f ≡ Some (Key place pressed)
 unfolding key_shape clean field_below
 key_back place f pressed h e =
     let b = bit_le pressed in
@@ -162,12 +162,12 @@ key_back place f pressed h e =
       bit_back pressed (f / 256 % 2) (top_digit (f / 256) (bit_number pressed) 2 (omega arith) (omega arith)),
     )
 
-changed_back : (m : Modifiers) (f : ℕ) → f ≡ modifiers_number m → modifiers_shape f ≡ some_event (ModifiersChanged m)
+changed_back : (m : Modifiers) (f : ℕ) → f ≡ modifiers_number m → modifiers_shape f ≡ Some (ModifiersChanged m)
 unfolding modifiers_shape clean
 changed_back m f e = rw (lt-ltb f 32 (omega (arith, modifiers_lt m)), modifiers_back m f 0 (omega arith))
 
 pressed_back : (b : PointerButton) (pressed : Bool) (m : Modifiers) (f x y : ℕ) →
-    f ≡ modifiers_number m + 32 * button_number b + 256 * bit_number pressed → button_shape f x y ≡ some_event (Button (pos_of x y) b pressed m)
+    f ≡ modifiers_number m + 32 * button_number b + 256 * bit_number pressed → button_shape f x y ≡ Some (Button (pos_of x y) b pressed m)
 unfolding button_shape clean field_below
 pressed_back b pressed m f x y e =
     let hb = button_le b in
@@ -184,7 +184,7 @@ pressed_back b pressed m f x y e =
     )
 
 wheel_back : (u : MouseWheelUnit) (p : TouchPhase) (s : MouseWheelSource) (m : Modifiers) (f x y : ℕ) →
-    f ≡ modifiers_number m + 32 * unit_number u + 128 * phase_number p + 512 * source_number s → wheel_shape f x y ≡ some_event (MouseWheel u (vec_of x y) p s m)
+    f ≡ modifiers_number m + 32 * unit_number u + 128 * phase_number p + 512 * source_number s → wheel_shape f x y ≡ Some (MouseWheel u (vec_of x y) p s m)
 unfolding wheel_shape clean field_below
 wheel_back u p s m f x y e =
     let hu = unit_le u in
@@ -207,43 +207,43 @@ wheel_back u p s m f x y e =
       modifiers_back m f (unit_number u + 4 * phase_number p + 16 * source_number s) (omega arith),
     )
 
-focused_back : (b : Bool) (f : ℕ) → f ≡ bit_number b → focus_shape f ≡ some_event (WindowFocused b)
+focused_back : (b : Bool) (f : ℕ) → f ≡ bit_number b → focus_shape f ≡ Some (WindowFocused b)
 unfolding focus_shape clean
 focused_back b f e = let h = bit_le b in rw (lt-ltb f 2 (omega arith), bit_back b (f / 1 % 2) (omega arith))
 
-present_le : (x : MaybeF32) → force_present x ≤ 1
-present_le no_force = omega arith
-present_le (some_force x) = omega arith
+present_le : (x : Option Float) → force_present x ≤ 1
+present_le None = omega arith
+present_le (Some x) = omega arith
 
-touched_back : (device id : ℕ) (p : TouchPhase) (pos : Pos2) (force : MaybeF32) (f : ℕ) → T (pos_ok pos) → T (maybe_force_ok force) →
-    f ≡ phase_number p + 4 * force_present force → touch_shape f (words_after (Touch device id p pos force)) ≡ some_event (Touch device id p pos force)
+touched_back : (device id : ℕ) (p : TouchPhase) (pos : Pos2) (force : Option Float) (f : ℕ) → T (pos_ok pos) → T (maybe_force_ok force) →
+    f ≡ phase_number p + 4 * force_present force → touch_shape f (words_after (Touch device id p pos force)) ≡ Some (Touch device id p pos force)
 unfolding touch_shape clean words_after id_words pos_words force_words force_of maybe_force_ok force_ok
-touched_back device id p pos no_force f h hf e =
+touched_back device id p pos None f h hf e =
     let hp = phase_le p in
     let k : f % 4 ≡ phase_number p = omega arith in
     let n : f / 4 % 2 ≡ 0 = omega arith in
     rw (lt-ltb f 8 (omega arith), k, phase_back p, n, id_back device, id_back id, pos_back pos h)
-touched_back device id p pos (some_force x) f h hf e =
+touched_back device id p pos (Some x) f h hf e =
     let hp = phase_le p in
     let k : f % 4 ≡ phase_number p = omega arith in
     let n : f / 4 % 2 ≡ 1 = top_digit (f / 4) 1 2 (omega arith) (omega arith) in
     rw (lt-ltb f 8 (omega arith), k, phase_back p, n, id_back device, id_back id, pos_back pos h, float_back x (within_fits _ _ x hf))
 
 -- six words after the first, or seven
-touch_back : (device id : ℕ) (p : TouchPhase) (pos : Pos2) (force : MaybeF32) → T (pos_ok pos) → T (maybe_force_ok force) →
-    shape (encode (Touch device id p pos force)) ≡ some_event (Touch device id p pos force)
+touch_back : (device id : ℕ) (p : TouchPhase) (pos : Pos2) (force : Option Float) → T (pos_ok pos) → T (maybe_force_ok force) →
+    shape (encode (Touch device id p pos force)) ≡ Some (Touch device id p pos force)
 unfolding encode fields words_after id_words pos_words force_words shape_by_kind
-touch_back device id p pos no_force h hf =
+touch_back device id p pos None h hf =
     let hp = phase_le p in
     let n : (phase_number p + 0) / 4 % 2 ≡ 0 = omega arith in
-    shape_head touch_kind (phase_number p + 0) _ (omega arith) ∙ rw n (touched_back device id p pos no_force (phase_number p + 0) h hf refl)
-touch_back device id p pos (some_force x) h hf =
+    shape_head touch_kind (phase_number p + 0) _ (omega arith) ∙ rw n (touched_back device id p pos None (phase_number p + 0) h hf refl)
+touch_back device id p pos (Some x) h hf =
     let hp = phase_le p in
     let n : (phase_number p + 4) / 4 % 2 ≡ 1 = top_digit ((phase_number p + 4) / 4) 1 2 (omega arith) (omega arith) in
-    shape_head touch_kind (phase_number p + 4) _ (omega arith) ∙ rw n (touched_back device id p pos (some_force x) (phase_number p + 4) h hf refl)
+    shape_head touch_kind (phase_number p + 4) _ (omega arith) ∙ rw n (touched_back device id p pos (Some x) (phase_number p + 4) h hf refl)
 
 -- ---- every event
-shape_back : (e : Event) → T (fields_ok e) → T (event_ok e) → shape (encode e) ≡ some_event e
+shape_back : (e : Event) → T (fields_ok e) → T (event_ok e) → shape (encode e) ≡ Some e
 unfolding encode fields words_after fields_ok event_ok pos_words vec_words shape_by_kind clean moved_shape motion_shape zoom_shape rotate_shape zoom_ok radians_ok
 shape_back (Key place pressed) h ok =
     let b = bit_le pressed in

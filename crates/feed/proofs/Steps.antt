@@ -1,8 +1,8 @@
 -- The reader's answers as steps of the walk, and what an accepted event is known to be. Assumes nothing.
-use mathlib.Core.Path.{◌≡◌, refl, sym, ◌∙◌, subst}
+use Rattle.std.specs.Prelude.{Option, None, Some, Ok, Err}
+use mathlib.Core.Path.{◌≡◌, refl, sym, ap, ◌∙◌, subst}
 use mathlib.Core.Bool.{Bool, true, false, cond}
 use mathlib.Core.List.{List, [], ◌∷◌}
-use mathlib.Core.Option.{none}
 use Prim.Native.Nat.{ℕ, suc, ◌+◌, ◌-◌, ◌%◌, ◌≤◌, ◌<◌}
 use native.Mathlib.Omega.{arith}
 use lib.Dec.{T, eqb, ltb, lt→ltb}
@@ -10,8 +10,8 @@ use lib.ListN.{get_or, length}
 use borrow.Author.Tests.{ltb-true, ltb-false}
 use Rattle.data.specs.Kinds.{key_kind, modifiers_kind, moved_kind, motion_kind, button_kind, gone_kind, zoom_kind, rotate_kind, touch_kind, wheel_kind, focus_kind, other_kind}
 use Rattle.data.specs.Limits.{key_count, event_ok}
-use Rattle.feed.specs.Types.{Event, MaybeEvent, no_event, some_event}
-use Rattle.feed.specs.Types.found as found
+use Rattle.feed.specs.Types.{Event}
+use Rattle.feed.specs.Types.fault as fault
 use Rattle.feed.specs.Split.{kind, low_bits, following, piece_length}
 use Rattle.feed.specs.Shape.{clean, field_below, key_shape, modifiers_shape, moved_shape, motion_shape, button_shape, zoom_shape, rotate_shape, touch_shape, wheel_shape, focus_shape, shape_by_kind, shape}
 use Rattle.feed.specs.Decode.{Decoded, good, malformed, outside_domain, decode, check_floats, items_after, piece_at, found_at, event_at, found_refusal}
@@ -24,26 +24,26 @@ absurd_case : {X : Type 0} → ◌≡◌ {A = ℕ} 0 1 → X
 absurd_case z = absurd (omega arith)
 
 -- ---- what an answer says of what was decoded
-found_event : (d : Decoded) (n next : ℕ) (e : Event) → found_at d n ≡ found.Event e next → (d ≡ good e) × (n ≡ next)
+found_event : (d : Decoded) (n next : ℕ) (e : Event) → found_at d n ≡ Ok (e, next) → (d ≡ good e) × (n ≡ next)
 unfolding found_at
-found_event (good e') n next e h = (cc, cc)
+found_event (good e') n next e h = let p : (e', n) ≡ (e, next) = cc in (ap (λ (x : Event × ℕ). good x.0) p, ap (λ (x : Event × ℕ). x.1) p)
 found_event malformed n next e h = absurd_case (cc)
 found_event outside_domain n next e h = absurd_case (cc)
 
-found_malformed : (d : Decoded) (n : ℕ) → found_at d n ≡ found.Malformed → d ≡ malformed
+found_malformed : (d : Decoded) (n : ℕ) → found_at d n ≡ Err fault.Malformed → d ≡ malformed
 unfolding found_at
 found_malformed (good e) n h = absurd_case (cc)
 found_malformed malformed n h = refl
 found_malformed outside_domain n h = absurd_case (cc)
 
-found_outside : (d : Decoded) (n : ℕ) → found_at d n ≡ found.OutsideDomain → d ≡ outside_domain
+found_outside : (d : Decoded) (n : ℕ) → found_at d n ≡ Err fault.OutsideDomain → d ≡ outside_domain
 unfolding found_at
 found_outside (good e) n h = absurd_case (cc)
 found_outside malformed n h = absurd_case (cc)
 found_outside outside_domain n h = refl
 
 -- the refusal of an answer is that of the item
-pub refusal_is : (at n : ℕ) (d : Decoded) → found_refusal at (found_at d n) ≡ then_refusal at d none
+pub refusal_is : (at n : ℕ) (d : Decoded) → found_refusal at (found_at d n) ≡ then_refusal at d None
 unfolding found_refusal found_at then_refusal
 refusal_is at n (good e) = refl
 refusal_is at n malformed = refl
@@ -51,7 +51,7 @@ refusal_is at n outside_domain = refl
 
 module _ (ws : List ℕ) (at : ℕ) (here : at < length ws) where
   -- a whole event
-  whole : (next : ℕ) (e : Event) → event_at ws at ≡ found.Event e next → following (get_or ws at 0) < length ws - at
+  whole : (next : ℕ) (e : Event) → event_at ws at ≡ Ok (e, next) → following (get_or ws at 0) < length ws - at
   whole next e h = go (ltb (following (get_or ws at 0)) (length ws - at)) refl
     where
       go : (b : Bool) → ltb (following (get_or ws at 0)) (length ws - at) ≡ b → following (get_or ws at 0) < length ws - at
@@ -60,7 +60,7 @@ module _ (ws : List ℕ) (at : ℕ) (here : at < length ws) where
           let short = event_at_short ws at here (ltb-false _ _ t) in
           absurd_case (cc)
 
-  step_event : (next : ℕ) (e : Event) → event_at ws at ≡ found.Event e next →
+  step_event : (next : ℕ) (e : Event) → event_at ws at ≡ Ok (e, next) →
       (items_after ws at ≡ record { index = at; what = good e } ∷ items_after ws next) × (at < next) × (next ≤ length ws)
   unfolding event_at piece_length
   step_event next e h =
@@ -69,12 +69,12 @@ module _ (ws : List ℕ) (at : ℕ) (here : at < length ws) where
       let n : at + suc (following (get_or ws at 0)) ≡ next = both.1 in
       (items_next ws at here ∙ rw (both.0, n), omega arith, omega arith)
 
-  step_malformed : event_at ws at ≡ found.Malformed →
+  step_malformed : event_at ws at ≡ Err fault.Malformed →
       items_after ws at ≡ record { index = at; what = malformed } ∷ items_after ws (at + piece_length (get_or ws at 0))
   unfolding event_at
   step_malformed h = items_next ws at here ∙ rw (found_malformed (decode (piece_at ws at)) _ h)
 
-  step_outside : event_at ws at ≡ found.OutsideDomain →
+  step_outside : event_at ws at ≡ Err fault.OutsideDomain →
       items_after ws at ≡ record { index = at; what = outside_domain } ∷ items_after ws (at + piece_length (get_or ws at 0))
   unfolding event_at
   step_outside h = items_next ws at here ∙ rw (found_outside (decode (piece_at ws at)) _ h)
@@ -88,21 +88,21 @@ steps =
     }
 
 -- ---- the domain
-unfoldable fine : MaybeEvent → Bool
-fine no_event = true
-fine (some_event e) = fields_ok e
+unfoldable fine : Option Event → Bool
+fine None = true
+fine (Some e) = fields_ok e
 
-cond_fine : (b : Bool) (x y : MaybeEvent) → (b ≡ true → T (fine x)) → T (fine y) → T (fine (cond b x y))
+cond_fine : (b : Bool) (x y : Option Event) → (b ≡ true → T (fine x)) → T (fine y) → T (fine (cond b x y))
 cond_fine true x y f g = f refl
 cond_fine false x y f g = g
 
-clean_fine : (limit low : ℕ) (e : MaybeEvent) → T (fine e) → T (fine (clean limit low e))
+clean_fine : (limit low : ℕ) (e : Option Event) → T (fine e) → T (fine (clean limit low e))
 unfolding clean fine
-clean_fine limit low e h = cond_fine (ltb low limit) e no_event (λ t. h) tt
+clean_fine limit low e h = cond_fine (ltb low limit) e None (λ t. h) tt
 
-below_fine : (limit field : ℕ) (e : MaybeEvent) → (field < limit → T (fine e)) → T (fine (field_below limit field e))
+below_fine : (limit field : ℕ) (e : Option Event) → (field < limit → T (fine e)) → T (fine (field_below limit field e))
 unfolding field_below fine
-below_fine limit field e h = cond_fine (ltb field limit) e no_event (λ t. h (ltb-true field limit t)) tt
+below_fine limit field e h = cond_fine (ltb field limit) e None (λ t. h (ltb-true field limit t)) tt
 
 by_kind_fine : (k low : ℕ) (ws : List ℕ) → T (fine (shape_by_kind k low ws))
 unfolding shape_by_kind key_shape modifiers_shape moved_shape motion_shape button_shape zoom_shape rotate_shape touch_shape wheel_shape focus_shape fine fields_ok
@@ -125,12 +125,12 @@ by_kind_fine k low ws =
 shape_fine : (ws : List ℕ) → T (fine (shape ws))
 unfolding shape fine
 shape_fine [] = tt
-shape_fine (w ∷ ws) = cond_fine (ltb (length ws) (following w)) no_event _ (λ t. tt) (by_kind_fine (kind w) (low_bits w) ws)
+shape_fine (w ∷ ws) = cond_fine (ltb (length ws) (following w)) None _ (λ t. tt) (by_kind_fine (kind w) (low_bits w) ws)
 
-checked : (m : MaybeEvent) (e : Event) → T (fine m) → check_floats m ≡ good e → T (fields_ok e) × T (event_ok e)
+checked : (m : Option Event) (e : Event) → T (fine m) → check_floats m ≡ good e → T (fields_ok e) × T (event_ok e)
 unfolding check_floats fine
-checked no_event e f h = absurd_case (cc)
-checked (some_event e') e f h = go (event_ok e') refl h
+checked None e f h = absurd_case (cc)
+checked (Some e') e f h = go (event_ok e') refl h
   where
     go : (b : Bool) → event_ok e' ≡ b → cond b (good e') outside_domain ≡ good e → T (fields_ok e) × T (event_ok e)
     go true t h =

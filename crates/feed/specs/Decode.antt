@@ -1,9 +1,8 @@
 -- What stands in a feed: for each piece its first word's index, and the event, or the refusal that its words alone decide.
-use Rattle.std.specs.Prelude.{ℕ, ◌+◌, cond, List, map, get_or, take, drop}
+use Rattle.std.specs.Prelude.{ℕ, ◌+◌, cond, List, map, get_or, take, drop, Option, None, Some, Ok, Err, Result}
 use Rattle.data.specs.Limits.{event_ok}
-use Rattle.std.proofs.Math.Option.{Option, none, some}
-use Rattle.feed.specs.Types.{Event, MaybeEvent, no_event, some_event, EventAt, PassRefusal, Malformed, OutsideDomain}
-use Rattle.feed.specs.Types.found as found
+use Rattle.feed.specs.Types.{Event, FeedError, PassRefusal, Malformed, OutsideDomain}
+use Rattle.feed.specs.Types.fault as fault
 use Rattle.feed.specs.Split.{Piece, pieces, pieces_from, piece_length}
 use Rattle.feed.specs.Shape.{shape}
 
@@ -14,9 +13,9 @@ pub data Decoded : Type 0 where
   outside_domain : Decoded
 
 -- shape first, then floats
-unfoldable pub check_floats : MaybeEvent → Decoded
-check_floats no_event = malformed
-check_floats (some_event e) = cond (event_ok e) (good e) outside_domain
+unfoldable pub check_floats : Option Event → Decoded
+check_floats None = malformed
+check_floats (Some e) = cond (event_ok e) (good e) outside_domain
 
 -- the words of one piece
 unfoldable pub decode : List ℕ → Decoded
@@ -42,16 +41,16 @@ unfoldable pub piece_at : List ℕ → ℕ → List ℕ
 piece_at ws at = take (piece_length (get_or ws at 0)) (drop at ws)
 
 -- the event at word `at`, with the place after it, or its refusal
-unfoldable pub found_at : Decoded → ℕ → EventAt
-found_at (good e) next = found.Event e next
-found_at malformed next = found.Malformed
-found_at outside_domain next = found.OutsideDomain
+unfoldable pub found_at : Decoded → ℕ → Result (Event × ℕ) FeedError
+found_at (good e) next = Ok (e, next)
+found_at malformed next = Err fault.Malformed
+found_at outside_domain next = Err fault.OutsideDomain
 
-unfoldable pub event_at : List ℕ → ℕ → EventAt
+unfoldable pub event_at : List ℕ → ℕ → Result (Event × ℕ) FeedError
 event_at ws at = found_at (decode (piece_at ws at)) (at + piece_length (get_or ws at 0))
 
 -- the refusal that an answer at word `at` is: `pass_refusal_number` has its number
-unfoldable pub found_refusal : ℕ → EventAt → Option PassRefusal
-found_refusal at (found.Event e next) = none
-found_refusal at found.Malformed = some (Malformed at)
-found_refusal at found.OutsideDomain = some (OutsideDomain at)
+unfoldable pub found_refusal : ℕ → Result (Event × ℕ) FeedError → Option PassRefusal
+found_refusal at (Ok (e, next)) = None
+found_refusal at (Err fault.Malformed) = Some (Malformed at)
+found_refusal at (Err fault.OutsideDomain) = Some (OutsideDomain at)

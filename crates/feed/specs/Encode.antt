@@ -1,5 +1,5 @@
 -- The words of an event: what `decode` reads.
-use Rattle.std.specs.Prelude.{ℕ, ◌+◌, ◌*◌, ◌/◌, ◌%◌, Bool, true, List, [], ◌∷◌, ◌++◌, map, ltb, Float}
+use Rattle.std.specs.Prelude.{ℕ, ◌+◌, ◌*◌, ◌/◌, ◌%◌, Bool, true, List, [], ◌∷◌, ◌++◌, map, ltb, Float, Option, None, Some}
 use Rattle.std.specs.Float.{binary32}
 use Rattle.std.specs.Float.Ieee.{to_bits}
 use Rattle.data.specs.Kinds.{kind_unit}
@@ -7,7 +7,7 @@ use Rattle.data.specs.Limits.{key_count}
 use Rattle.data.specs.Numbers.{button_number, phase_number, unit_number, source_number, kind_number}
 use Rattle.data.specs.Bits.{bit_number}
 use Rattle.data.specs.Modifiers.{modifiers_number}
-use Rattle.feed.specs.Types.{Pos2, Vec2, MaybeF32, no_force, some_force}
+use Rattle.feed.specs.Types.{Pos2, Vec2}
 use Rattle.feed.specs.Types.{Event, Key, ModifiersChanged, PointerMoved, MouseMoved, Button, PointerGone, Zoom, Rotate, Touch, MouseWheel, WindowFocused, Other}
 
 -- "A float is one word of f32 bits"; NaN is 7FC00000
@@ -24,13 +24,13 @@ vec_words v = float_word v.x ∷ float_word v.y ∷ []
 unfoldable pub id_words : ℕ → List ℕ
 id_words id = id % 0x1_0000_0000 ∷ id / 0x1_0000_0000 ∷ []
 
-abbrev pub force_present : MaybeF32 → ℕ
-force_present no_force = 0
-force_present (some_force x) = 1
+abbrev pub force_present : Option Float → ℕ
+force_present None = 0
+force_present (Some x) = 1
 
-unfoldable pub force_words : MaybeF32 → List ℕ
-force_words no_force = []
-force_words (some_force x) = float_word x ∷ []
+unfoldable pub force_words : Option Float → List ℕ
+force_words None = []
+force_words (Some x) = float_word x ∷ []
 
 -- the low bits of the first word
 unfoldable pub fields : Event → ℕ

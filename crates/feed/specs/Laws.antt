@@ -1,6 +1,5 @@
 -- What is promised of the reading and writing of feeds, beside the contracts.
-use Rattle.std.specs.Prelude.{◌≡◌, true, false, List, [], ◌∷◌, ◌++◌, map, ℕ, ◌+◌, ◌≤◌, ◌<◌, T, get_or, length, pos}
-use Rattle.std.proofs.Math.Option.{none, some}
+use Rattle.std.specs.Prelude.{◌≡◌, true, false, List, [], ◌∷◌, ◌++◌, map, ℕ, ◌+◌, ◌≤◌, ◌<◌, T, get_or, length, pos, None, Some, Ok, Err}
 use Rattle.std.specs.Float.{binary32}
 use Rattle.std.specs.Float.Ieee.{nan_bits, of_int}
 use Rattle.data.specs.Limits.{max_events, coordinate_ok, zoom_ok, radians_ok, force_ok, event_ok}
@@ -8,7 +7,7 @@ use Rattle.data.specs.Modifiers.{no_modifiers}
 use Rattle.feed.specs.Types.{Event, Button, Primary, TooManyEvents}
 use Rattle.feed.specs.Split.{piece_length}
 use Rattle.feed.specs.Shape.{float_of}
-use Rattle.feed.specs.Types.found as found
+use Rattle.feed.specs.Types.fault as fault
 use Rattle.feed.specs.Decode.{good, malformed, outside_domain, Item, decode, items, items_after, piece_at, event_at}
 use Rattle.feed.specs.Encode.{encode, fields_ok}
 use Rattle.feed.specs.Feed.{events_of, feed_refusal}
@@ -32,11 +31,11 @@ pub record Walk : Type 0 where
 
 -- what `event_at` answers is the first item from `at` on, and the place after an event is further on, within the feed
 pub record Steps : Type 0 where
-  pub event : (ws : List ℕ) (at next : ℕ) (e : Event) → at < length ws → event_at ws at ≡ found.Event e next →
+  pub event : (ws : List ℕ) (at next : ℕ) (e : Event) → at < length ws → event_at ws at ≡ Ok (e, next) →
       (items_after ws at ≡ record { index = at; what = good e } ∷ items_after ws next) × (at < next) × (next ≤ length ws)
-  pub refused_1 : (ws : List ℕ) (at : ℕ) → at < length ws → event_at ws at ≡ found.Malformed →
+  pub refused_1 : (ws : List ℕ) (at : ℕ) → at < length ws → event_at ws at ≡ Err fault.Malformed →
       items_after ws at ≡ record { index = at; what = malformed } ∷ items_after ws (at + piece_length (get_or ws at 0))
-  pub refused_2 : (ws : List ℕ) (at : ℕ) → at < length ws → event_at ws at ≡ found.OutsideDomain →
+  pub refused_2 : (ws : List ℕ) (at : ℕ) → at < length ws → event_at ws at ≡ Err fault.OutsideDomain →
       items_after ws at ≡ record { index = at; what = outside_domain } ∷ items_after ws (at + piece_length (get_or ws at 0))
 
 -- what is decoded is of the domain
@@ -50,12 +49,12 @@ good_item p = record { index = p.0; what = good p.1 }
 abbrev pub EventSixtyFive : Type 0
 EventSixtyFive =
     (ws : List ℕ) (before : List (ℕ × Event)) (i : Item) (after : List Item) →
-    length before ≡ max_events → items ws ≡ map good_item before ++ i ∷ after → feed_refusal ws ≡ some (TooManyEvents i.index)
+    length before ≡ max_events → items ws ≡ map good_item before ++ i ∷ after → feed_refusal ws ≡ Some (TooManyEvents i.index)
 
 -- a feed that is not refused: at most `max_events` events, each of them good
 abbrev pub Accepted : Type 0
 Accepted =
-    (ws : List ℕ) → feed_refusal ws ≡ none →
+    (ws : List ℕ) → feed_refusal ws ≡ None →
     (length (items ws) ≤ max_events) × (map (λ (i : Item). i.what) (items ws) ≡ map good (events_of (items ws)))
 
 -- "A primary press at (10, 20) is hexadecimal 50000100 41200000 41A00000"

@@ -10,13 +10,9 @@ pub use Rattle.data.specs.declared.mouse_wheel.MouseWheelSource.{MouseWheelSourc
 pub use Rattle.data.specs.declared.mouse_wheel.MouseWheelSource.TheVariants.{Unknown, Wheel, Trackpad, Momentum}
 pub use Rattle.data.specs.declared.touch.TouchPhase.{TouchPhase}
 pub use Rattle.data.specs.declared.touch.TouchPhase.TheVariants.{Start, Move, End, Cancel}
-pub use Rattle.data.specs.declared.touch.MaybeF32.{MaybeF32}
-pub use Rattle.data.specs.declared.touch.MaybeF32.TheVariants.{None as no_force, Some as some_force}
 pub use Rattle.data.specs.declared.event.Event.{Event}
 pub use Rattle.data.specs.declared.event.Event.TheVariants.{Key, ModifiersChanged, PointerMoved, MouseMoved, PointerButton as Button, PointerGone, Zoom, Rotate, Touch, MouseWheel, WindowFocused, Other}
 pub use Rattle.data.specs.declared.refusal.PassRefusal.{PassRefusal}
 pub use Rattle.data.specs.declared.refusal.PassRefusal.TheVariants.{Malformed, OutsideDomain, TimeBelow, TooManyEvents, NoPlace}
-pub use Rattle.feed.specs.declared.found.MaybeEvent.{MaybeEvent}
-pub use Rattle.feed.specs.declared.found.MaybeEvent.TheVariants.{None as no_event, Some as some_event}
-pub use Rattle.feed.specs.declared.found.EventAt.{EventAt}
-pub use Rattle.feed.specs.declared.found.EventAt.TheVariants as found
+pub use Rattle.feed.specs.declared.found.FeedError.{FeedError}
+pub use Rattle.feed.specs.declared.found.FeedError.TheVariants as fault

@@ -1,17 +1,8 @@
-// What is found in a feed: the types of the answers.
-use data::event::Event;
+// What is wrong in a feed.
 
-// Option<Event>
+// Why no event of the domain stands at a place.
 #[derive(Clone, Copy)]
-pub enum MaybeEvent {
-    None,
-    Some(Event),
-}
-
-#[derive(Clone, Copy)]
-pub enum EventAt {
-    // the event, and the place after its last word
-    Event(Event, usize),
+pub enum FeedError {
     // refusal 1
     Malformed,
     // refusal 2

@@ -3,26 +3,27 @@ ghost use Rattle.std.specs.Prelude.{◌≡◌};
 ghost use Rattle.feed.specs.Decode.{check_floats, found_at, event_at};
 
 use crate::kinds::shape_at;
+use data::event::Event;
 use domain::event_ok;
-use feed::found::{EventAt, MaybeEvent};
+use feed::found::FeedError;
 use feed::split::following;
 
-fn check_floats(e: MaybeEvent, next: usize) -> EventAt
+fn check_floats(e: Option<Event>, next: usize) -> Result<(Event, usize), FeedError>
     ensures { result ≡ found_at (check_floats e) next }
 {
     match e {
-        MaybeEvent::None => EventAt::Malformed,
-        MaybeEvent::Some(event) => {
+        None => Err(FeedError::Malformed),
+        Some(event) => {
             if event_ok(event) {
-                return EventAt::Event(event, next);
+                return Ok((event, next));
             }
-            EventAt::OutsideDomain
+            Err(FeedError::OutsideDomain)
         }
     }
 }
 
 // The event whose first word is at `at`. Past the end there is none: cut short.
-pub fn event_at(feed: &[u32], at: usize) -> EventAt
+pub fn event_at(feed: &[u32], at: usize) -> Result<(Event, usize), FeedError>
     ensures { result ≡ event_at feed.now at }
 {
     if at < feed.len() {
@@ -31,7 +32,7 @@ pub fn event_at(feed: &[u32], at: usize) -> EventAt
             let e = shape_at(feed, at);
             return check_floats(e, at + (n + 1));
         }
-        return EventAt::Malformed;
+        return Err(FeedError::Malformed);
     }
-    EventAt::Malformed
+    Err(FeedError::Malformed)
 }

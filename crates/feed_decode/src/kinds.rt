@@ -8,21 +8,20 @@ use data::kinds::{
     BUTTON_KIND, FOCUS_KIND, GONE_KIND, KEY_KIND, KIND_UNIT, MODIFIERS_KIND, MOTION_KIND,
     MOVED_KIND, OTHER_KIND, ROTATE_KIND, TOUCH_KIND, WHEEL_KIND, ZOOM_KIND,
 };
-use feed::found::MaybeEvent;
 use feed_shape::shape::{
     bare, button_shape, focus_shape, key_shape, modifiers_shape, motion_shape, moved_shape,
     rotate_shape, touch_shape, wheel_shape, zoom_shape,
 };
 
 // The event at `at`, whose words are all there.
-pub fn shape_at(feed: &[u32], at: usize) -> MaybeEvent
+pub fn shape_at(feed: &[u32], at: usize) -> Option<Event>
     requires { at + following (get_or feed.now at 0) < length feed.now }
     ensures { result ≡ shape_by_kind (kind (get_or feed.now at 0)) (low_bits (get_or feed.now at 0)) (drop (suc at) feed.now) }
 {
     let head = feed[at];
     let low = head % KIND_UNIT;
     match head / KIND_UNIT {
-        0 => MaybeEvent::None,
+        0 => None,
         KEY_KIND => key_shape(low),
         MODIFIERS_KIND => modifiers_shape(low),
         MOVED_KIND => moved_shape(low, feed[at + 1], feed[at + 2]),
@@ -35,8 +34,8 @@ pub fn shape_at(feed: &[u32], at: usize) -> MaybeEvent
         WHEEL_KIND => wheel_shape(low, feed[at + 1], feed[at + 2]),
         FOCUS_KIND => focus_shape(low),
         OTHER_KIND => bare(low, Event::Other),
-        13..=15 => MaybeEvent::None,
+        13..=15 => None,
         // four bits: there is no more
-        _ => MaybeEvent::None,
+        _ => None,
     }
 }

@@ -12,7 +12,7 @@ use data::kinds::{
     BUTTON_KIND, FOCUS_KIND, GONE_KIND, KEY_KIND, KIND_UNIT, MODIFIERS_KIND, MOTION_KIND,
     MOVED_KIND, OTHER_KIND, ROTATE_KIND, TOUCH_KIND, WHEEL_KIND, ZOOM_KIND,
 };
-use data::touch::{MaybeF32, TouchPhase};
+use data::touch::TouchPhase;
 use emath::pos2::Pos2;
 
 // The first word of an event whose low bits are 0, by its kind.
@@ -84,7 +84,7 @@ fn three(head: u32, a: u32, b: u32) -> EventWords
     }
 }
 
-fn touch_words(device: u64, id: u64, phase: TouchPhase, pos: Pos2, force: MaybeF32) -> EventWords
+fn touch_words(device: u64, id: u64, phase: TouchPhase, pos: Pos2, force: Option<f32>) -> EventWords
     ensures { words_of result ≡ encode (Touch device id phase pos force) }
 {
     let a = (device % 0x1_0000_0000) as u32;
@@ -95,11 +95,11 @@ fn touch_words(device: u64, id: u64, phase: TouchPhase, pos: Pos2, force: MaybeF
     let x = float_word(pos.x);
     let y = float_word(pos.y);
     match force {
-        MaybeF32::None => EventWords {
+        None => EventWords {
             words: [TOUCH_HEAD + (p + 0), a, b, c, d, x, y, 0],
             count: 7,
         },
-        MaybeF32::Some(f) => {
+        Some(f) => {
             let z = float_word(f);
             EventWords {
                 words: [TOUCH_HEAD + (p + 4), a, b, c, d, x, y, z],

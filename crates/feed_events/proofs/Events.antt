@@ -1,4 +1,5 @@
 -- Joined pieces split into themselves, and encoded events are read again: `Laws`. Assumes nothing.
+use Rattle.std.specs.Prelude.{None, Some}
 use Prim.Native.Nat.{ℕ, suc, ◌+◌, ◌*◌, ◌/◌, ◌%◌, ◌<◌}
 use native.Mathlib.Omega.{arith}
 use mathlib.Core.Path.{◌≡◌, refl, sym, ap, ◌∙◌}
@@ -10,7 +11,6 @@ use Rattle.data.specs.Kinds.{kind_unit, key_kind, modifiers_kind, moved_kind, mo
 use Rattle.data.specs.Bits.{bit_number}
 use Rattle.data.specs.Modifiers.{modifiers_number}
 use Rattle.data.specs.Numbers.{button_number, phase_number, unit_number, source_number}
-use Rattle.feed.specs.Types.{no_force, some_force}
 use Rattle.feed.specs.Types.{Event, Key, ModifiersChanged, PointerMoved, MouseMoved, Button, PointerGone, Zoom, Rotate, Touch, MouseWheel, WindowFocused, Other}
 use Rattle.feed.specs.Split.{Piece, pieces, pieces_from, piece_length, following, kind, lengths}
 use Rattle.feed.specs.Decode.{good, Item, item_of, items}
@@ -66,11 +66,11 @@ encoded_whole (Button v b p m) = whole_of button_kind (modifiers_number m + 32 *
 encoded_whole PointerGone = whole_of gone_kind 0 [] (omega arith) refl
 encoded_whole (Zoom x) = whole_of zoom_kind 0 _ (omega arith) refl
 encoded_whole (Rotate x) = whole_of rotate_kind 0 _ (omega arith) refl
-encoded_whole (Touch d i ph v no_force) =
+encoded_whole (Touch d i ph v None) =
     let hp = phase_le ph in
     let n : 0 ≡ (phase_number ph + 0) / 4 % 2 = omega arith in
     whole_of touch_kind (phase_number ph + 0) _ (omega arith) (ap (λ (k : ℕ). 6 + k) n)
-encoded_whole (Touch d i ph v (some_force x)) =
+encoded_whole (Touch d i ph v (Some x)) =
     let hp = phase_le ph in
     let q : (phase_number ph + 4) / 4 ≡ 1 = omega arith in
     whole_of touch_kind (phase_number ph + 4) _ (omega arith) (ap (λ (k : ℕ). 6 + k % 2) (sym q))

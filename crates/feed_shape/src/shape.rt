@@ -1,63 +1,60 @@
 // The event that an event's words say, or none: kind, fields and stray bits, whatever the floats are.
 // `low` is the first word's low 28 bits.
-ghost use Rattle.std.specs.Prelude.{◌≡◌, suc, ◌+◌, ◌/◌, ◌%◌, ◌<◌, length, drop};
-ghost use Rattle.feed.specs.declared.found.MaybeEvent.TheVariants.{Some as some_event};
+ghost use Rattle.std.specs.Prelude.{◌≡◌, suc, ◌+◌, ◌/◌, ◌%◌, ◌<◌, length, drop, Some};
 ghost use Rattle.feed.specs.Shape.{clean, key_shape, modifiers_shape, moved_shape, motion_shape, button_shape, zoom_shape, rotate_shape, touch_shape, wheel_shape, focus_shape};
 
 use data::event::Event;
 use data::limits::{BUTTON_COUNT, KEY_COUNT, UNIT_COUNT};
 use data::modifiers::Modifiers;
-use data::touch::MaybeF32;
 use feed::fields::{button_of, float_of, id_of, phase_of, pos_of, source_of, unit_of, vec_of};
-use feed::found::MaybeEvent;
 
 // An event with no field: no bit is set.
-pub fn bare(low: u32, e: Event) -> MaybeEvent
-    ensures { result ≡ clean 1 low (some_event e) }
+pub fn bare(low: u32, e: Event) -> Option<Event>
+    ensures { result ≡ clean 1 low (Some e) }
 {
     if low < 1 {
-        return MaybeEvent::Some(e);
+        return Some(e);
     }
-    MaybeEvent::None
+    None
 }
 
-pub fn key_shape(low: u32) -> MaybeEvent
+pub fn key_shape(low: u32) -> Option<Event>
     ensures { result ≡ key_shape low }
 {
     if low < 512 {
         if low % 256 < KEY_COUNT {
-            return MaybeEvent::Some(Event::Key(low % 256, low / 256 % 2 == 1));
+            return Some(Event::Key(low % 256, low / 256 % 2 == 1));
         }
-        return MaybeEvent::None;
+        return None;
     }
-    MaybeEvent::None
+    None
 }
 
-pub fn modifiers_shape(low: u32) -> MaybeEvent
+pub fn modifiers_shape(low: u32) -> Option<Event>
     ensures { result ≡ modifiers_shape low }
 {
     if low < 32 {
         let modifiers = Modifiers::of(low);
-        return MaybeEvent::Some(Event::ModifiersChanged(modifiers));
+        return Some(Event::ModifiersChanged(modifiers));
     }
-    MaybeEvent::None
+    None
 }
 
-pub fn moved_shape(low: u32, x: u32, y: u32) -> MaybeEvent
+pub fn moved_shape(low: u32, x: u32, y: u32) -> Option<Event>
     ensures { result ≡ moved_shape low x y }
 {
     let pos = pos_of(x, y);
     bare(low, Event::PointerMoved(pos))
 }
 
-pub fn motion_shape(low: u32, x: u32, y: u32) -> MaybeEvent
+pub fn motion_shape(low: u32, x: u32, y: u32) -> Option<Event>
     ensures { result ≡ motion_shape low x y }
 {
     let delta = vec_of(x, y);
     bare(low, Event::MouseMoved(delta))
 }
 
-pub fn button_shape(low: u32, x: u32, y: u32) -> MaybeEvent
+pub fn button_shape(low: u32, x: u32, y: u32) -> Option<Event>
     ensures { result ≡ button_shape low x y }
 {
     let number = low / 32 % 8;
@@ -66,26 +63,21 @@ pub fn button_shape(low: u32, x: u32, y: u32) -> MaybeEvent
             let pos = pos_of(x, y);
             let button = button_of(number);
             let modifiers = Modifiers::of(low);
-            return MaybeEvent::Some(Event::PointerButton(
-                pos,
-                button,
-                low / 256 % 2 == 1,
-                modifiers,
-            ));
+            return Some(Event::PointerButton(pos, button, low / 256 % 2 == 1, modifiers));
         }
-        return MaybeEvent::None;
+        return None;
     }
-    MaybeEvent::None
+    None
 }
 
-pub fn zoom_shape(low: u32, x: u32) -> MaybeEvent
+pub fn zoom_shape(low: u32, x: u32) -> Option<Event>
     ensures { result ≡ zoom_shape low x }
 {
     let factor = float_of(x);
     bare(low, Event::Zoom(factor))
 }
 
-pub fn rotate_shape(low: u32, x: u32) -> MaybeEvent
+pub fn rotate_shape(low: u32, x: u32) -> Option<Event>
     ensures { result ≡ rotate_shape low x }
 {
     let radians = float_of(x);
@@ -93,7 +85,7 @@ pub fn rotate_shape(low: u32, x: u32) -> MaybeEvent
 }
 
 // The words after the first are those after `at`; there is one more with force.
-pub fn touch_shape(feed: &[u32], at: usize, low: u32) -> MaybeEvent
+pub fn touch_shape(feed: &[u32], at: usize, low: u32) -> Option<Event>
     requires { at + 6 + low / 4 % 2 < length feed.now }
     ensures { result ≡ touch_shape low (drop (suc at) feed.now) }
 {
@@ -104,14 +96,14 @@ pub fn touch_shape(feed: &[u32], at: usize, low: u32) -> MaybeEvent
         let pos = pos_of(feed[at + 5], feed[at + 6]);
         if low / 4 % 2 == 1 {
             let force = float_of(feed[at + 7]);
-            return MaybeEvent::Some(Event::Touch(device, id, phase, pos, MaybeF32::Some(force)));
+            return Some(Event::Touch(device, id, phase, pos, Some(force)));
         }
-        return MaybeEvent::Some(Event::Touch(device, id, phase, pos, MaybeF32::None));
+        return Some(Event::Touch(device, id, phase, pos, None));
     }
-    MaybeEvent::None
+    None
 }
 
-pub fn wheel_shape(low: u32, x: u32, y: u32) -> MaybeEvent
+pub fn wheel_shape(low: u32, x: u32, y: u32) -> Option<Event>
     ensures { result ≡ wheel_shape low x y }
 {
     let number = low / 32 % 4;
@@ -122,18 +114,18 @@ pub fn wheel_shape(low: u32, x: u32, y: u32) -> MaybeEvent
             let phase = phase_of(low / 128 % 4);
             let source = source_of(low / 512 % 4);
             let modifiers = Modifiers::of(low);
-            return MaybeEvent::Some(Event::MouseWheel(unit, delta, phase, source, modifiers));
+            return Some(Event::MouseWheel(unit, delta, phase, source, modifiers));
         }
-        return MaybeEvent::None;
+        return None;
     }
-    MaybeEvent::None
+    None
 }
 
-pub fn focus_shape(low: u32) -> MaybeEvent
+pub fn focus_shape(low: u32) -> Option<Event>
     ensures { result ≡ focus_shape low }
 {
     if low < 2 {
-        return MaybeEvent::Some(Event::WindowFocused(low / 1 % 2 == 1));
+        return Some(Event::WindowFocused(low / 1 % 2 == 1));
     }
-    MaybeEvent::None
+    None
 }

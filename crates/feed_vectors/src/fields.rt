@@ -6,7 +6,6 @@ use data::kinds::{
     BUTTON_KIND, FOCUS_KIND, GONE_KIND, KEY_KIND, MODIFIERS_KIND, MOTION_KIND, MOVED_KIND,
     OTHER_KIND, ROTATE_KIND, TOUCH_KIND, WHEEL_KIND, ZOOM_KIND,
 };
-use data::touch::MaybeF32;
 use feed_encode::float_word;
 
 fn low(id: u64) -> u32 {
@@ -15,20 +14,6 @@ fn low(id: u64) -> u32 {
 
 fn high(id: u64) -> u32 {
     (id / 0x1_0000_0000) as u32
-}
-
-fn force_present(f: MaybeF32) -> u32 {
-    match f {
-        MaybeF32::None => 0,
-        MaybeF32::Some(_) => 1,
-    }
-}
-
-fn force_bits(f: MaybeF32) -> u32 {
-    match f {
-        MaybeF32::None => 0,
-        MaybeF32::Some(x) => float_word(x),
-    }
 }
 
 pub fn fields_of(e: Event) -> [u32; 11] {
@@ -92,7 +77,7 @@ pub fn fields_of(e: Event) -> [u32; 11] {
         Event::Touch(device, id, phase, p, force) => [
             TOUCH_KIND,
             phase.number(),
-            force_present(force),
+            bit_number(force.is_some()),
             0,
             float_word(p.x),
             float_word(p.y),
@@ -100,7 +85,7 @@ pub fn fields_of(e: Event) -> [u32; 11] {
             high(device),
             low(id),
             high(id),
-            force_bits(force),
+            force.map_or(0, |x| float_word(x)),
         ],
         Event::MouseWheel(unit, v, phase, source, m) => [
             WHEEL_KIND,

@@ -14,17 +14,12 @@ const STDOUT_FILENO: i32 = 1;
 // A million records at most, so that the loop ends.
 fn replay_all() -> Tally {
     let mut record = [0u8; 128];
-    let mut t = Tally {
-        cases: 0,
-        differ: 0,
-    };
-    let mut left: u64 = 1_000_000;
-    while left > 0 {
+    let mut t = Tally::default();
+    for _ in 0..1_000_000 {
         if io::read_full(0, &mut record) != 128 {
             return t;
         }
         t = cases::replay(t, &record);
-        left -= 1;
     }
     t
 }

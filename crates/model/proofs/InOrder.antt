@@ -1,15 +1,15 @@
 -- Devices stay in order: their ids and their touches' ascend, and what the survey refuses with 5 is what would break the limits. Assumes nothing.
+use Rattle.std.specs.Prelude.{Option, None, Some}
 use Prim.Native.Nat.{ℕ, suc, ◌≤◌, ◌<◌}
 use native.Mathlib.Omega.{arith}
 use mathlib.Core.Path.{◌≡◌, refl, sym, ap, ◌∙◌, subst}
 use mathlib.Core.Bool.{Bool, true, false, not, ◌&&◌, cond, true≢false}
-use mathlib.Core.Option.{Option, none, some}
 use mathlib.Core.List.{List, [], ◌∷◌, map}
 use lib.ListN.{length, length-map}
 use lib.Dec.{T, leb, eqb, eqb→eq, nleb→lt}
 use lib.Ieee.{Float}
 use Rattle.data.specs.Limits.{max_devices, max_touches}
-use Rattle.model.specs.Types.{Pos2, MaybePos2, MaybeF32, TouchPhase, Start, Move, End, Cancel, ActiveTouch}
+use Rattle.model.specs.Types.{Pos2, TouchPhase, Start, Move, End, Cancel, ActiveTouch}
 use Rattle.model.specs.Types.{Event, Key, ModifiersChanged, PointerMoved, MouseMoved, Button, PointerGone, Zoom, Rotate, Touch, MouseWheel, WindowFocused, Other}
 use Rattle.model.specs.Touch.{TouchState, insert_touch, move_touch, remove_touch, holds, on_touch, is_start, no_place, new_device, touch_device, at_device, find_device, touch_event, touch_events, end_device, end_touches, touch_pass}
 use Rattle.model.specs.Touch.{Above, Ascending, device_id_of, touch_id_of, TouchesWithin, AllTouchesWithin, InOrder}
@@ -24,7 +24,7 @@ Ascend vs = Ascending device_id_of vs
 
 -- ---- an event is a touch, or nothing to the devices
 pub data TouchView : Event → Type 0 where
-  a_touch : (d i : ℕ) (phase : TouchPhase) (pos : Pos2) (force : MaybeF32) → TouchView (Touch d i phase pos force)
+  a_touch : (d i : ℕ) (phase : TouchPhase) (pos : Pos2) (force : Option Float) → TouchView (Touch d i phase pos force)
   no_touch : {e : Event} → ((vs : List TouchState) → touch_event e vs ≡ vs) → TouchView e
 
 pub touch_view : (e : Event) → TouchView e
@@ -42,10 +42,10 @@ touch_view (MouseWheel u v ph s m) = no_touch (λ vs. refl)
 touch_view (WindowFocused b) = no_touch (λ vs. refl)
 touch_view Other = no_touch (λ vs. refl)
 
-abbrev pub touch_of : ℕ → Pos2 → MaybeF32 → ActiveTouch
+abbrev pub touch_of : ℕ → Pos2 → Option Float → ActiveTouch
 touch_of i p f = record { id = i; pos = p; force = f }
 
-pub touch_event_is : (d i : ℕ) (ph : TouchPhase) (p : Pos2) (f : MaybeF32) (vs : List TouchState) → touch_event (Touch d i ph p f) vs ≡ at_device d (touch_device ph (touch_of i p f)) vs
+pub touch_event_is : (d i : ℕ) (ph : TouchPhase) (p : Pos2) (f : Option Float) (vs : List TouchState) → touch_event (Touch d i ph p f) vs ≡ at_device d (touch_device ph (touch_of i p f)) vs
 unfolding touch_event
 touch_event_is d i ph p f vs = refl
 
@@ -93,7 +93,7 @@ module _ (d : ℕ) (f : TouchState → TouchState) (keeps : (v : TouchState) →
         | more l ↦ rw (at_more d f v vs l) (at_above v.device_id vs l a.0, at_ascending vs a.1)
       ]
 
-pub find_above : (d : ℕ) (vs : List TouchState) → AboveAll d vs → find_device d vs ≡ none
+pub find_above : (d : ℕ) (vs : List TouchState) → AboveAll d vs → find_device d vs ≡ None
 unfolding find_device
 find_above d [] a = refl
 find_above d (v ∷ vs) a = rw (eqb_no d v.device_id (λ e. let x = a.0 in omega arith)) (find_above d vs a.1)
@@ -234,7 +234,7 @@ on_touch_within Cancel t us a l h = (remove_ascends t.id us a, (let y = remove_l
 
 -- ---- devices
 module _ (d : ℕ) (f : TouchState → TouchState) where
-  at_within : (vs : List TouchState) → Ascend vs → AllTouchesWithin vs → (find_device d vs ≡ none → TouchesWithin (f (new_device d))) → ((v : TouchState) → find_device d vs ≡ some v → TouchesWithin v → TouchesWithin (f v))
+  at_within : (vs : List TouchState) → Ascend vs → AllTouchesWithin vs → (find_device d vs ≡ None → TouchesWithin (f (new_device d))) → ((v : TouchState) → find_device d vs ≡ Some v → TouchesWithin v → TouchesWithin (f v))
       → AllTouchesWithin (at_device d f vs)
   unfolding at_device find_device
   at_within [] a w new old = (new refl, tt)
@@ -249,7 +249,7 @@ module _ (d : ℕ) (f : TouchState → TouchState) where
 
   data Counted (vs : List TouchState) : Type 0 where
     known : length (at_device d f vs) ≡ length vs → Counted vs
-    unknown : length (at_device d f vs) ≡ suc (length vs) → find_device d vs ≡ none → Counted vs
+    unknown : length (at_device d f vs) ≡ suc (length vs) → find_device d vs ≡ None → Counted vs
 
   counted : (vs : List TouchState) → Ascend vs → Counted vs
   unfolding at_device find_device
@@ -265,7 +265,7 @@ module _ (d : ℕ) (f : TouchState → TouchState) where
       further l (known e) = known (ap length (at_more d f v vs l) ∙ ap suc e)
       further l (unknown e n) = unknown (ap length (at_more d f v vs l) ∙ ap suc e) (rw (eqb_no d v.device_id (λ x. omega arith)) n)
 
-  at_length : (vs : List TouchState) → Ascend vs → length vs ≤ max_devices → (find_device d vs ≡ none → length vs < max_devices) → length (at_device d f vs) ≤ max_devices
+  at_length : (vs : List TouchState) → Ascend vs → length vs ≤ max_devices → (find_device d vs ≡ None → length vs < max_devices) → length (at_device d f vs) ≤ max_devices
   at_length vs a l h = go (counted vs a)
     where
       go : Counted vs → length (at_device d f vs) ≤ max_devices
@@ -286,9 +286,9 @@ touch_in_order d ph t vs w h =
       touches = at_within d (touch_device ph t) vs w.ascend w.touches (λ n. new) (λ v e k. old v (subst (λ (o : Option TouchState). no_place ph t.id (length vs) o ≡ false) e h) k);
     }
   where
-    few_enough : find_device d vs ≡ none → (o : Option TouchState) → no_place ph t.id (length vs) o ≡ false → o ≡ none → length vs < max_devices
-    few_enough n none e m = nleb→lt max_devices (length vs) (subst (λ (b : Bool). T (not b)) (sym e) tt)
-    few_enough n (some v) e m = impossible (cc)
+    few_enough : find_device d vs ≡ None → (o : Option TouchState) → no_place ph t.id (length vs) o ≡ false → o ≡ None → length vs < max_devices
+    few_enough n None e m = nleb→lt max_devices (length vs) (subst (λ (b : Bool). T (not b)) (sym e) tt)
+    few_enough n (Some v) e m = impossible (cc)
 
     new : TouchesWithin (touch_device ph t (new_device d))
     new =
@@ -301,7 +301,7 @@ touch_in_order d ph t vs w h =
         empty End = refl
         empty Cancel = refl
 
-    old : (v : TouchState) → no_place ph t.id (length vs) (some v) ≡ false → TouchesWithin v → TouchesWithin (touch_device ph t v)
+    old : (v : TouchState) → no_place ph t.id (length vs) (Some v) ≡ false → TouchesWithin v → TouchesWithin (touch_device ph t v)
     old v e k =
         let z = on_touch_within ph t v.active_touches k.ascend k.limit e in
         record { ascend = z.0; limit = z.1 }
@@ -328,22 +328,22 @@ events_ascending [] vs a = a
 events_ascending (e ∷ es) vs a = events_ascending es (touch_event e vs) (event_ascending e vs a)
 
 -- ---- the end of a pass
-map_above : (time : Float) (p : MaybePos2) (es : List Event) (n : ℕ) (vs : List TouchState) → AboveAll n vs → AboveAll n (map (end_touches time p es) vs)
+map_above : (time : Float) (p : Option Pos2) (es : List Event) (n : ℕ) (vs : List TouchState) → AboveAll n vs → AboveAll n (map (end_touches time p es) vs)
 unfolding end_touches end_device
 map_above time p es n [] a = tt
 map_above time p es n (v ∷ vs) a = (a.0, map_above time p es n vs a.1)
 
-pub map_ascending : (time : Float) (p : MaybePos2) (es : List Event) (vs : List TouchState) → Ascend vs → Ascend (map (end_touches time p es) vs)
+pub map_ascending : (time : Float) (p : Option Pos2) (es : List Event) (vs : List TouchState) → Ascend vs → Ascend (map (end_touches time p es) vs)
 unfolding end_touches end_device
 map_ascending time p es [] a = tt
 map_ascending time p es (v ∷ vs) a = (map_above time p es v.device_id vs a.0, map_ascending time p es vs a.1)
 
-map_within : (time : Float) (p : MaybePos2) (es : List Event) (vs : List TouchState) → AllTouchesWithin vs → AllTouchesWithin (map (end_touches time p es) vs)
+map_within : (time : Float) (p : Option Pos2) (es : List Event) (vs : List TouchState) → AllTouchesWithin vs → AllTouchesWithin (map (end_touches time p es) vs)
 unfolding end_touches end_device
 map_within time p es [] w = tt
 map_within time p es (v ∷ vs) w = (record { ascend = w.0.ascend; limit = w.0.limit }, map_within time p es vs w.1)
 
-pub end_in_order : (time : Float) (p : MaybePos2) (es : List Event) (vs : List TouchState) → InOrder vs → InOrder (map (end_touches time p es) vs)
+pub end_in_order : (time : Float) (p : Option Pos2) (es : List Event) (vs : List TouchState) → InOrder vs → InOrder (map (end_touches time p es) vs)
 end_in_order time p es vs o =
     record {
       ascend = map_ascending time p es vs o.ascend;
@@ -355,6 +355,6 @@ end_in_order time p es vs o =
 pub none_in_order : InOrder []
 none_in_order = record { ascend = tt; limit = omega arith; touches = tt }
 
-pub touch_pass_ascending : (time : Float) (p : MaybePos2) (es : List Event) (vs : List TouchState) → Ascend vs → Ascend (touch_pass time p es vs)
+pub touch_pass_ascending : (time : Float) (p : Option Pos2) (es : List Event) (vs : List TouchState) → Ascend vs → Ascend (touch_pass time p es vs)
 unfolding touch_pass
 touch_pass_ascending time p es vs a = map_ascending time p es (touch_events es vs) (events_ascending es vs a)

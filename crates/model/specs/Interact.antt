@@ -1,9 +1,8 @@
 -- interaction.rs: an interact, refused with all left as before, or answered with a snapshot. Definitions only.
-use Rattle.std.specs.Prelude.{ℕ, zero, suc, ◌+◌, max, Bool, true, false, not, ◌&&◌, ◌||◌, cond, List, [], ◌∷◌, leb, ltb, eqb}
-use Rattle.std.proofs.Math.Option.{Option, none, some}
+use Rattle.std.specs.Prelude.{ℕ, zero, suc, ◌+◌, max, Bool, true, false, not, ◌&&◌, ◌||◌, cond, List, [], ◌∷◌, leb, ltb, eqb, Option, None, Some}
 use Rattle.data.specs.Limits.{max_hits, id_places, max_tally}
 use Rattle.data.specs.Sense.{sense_ok, senses_click, senses_drag}
-use Rattle.model.specs.Types.{MaybePos2, no_pos, some_pos, MaybeClick, no_click, some_click, PointerEvent, Moved, Pressed, Released, WidgetRect, InteractRefusal}
+use Rattle.model.specs.Types.{Pos2, Click, PointerEvent, Moved, Pressed, Released, WidgetRect, InteractRefusal}
 use Rattle.model.specs.Types.interaction.{Malformed, TooManyHits, ShortBuffer, ZeroId, TallyFull}
 use Rattle.model.specs.Pointer.{any_down, could_any_button_be_click, is_long_press}
 use Rattle.model.specs.Touch.{any_touches}
@@ -44,9 +43,9 @@ pub record Seen : Type 0 where
   pub any_down : Bool
   pub has_pointer : Bool
 
-unfoldable pub has_pos : MaybePos2 → Bool
-has_pos no_pos = false
-has_pos (some_pos v) = true
+unfoldable pub has_pos : Option Pos2 → Bool
+has_pos None = false
+has_pos (Some v) = true
 
 -- `is_long_press` of a panel
 unfoldable pub long_press : Panel → Bool
@@ -76,28 +75,28 @@ pub record Going : Type 0 where
   pub long_touched : Option ℕ
 
 unfoldable pub is_some : {A : Type 0} → Option A → Bool
-is_some none = false
-is_some (some a) = true
+is_some None = false
+is_some (Some a) = true
 
-unfoldable pub has_click : MaybeClick → Bool
-has_click no_click = false
-has_click (some_click c) = true
+unfoldable pub has_click : Option Click → Bool
+has_click None = false
+has_click (Some c) = true
 
 -- `id.and_then(|id| widgets.get(id))`
 unfoldable pub get : Option ℕ → (ℕ → Option WidgetRect) → Option WidgetRect
-get none widgets = none
-get (some d) widgets = widgets d
+get None widgets = None
+get (Some d) widgets = widgets d
 
 unfoldable pub widget_id : Option WidgetRect → Option ℕ
-widget_id none = none
-widget_id (some w) = some w.id
+widget_id None = None
+widget_id (Some w) = Some w.id
 
 unfoldable pub hit_id : Option Hit → Option ℕ
-hit_id none = none
-hit_id (some h) = some h.id
+hit_id None = None
+hit_id (Some h) = Some h.id
 
 unfoldable pub kept_if : Bool → Option ℕ → Option ℕ
-kept_if false d = none
+kept_if false d = None
 kept_if true d = d
 
 -- the widget that might be clicked is gone, and so is the click; one that might be dragged, or is dragged, stays
@@ -108,15 +107,15 @@ forget_gone_click widgets s =
 -- "Abort dragging on escape"
 unfoldable pub abort_if : Bool → Interaction → Interaction
 abort_if false s = s
-abort_if true s = record { potential_click_id = s.potential_click_id; potential_drag_id = none; dragged = none }
+abort_if true s = record { potential_click_id = s.potential_click_id; potential_drag_id = None; dragged = None }
 
 -- press-and-hold for the context menu, on the widget that might be clicked
 unfoldable pub long_touch_on : Interaction → Option WidgetRect → Going
-long_touch_on s none = record { interaction = s; clicked = none; long_touched = none }
-long_touch_on s (some w) = record { interaction = no_interaction; clicked = some w.id; long_touched = some w.id }
+long_touch_on s None = record { interaction = s; clicked = None; long_touched = None }
+long_touch_on s (Some w) = record { interaction = no_interaction; clicked = Some w.id; long_touched = Some w.id }
 
 unfoldable pub long_touch_if : Bool → (ℕ → Option WidgetRect) → Interaction → Going
-long_touch_if false widgets s = record { interaction = s; clicked = none; long_touched = none }
+long_touch_if false widgets s = record { interaction = s; clicked = None; long_touched = None }
 long_touch_if true widgets s = long_touch_on s (get s.potential_click_id widgets)
 
 -- a pointer event: a press may name what is clicked or dragged, a release ends both
@@ -149,8 +148,8 @@ has_hit d [] = false
 has_hit d (h ∷ hs) = eqb d h.id || has_hit d hs
 
 unfoldable pub is_hit : ℕ → Option Hit → Bool
-is_hit d none = false
-is_hit d (some h) = eqb d h.id
+is_hit d None = false
+is_hit d (Some h) = eqb d h.id
 
 -- `could_still_be_clicked`
 unfoldable pub could_still_be_clicked : InteractInput → ℕ → Bool
@@ -162,8 +161,8 @@ is_dragged x dragging w =
     w.enabled && cond (senses_click w.sense && senses_drag w.sense) (dragging || not (could_still_be_clicked x w.id)) (senses_drag w.sense)
 
 unfoldable pub new_drag : InteractInput → Bool → Option WidgetRect → Option ℕ
-new_drag x dragging none = none
-new_drag x dragging (some w) = kept_if (is_dragged x dragging w) (some w.id)
+new_drag x dragging None = None
+new_drag x dragging (Some w) = kept_if (is_dragged x dragging w) (Some w.id)
 
 -- whom the interact leaves dragged
 unfoldable pub dragged_after : InteractInput → Bool → Interaction → Option ℕ
@@ -176,8 +175,8 @@ insert_id d [] = d ∷ []
 insert_id d (e ∷ es) = cond (ltb d e) (d ∷ e ∷ es) (cond (eqb d e) (e ∷ es) (e ∷ insert_id d es))
 
 unfoldable pub insert_some : Option ℕ → List ℕ → List ℕ
-insert_some none s = s
-insert_some (some d) s = insert_id d s
+insert_some None s = s
+insert_some (Some d) s = insert_id d s
 
 unfoldable pub insert_hits : List Hit → List ℕ → List ℕ
 insert_hits [] s = s
@@ -192,8 +191,8 @@ unfoldable pub order : ℕ → List Hit → ℕ
 order d close = order_from d 0 close
 
 unfoldable pub order_of : Option Hit → List Hit → ℕ
-order_of none close = 0
-order_of (some h) close = order h.id close
+order_of None close = 0
+order_of (Some h) close = order h.id close
 
 -- the widgets that sense no click and no drag and lie on top of the interactive one
 unfoldable pub insert_on_top : ℕ → List Hit → List Hit → List ℕ → List ℕ
@@ -216,10 +215,10 @@ hovered_of x clicked dragged long_touched =
 -- ---- the core: the snapshot, and the interaction state after it
 
 unfoldable pub same_id : Option ℕ → Option ℕ → Bool
-same_id none none = true
-same_id none (some b) = false
-same_id (some a) none = false
-same_id (some a) (some b) = eqb a b
+same_id None None = true
+same_id None (Some b) = false
+same_id (Some a) None = false
+same_id (Some a) (Some b) = eqb a b
 
 unfoldable pub walked : Seen → InteractInput → Interaction → Going
 walked v x s =
@@ -237,7 +236,7 @@ interaction_after v x s =
 
 -- `drag_changed.then_some(..)`
 unfoldable pub if_changed : Option ℕ → Option ℕ → Option ℕ → Option ℕ
-if_changed before now d = cond (same_id now before) none d
+if_changed before now d = cond (same_id now before) None d
 
 unfoldable pub snapshot : Seen → InteractInput → Interaction → InteractionSnapshot
 snapshot v x s =
@@ -257,21 +256,21 @@ snapshot v x s =
 
 -- of an entry: 1, 9
 unfoldable pub entry_refusal : ℕ → Hit → Option InteractRefusal
-entry_refusal i h = cond (sense_ok h.sense) (cond (eqb h.id 0) (some ZeroId) none) (some (Malformed i))
+entry_refusal i h = cond (sense_ok h.sense) (cond (eqb h.id 0) (Some ZeroId) None) (Some (Malformed i))
 
 -- of a list from its entry i on: 4, 1, 9 by entry. `left` is how many entries may still come
 unfoldable pub hits_refusal : ℕ → ℕ → List Hit → Option InteractRefusal
-hits_refusal left i [] = none
-hits_refusal zero i (h ∷ hs) = some (TooManyHits i)
+hits_refusal left i [] = None
+hits_refusal zero i (h ∷ hs) = Some (TooManyHits i)
 hits_refusal (suc left) i (h ∷ hs) = or_else (entry_refusal i h) (hits_refusal left (suc i) hs)
 
 unfoldable pub hit_refusal : Option Hit → Option InteractRefusal
-hit_refusal none = none
-hit_refusal (some h) = entry_refusal 0 h
+hit_refusal None = None
+hit_refusal (Some h) = entry_refusal 0 h
 
 -- 8: "an id buffer under 66 places"
 unfoldable pub buffers_refusal : InteractInput → Option InteractRefusal
-buffers_refusal x = cond (leb id_places x.hovered_places && leb id_places x.contains_places) none (some ShortBuffer)
+buffers_refusal x = cond (leb id_places x.hovered_places && leb id_places x.contains_places) None (Some ShortBuffer)
 
 -- 01: "Interact: 8, then by list close, contains_pointer, click, drag: 4, 1, 9 by entry"
 unfoldable pub input_refusal : InteractInput → Option InteractRefusal
@@ -303,8 +302,8 @@ with_interaction p s n =
     }
 
 unfoldable pub one_if : {A : Type 0} → Option A → ℕ
-one_if none = 0
-one_if (some a) = 1
+one_if None = 0
+one_if (Some a) = 1
 
 -- the tally after an answer
 unfoldable pub tally_after : InteractionSnapshot → Tally → Tally
@@ -312,20 +311,20 @@ tally_after a n = n + one_if a.drag_started
 
 -- 10: the answer would start a drag with the 32-bit tally full
 unfoldable pub tally_refusal : InteractionSnapshot → Tally → Option InteractRefusal
-tally_refusal a n = cond (is_some a.drag_started && leb max_tally n) (some TallyFull) none
+tally_refusal a n = cond (is_some a.drag_started && leb max_tally n) (Some TallyFull) None
 
 -- refused by the tally, or answered with what it counts then
 unfoldable pub tallied_by : Option InteractRefusal → Panel → InteractionSnapshot → Interaction → Interacted
-tallied_by (some r) p a s = refused r
-tallied_by none p a s = answered a (with_interaction p s (tally_after a p.tally))
+tallied_by (Some r) p a s = refused r
+tallied_by None p a s = answered a (with_interaction p s (tally_after a p.tally))
 
 -- the last step counts in the tally, or refuses
 unfoldable pub tallied : Panel → InteractionSnapshot → Interaction → Interacted
 tallied p a s = tallied_by (tally_refusal a p.tally) p a s
 
 unfoldable pub interact_by : Option InteractRefusal → Seen → Panel → InteractInput → Interacted
-interact_by (some r) v p x = refused r
-interact_by none v p x = tallied p (snapshot v x p.interaction) (interaction_after v x p.interaction)
+interact_by (Some r) v p x = refused r
+interact_by None v p x = tallied p (snapshot v x p.interaction) (interaction_after v x p.interaction)
 
 -- `interact` of the panel's interaction state and tally, where v is what it reads of the input: for every v, also one that no panel shows
 unfoldable pub interact_seen : Seen → Panel → InteractInput → Interacted

@@ -1,6 +1,5 @@
 -- A pass (InputState of input_state/mod.rs): refused with all left as before, or taken. Definitions only.
-use Rattle.std.specs.Prelude.{ℕ, zero, suc, ◌+◌, Bool, true, false, not, ◌&&◌, cond, List, [], ◌∷◌, length, eqb, Float}
-use Rattle.std.proofs.Math.Option.{Option, none, some}
+use Rattle.std.specs.Prelude.{ℕ, zero, suc, ◌+◌, Bool, true, false, not, ◌&&◌, cond, List, [], ◌∷◌, length, eqb, Float, Option, None, Some}
 use Rattle.std.specs.Float.{binary32, binary64}
 use Rattle.std.specs.Float.Ieee.{add, sub, mul, lt}
 use Rattle.ieee_narrow.specs.Narrow.{narrow}
@@ -11,7 +10,7 @@ use Rattle.feed.specs.Decode.{Decoded, good, malformed, outside_domain, Item, it
 use Rattle.feed.specs.Feed.{events_of}
 use Rattle.model.specs.Numbers.{+0, neg_infinity, one, sixtieth, ten_thousand}
 use Rattle.model.specs.Options.{default_options}
-use Rattle.model.specs.Types.{no_pos, no_vec, no_time, MaybeF64, Vec2, Rect, Modifiers, InputOptions, WheelState}
+use Rattle.model.specs.Types.{Vec2, Rect, Modifiers, InputOptions, WheelState}
 use Rattle.model.specs.Types.{PassRefusal, Malformed, OutsideDomain, TimeBelow, TooManyEvents, NoPlace}
 use Rattle.model.specs.Types.{Event, Key, ModifiersChanged, PointerMoved, MouseMoved, Button, PointerGone, Zoom, Rotate, Touch, MouseWheel, WindowFocused, Other}
 use Rattle.model.specs.Pointer.{Place, place_pass, Press, press_pass, is_decidedly_dragging, no_buttons, move_time}
@@ -64,7 +63,7 @@ pub record Panel : Type 0 where
   pub place : Place
   pub press : Press
   pub started_decidedly_dragging : Bool
-  pub last_move_time : MaybeF64
+  pub last_move_time : Option Float
   pub touch_states : List TouchState
   pub wheel : WheelState
   pub keys : Keys
@@ -79,18 +78,18 @@ unfoldable pub no_presses : ℕ → ℕ
 no_presses k = 0
 
 unfoldable pub no_interaction : Interaction
-no_interaction = record { potential_click_id = none; potential_drag_id = none; dragged = none }
+no_interaction = record { potential_click_id = None; potential_drag_id = None; dragged = None }
 
 -- `Default for PointerState`
 unfoldable pub fresh_place : Place
 fresh_place =
-    record { latest_pos = no_pos; interact_pos = no_pos; delta = vec_zero; motion = no_vec; velocity = vec_zero; direction = vec_zero; pos_history = [] }
+    record { latest_pos = None; interact_pos = None; delta = vec_zero; motion = None; velocity = vec_zero; direction = vec_zero; pos_history = [] }
 
 unfoldable pub fresh_press : Press
 fresh_press =
     record {
-      held = record { down = no_buttons; press_origin = no_pos; press_start_time = no_time; pointer_events = [] };
-      past = record { has_moved_too_much_for_a_click = false; last_click_pos = no_pos; last_click_time = neg_infinity; last_last_click_time = neg_infinity };
+      held = record { down = no_buttons; press_origin = None; press_start_time = None; pointer_events = [] };
+      past = record { has_moved_too_much_for_a_click = false; last_click_pos = None; last_click_time = neg_infinity; last_last_click_time = neg_infinity };
     }
 
 -- 01: "a fresh panel: egui's initial state, no drag, tally 0" (`Default for InputState`)
@@ -108,7 +107,7 @@ fresh =
       place = fresh_place;
       press = fresh_press;
       started_decidedly_dragging = false;
-      last_move_time = no_time;
+      last_move_time = None;
       touch_states = [];
       wheel = wheel_default;
       keys = record { keys_down = no_keys; modifiers = no_modifiers; presses = no_presses; feed_empty = true };
@@ -225,15 +224,15 @@ sums_of o es w =
 
 -- `new.time.unwrap_or(self.time + predicted_dt)`
 unfoldable pub time_or : Option Float → Float → Float → Float
-time_or none dt old = add binary64 old dt
-time_or (some t) dt old = t
+time_or None dt old = add binary64 old dt
+time_or (Some t) dt old = t
 
 unfoldable pub time_of : PassInput → Float → Float
 time_of i old = time_or i.time i.predicted_dt old
 
 unfoldable pub rect_or : Option Rect → Rect → Rect
-rect_or none r = r
-rect_or (some r) s = r
+rect_or None r = r
+rect_or (Some r) s = r
 
 unfoldable pub clock_pass : PassInput → Float → Clock → Clock
 clock_pass i time c =
@@ -274,8 +273,8 @@ begin_pass p i =
 -- ---- refusals
 
 unfoldable pub rect_given_ok : Option Rect → Bool
-rect_given_ok none = true
-rect_given_ok (some r) = rect_ok r
+rect_given_ok None = true
+rect_given_ok (Some r) = rect_ok r
 
 -- the pass's own numbers are in the domain
 unfoldable pub own_numbers_ok : PassInput → Float → Bool
@@ -286,7 +285,7 @@ own_numbers_ok i time =
 
 -- 01, rows 2 and 3: "Pass: 2 for its own numbers, 3". (An absent time is never below the state's: predicted dt is at least 0.)
 unfoldable pub own_refusal : PassInput → Float → Option PassRefusal
-own_refusal i old = cond (own_numbers_ok i (time_of i old)) (cond (lt (time_of i old) old) (some TimeBelow) none) (some (OutsideDomain 0))
+own_refusal i old = cond (own_numbers_ok i (time_of i old)) (cond (lt (time_of i old) old) (Some TimeBelow) None) (Some (OutsideDomain 0))
 
 -- does a touch event find no place
 unfoldable pub crowded : Event → List TouchState → Bool
@@ -305,9 +304,9 @@ crowded Other vs = false
 
 -- of the event at word w, against the devices held so far: 1, 2, 5
 unfoldable pub item_refusal : ℕ → Decoded → List TouchState → Option PassRefusal
-item_refusal w (good e) vs = cond (crowded e vs) (some (NoPlace w)) none
-item_refusal w malformed vs = some (Malformed w)
-item_refusal w outside_domain vs = some (OutsideDomain w)
+item_refusal w (good e) vs = cond (crowded e vs) (Some (NoPlace w)) None
+item_refusal w malformed vs = Some (Malformed w)
+item_refusal w outside_domain vs = Some (OutsideDomain w)
 
 unfoldable pub item_devices : Decoded → List TouchState → List TouchState
 item_devices (good e) vs = touch_event e vs
@@ -315,13 +314,13 @@ item_devices malformed vs = vs
 item_devices outside_domain vs = vs
 
 unfoldable pub or_else : {A : Type 0} → Option A → Option A → Option A
-or_else none b = b
-or_else (some a) b = some a
+or_else None b = b
+or_else (Some a) b = Some a
 
 -- 01: "then event by event 4, 1, 2, 5". `left` is how many events may still come
 unfoldable pub survey : ℕ → List Item → List TouchState → Option PassRefusal
-survey left [] vs = none
-survey zero (i ∷ is) vs = some (TooManyEvents i.index)
+survey left [] vs = None
+survey zero (i ∷ is) vs = Some (TooManyEvents i.index)
 survey (suc left) (i ∷ is) vs = or_else (item_refusal i.index i.what vs) (survey left is (item_devices i.what vs))
 
 unfoldable pub pass_refusal : Panel → PassInput → Option PassRefusal
@@ -332,8 +331,8 @@ pub data Passed : Type 0 where
   taken : Panel → Passed
 
 unfoldable pub pass_by : Option PassRefusal → Panel → PassInput → Passed
-pass_by (some r) p i = refused r
-pass_by none p i = taken (begin_pass p i)
+pass_by (Some r) p i = refused r
+pass_by None p i = taken (begin_pass p i)
 
 -- a pass
 unfoldable pub pass : Panel → PassInput → Passed

@@ -1,6 +1,6 @@
 -- PointerState of input_state/mod.rs, in three records: where the pointer is (`Place`), which buttons are down and what happened in the pass (`Held`),
 -- and what presses and clicks leave behind (`ClickPast`). Definitions only.
-use Rattle.std.specs.Prelude.{ℕ, suc, ◌+◌, ◌-◌, ◌≡◌, Bool, true, false, not, ◌&&◌, ◌||◌, cond, List, [], ◌∷◌, ◌++◌, leb, ltb, length, Float}
+use Rattle.std.specs.Prelude.{ℕ, suc, ◌+◌, ◌-◌, ◌≡◌, Bool, true, false, not, ◌&&◌, ◌||◌, cond, List, [], ◌∷◌, ◌++◌, leb, ltb, length, Float, Option, None, Some}
 use Rattle.std.specs.Float.{binary32, binary64}
 use Rattle.std.specs.Float.Ieee.{sub, mul, lt}
 use Rattle.data.specs.Bits.{bit_number}
@@ -8,48 +8,48 @@ use Rattle.data.specs.Limits.{button_count}
 use Rattle.emath.specs.Vec.{vec_zero, vec_add, pos_sub, vec_ne, distance, distance_sq, normalized}
 use Rattle.emath.specs.History.{Sample, flush, add, duration, velocity}
 use Rattle.model.specs.Numbers.{+0, hundredth}
-use Rattle.model.specs.Types.{Pos2, MaybePos2, no_pos, some_pos, Vec2, MaybeVec2, no_vec, some_vec, Modifiers, InputOptions}
-use Rattle.model.specs.Types.{PointerButton, Primary, Secondary, Middle, Extra1, Extra2, ButtonsDown, MaybeF64, no_time, some_time}
-use Rattle.model.specs.Types.{MaybeClick, no_click, some_click, PointerEvent, Moved, Pressed, Released}
+use Rattle.model.specs.Types.{Pos2, Vec2, Modifiers, InputOptions}
+use Rattle.model.specs.Types.{PointerButton, Primary, Secondary, Middle, Extra1, Extra2, ButtonsDown}
+use Rattle.model.specs.Types.{Click, PointerEvent, Moved, Pressed, Released}
 use Rattle.model.specs.Types.{Event, Key, ModifiersChanged, PointerMoved, MouseMoved, Button, PointerGone, Zoom, Rotate, Touch, MouseWheel, WindowFocused, Other}
 
 -- ---- where the pointer is
 
 pub record Place : Type 0 where
-  pub latest_pos : MaybePos2
-  pub interact_pos : MaybePos2
+  pub latest_pos : Option Pos2
+  pub interact_pos : Option Pos2
   pub delta : Vec2
-  pub motion : MaybeVec2
+  pub motion : Option Vec2
   pub velocity : Vec2
   pub direction : Vec2
   pub pos_history : List Sample
 
-unfoldable pub unwrap_or_default : MaybeVec2 → Vec2
-unwrap_or_default no_vec = vec_zero
-unwrap_or_default (some_vec v) = v
+unfoldable pub unwrap_or_default : Option Vec2 → Vec2
+unwrap_or_default None = vec_zero
+unwrap_or_default (Some v) = v
 
 -- `begin_pass` sets a known motion to zero
-unfoldable pub zero_motion : MaybeVec2 → MaybeVec2
-zero_motion no_vec = no_vec
-zero_motion (some_vec v) = some_vec vec_zero
+unfoldable pub zero_motion : Option Vec2 → Option Vec2
+zero_motion None = None
+zero_motion (Some v) = Some vec_zero
 
 -- `*motion.get_or_insert(Vec2::ZERO) += delta`
-unfoldable pub add_motion : Vec2 → MaybeVec2 → MaybeVec2
-add_motion v no_vec = some_vec (vec_add vec_zero v)
-add_motion v (some_vec w) = some_vec (vec_add w v)
+unfoldable pub add_motion : Vec2 → Option Vec2 → Option Vec2
+add_motion v None = Some (vec_add vec_zero v)
+add_motion v (Some w) = Some (vec_add w v)
 
-unfoldable pub with_place : MaybePos2 → MaybePos2 → MaybeVec2 → List Sample → Place → Place
+unfoldable pub with_place : Option Pos2 → Option Pos2 → Option Vec2 → List Sample → Place → Place
 with_place l i m h p = record { latest_pos = l; interact_pos = i; delta = p.delta; motion = m; velocity = p.velocity; direction = p.direction; pos_history = h }
 
 -- an event's effect on it: a press clears the history, and a pointer that is gone keeps its interact position
 unfoldable pub place_event : Event → Place → Place
 place_event (Key k b) p = p
 place_event (ModifiersChanged m) p = p
-place_event (PointerMoved v) p = with_place (some_pos v) (some_pos v) p.motion p.pos_history p
+place_event (PointerMoved v) p = with_place (Some v) (Some v) p.motion p.pos_history p
 place_event (MouseMoved v) p = with_place p.latest_pos p.interact_pos (add_motion v p.motion) p.pos_history p
-place_event (Button v b true m) p = with_place (some_pos v) (some_pos v) p.motion [] p
-place_event (Button v b false m) p = with_place (some_pos v) (some_pos v) p.motion p.pos_history p
-place_event PointerGone p = with_place no_pos p.interact_pos p.motion p.pos_history p
+place_event (Button v b true m) p = with_place (Some v) (Some v) p.motion [] p
+place_event (Button v b false m) p = with_place (Some v) (Some v) p.motion p.pos_history p
+place_event PointerGone p = with_place None p.interact_pos p.motion p.pos_history p
 place_event (Zoom x) p = p
 place_event (Rotate x) p = p
 place_event (Touch d i ph v f) p = p
@@ -82,21 +82,21 @@ unfoldable pub start_place : Place → Place
 start_place p = with_place p.latest_pos p.latest_pos (zero_motion p.motion) p.pos_history p
 
 -- `delta`, of the position before the pass and after it
-unfoldable pub delta_of : MaybePos2 → MaybePos2 → Vec2
-delta_of no_pos new = vec_zero
-delta_of (some_pos a) no_pos = vec_zero
-delta_of (some_pos a) (some_pos b) = pos_sub b a
+unfoldable pub delta_of : Option Pos2 → Option Pos2 → Vec2
+delta_of None new = vec_zero
+delta_of (Some a) None = vec_zero
+delta_of (Some a) (Some b) = pos_sub b a
 
-unfoldable pub add_latest : Float → MaybePos2 → List Sample → List Sample
-add_latest time no_pos h = h
-add_latest time (some_pos v) h = add time v h
+unfoldable pub add_latest : Float → Option Pos2 → List Sample → List Sample
+add_latest time None h = h
+add_latest time (Some v) h = add time v h
 
 -- `velocity`: of at least 3 samples over more than 0.01 s
 unfoldable pub velocity_of : List Sample → Vec2
 velocity_of h = cond (leb 3 (length h) && lt hundredth (duration h)) (unwrap_or_default (velocity h)) vec_zero
 
 -- h is the history with this pass's sample: the velocity is its, and the direction that of what is kept
-unfoldable pub finish_place : MaybePos2 → List Sample → Bool → Place → Place
+unfoldable pub finish_place : Option Pos2 → List Sample → Bool → Place → Place
 finish_place old h gone p =
     record {
       latest_pos = p.latest_pos;
@@ -108,7 +108,7 @@ finish_place old h gone p =
       pos_history = cond gone [] h;
     }
 
-unfoldable pub end_place : Float → MaybePos2 → Bool → Place → Place
+unfoldable pub end_place : Float → Option Pos2 → Bool → Place → Place
 end_place time old gone p = finish_place old (flush time (add_latest time p.latest_pos p.pos_history)) gone p
 
 unfoldable pub place_pass : Float → List Event → Place → Place
@@ -118,14 +118,14 @@ place_pass time es p = end_place time p.latest_pos (clear_history_after es) (pla
 
 pub record Held : Type 0 where
   pub down : ButtonsDown
-  pub press_origin : MaybePos2
-  pub press_start_time : MaybeF64
+  pub press_origin : Option Pos2
+  pub press_start_time : Option Float
   pub pointer_events : List PointerEvent
 
 -- what presses and clicks leave behind
 pub record ClickPast : Type 0 where
   pub has_moved_too_much_for_a_click : Bool
-  pub last_click_pos : MaybePos2
+  pub last_click_pos : Option Pos2
   pub last_click_time : Float
   pub last_last_click_time : Float
 
@@ -196,8 +196,8 @@ is_release (Released c b) = true
 unfoldable pub is_click : PointerEvent → Bool
 is_click (Moved v) = false
 is_click (Pressed v b) = false
-is_click (Released no_click b) = false
-is_click (Released (some_click c) b) = true
+is_click (Released None b) = false
+is_click (Released (Some c) b) = true
 
 unfoldable pub is_move : PointerEvent → Bool
 is_move (Moved v) = true
@@ -209,13 +209,13 @@ any f [] = false
 any f (e ∷ es) = f e || any f es
 
 -- `last_move_time` after a pass at `time` with these pointer events and then this velocity. 02 A.4: "set by a move and by a velocity other than zero"
-unfoldable pub move_time : Float → List PointerEvent → Vec2 → MaybeF64 → MaybeF64
-move_time time es v old = cond (any is_move es || vec_ne v vec_zero) (some_time time) old
+unfoldable pub move_time : Float → List PointerEvent → Vec2 → Option Float → Option Float
+move_time time es v old = cond (any is_move es || vec_ne v vec_zero) (Some time) old
 
 -- is the press older than max_click_duration
-unfoldable pub press_too_long : InputOptions → Float → MaybeF64 → Bool
-press_too_long o time no_time = false
-press_too_long o time (some_time t) = lt o.max_click_duration (sub binary64 time t)
+unfoldable pub press_too_long : InputOptions → Float → Option Float → Bool
+press_too_long o time None = false
+press_too_long o time (Some t) = lt o.max_click_duration (sub binary64 time t)
 
 -- `could_any_button_be_click`, with has_moved_too_much_for_a_click beside the record
 unfoldable pub could_any_button_be_click : InputOptions → Float → Held → Bool → Bool
@@ -235,9 +235,9 @@ is_long_press o time s started =
     started && (not s.past.has_moved_too_much_for_a_click && (button_down Primary s.held.down && press_too_long o time s.held.press_start_time))
 
 -- `click_dist_sq < max_click_dist * max_click_dist`
-unfoldable pub near : InputOptions → Pos2 → MaybePos2 → Bool
-near o v no_pos = lt +0 (mul binary32 o.max_click_dist o.max_click_dist)
-near o v (some_pos last) = lt (distance_sq last v) (mul binary32 o.max_click_dist o.max_click_dist)
+unfoldable pub near : InputOptions → Pos2 → Option Pos2 → Bool
+near o v None = lt +0 (mul binary32 o.max_click_dist o.max_click_dist)
+near o v (Some last) = lt (distance_sq last v) (mul binary32 o.max_click_dist o.max_click_dist)
 
 -- double_click, and what makes it a triple_click
 unfoldable pub count_of : Bool → Bool → ℕ
@@ -252,18 +252,18 @@ click_count o time v p =
     (lt (sub binary64 p.last_click_time p.last_last_click_time) o.max_double_click_delay)
 
 -- a move that is too far from the press for a click
-unfoldable pub too_far : InputOptions → Pos2 → MaybePos2 → Bool
-too_far o v no_pos = false
-too_far o v (some_pos origin) = lt o.max_click_dist (distance origin v)
+unfoldable pub too_far : InputOptions → Pos2 → Option Pos2 → Bool
+too_far o v None = false
+too_far o v (Some origin) = lt o.max_click_dist (distance origin v)
 
 unfoldable pub add_event : PointerEvent → Held → Held
 add_event e h = record { down = h.down; press_origin = h.press_origin; press_start_time = h.press_start_time; pointer_events = h.pointer_events ++ (e ∷ []) }
 
 unfoldable pub press_button : PointerButton → Float → Pos2 → Held → Held
-press_button b time v h = record { down = set_down b true h.down; press_origin = some_pos v; press_start_time = some_time time; pointer_events = h.pointer_events ++ (Pressed v b ∷ []) }
+press_button b time v h = record { down = set_down b true h.down; press_origin = Some v; press_start_time = Some time; pointer_events = h.pointer_events ++ (Pressed v b ∷ []) }
 
-unfoldable pub release_button : PointerButton → MaybeClick → Held → Held
-release_button b c h = record { down = set_down b false h.down; press_origin = no_pos; press_start_time = no_time; pointer_events = h.pointer_events ++ (Released c b ∷ []) }
+unfoldable pub release_button : PointerButton → Option Click → Held → Held
+release_button b c h = record { down = set_down b false h.down; press_origin = None; press_start_time = None; pointer_events = h.pointer_events ++ (Released c b ∷ []) }
 
 unfoldable pub with_moved : Bool → ClickPast → ClickPast
 with_moved b p = record { has_moved_too_much_for_a_click = b; last_click_pos = p.last_click_pos; last_click_time = p.last_click_time; last_last_click_time = p.last_last_click_time }
@@ -271,11 +271,11 @@ with_moved b p = record { has_moved_too_much_for_a_click = b; last_click_pos = p
 unfoldable pub remember_click : Bool → Float → Pos2 → ClickPast → ClickPast
 remember_click false time v p = p
 remember_click true time v p =
-    record { has_moved_too_much_for_a_click = p.has_moved_too_much_for_a_click; last_click_pos = some_pos v; last_click_time = time; last_last_click_time = p.last_click_time }
+    record { has_moved_too_much_for_a_click = p.has_moved_too_much_for_a_click; last_click_pos = Some v; last_click_time = time; last_last_click_time = p.last_click_time }
 
-unfoldable pub click_of : Bool → InputOptions → Float → Pos2 → Modifiers → ClickPast → MaybeClick
-click_of false o time v m p = no_click
-click_of true o time v m p = some_click (record { pos = v; count = click_count o time v p; modifiers = m })
+unfoldable pub click_of : Bool → InputOptions → Float → Pos2 → Modifiers → ClickPast → Option Click
+click_of false o time v m p = None
+click_of true o time v m p = Some (record { pos = v; count = click_count o time v p; modifiers = m })
 
 -- a release, of which it is known whether it clicks
 unfoldable pub release : Bool → InputOptions → Float → Pos2 → Modifiers → PointerButton → Press → Press

@@ -1,7 +1,6 @@
 -- What can be asked of a panel. Definitions only.
 -- No question tells has_moved_too_much_for_a_click, or the last clicks' position and times: they are state.
-use Rattle.std.specs.Prelude.{ℕ, Bool, true, false, not, ◌&&◌, ◌||◌, cond, List, [], ◌∷◌, ltb, eqb, Float}
-use Rattle.std.proofs.Math.Option.{Option}
+use Rattle.std.specs.Prelude.{ℕ, Bool, true, false, not, ◌&&◌, ◌||◌, cond, List, [], ◌∷◌, ltb, eqb, Float, Option, None, Some}
 use Rattle.std.specs.Float.{binary32, binary64}
 use Rattle.std.specs.Float.Ieee.{sub, div, lt}
 use Rattle.ieee_narrow.specs.Narrow.{narrow}
@@ -9,9 +8,9 @@ use Rattle.emath.specs.Vec.{vec_zero, vec_ne, pos_sub, vec_abs, max_elem}
 use Rattle.data.specs.Modifiers.{matches_any}
 use Rattle.data.specs.Numbers.{button_number}
 use Rattle.model.specs.Numbers.{+0, one, fifth}
-use Rattle.model.specs.Types.{MaybePos2, no_pos, some_pos, Vec2, MaybeVec2, no_vec, some_vec, Rect, Modifiers, InputOptions, MaybeF64, no_time, some_time}
-use Rattle.model.specs.Types.{MaybeF32, no_number, Some_number, PointerButton, no_click, some_click, PointerEvent, Moved, Pressed, Released, WheelState}
-use Rattle.model.specs.Types.{MouseWheelSource, MaybeMouseWheelSource, no_source, some_source, Rotation, Radians, Headings, MaybeMultiTouchInfo, no_info, some_info}
+use Rattle.model.specs.Types.{Pos2, Vec2, Rect, Modifiers, InputOptions}
+use Rattle.model.specs.Types.{PointerButton, PointerEvent, Moved, Pressed, Released, WheelState}
+use Rattle.model.specs.Types.{MouseWheelSource, Rotation, Radians, Headings, MultiTouchInfo}
 use Rattle.model.specs.Pointer.{Place, Held, any, is_press, is_release, is_click}
 use Rattle.model.specs.Pointer as Pointer
 use Rattle.model.specs.Touch.{find_device, info_at, any_touches_at}
@@ -48,20 +47,20 @@ pub data Reply : Type 0 where
   count : ℕ → Reply
   number : Float → Reply
   vector : Vec2 → Reply
-  maybe_vector : MaybeVec2 → Reply
-  maybe_position : MaybePos2 → Reply
+  maybe_vector : Option Vec2 → Reply
+  maybe_position : Option Pos2 → Reply
   -- seconds, f64
-  maybe_seconds : MaybeF64 → Reply
+  maybe_seconds : Option Float → Reply
   -- seconds, f32
-  maybe_number : MaybeF32 → Reply
+  maybe_number : Option Float → Reply
   rectangle : Rect → Reply
   flags : Modifiers → Reply
-  source : MaybeMouseWheelSource → Reply
+  source : Option MouseWheelSource → Reply
   -- factor and exponent, of the whole and by axis
   zoom : Float → Float → Reply
   zoom_2d : Vec2 → Vec2 → Reply
   rotation : Rotation → Reply
-  gesture : MaybeMultiTouchInfo → Reply
+  gesture : Option MultiTouchInfo → Reply
   events : List PointerEvent → Reply
   widget : Option ℕ → Reply
 
@@ -78,10 +77,10 @@ pub record Shown : Type 0 where
   pub could_be_click : Bool
   pub decidedly_dragging : Bool
   pub long_press : Bool
-  pub multi_touch : MaybeMultiTouchInfo
+  pub multi_touch : Option MultiTouchInfo
   pub any_touches : Bool
   -- by device id
-  pub info : ℕ → MaybeMultiTouchInfo
+  pub info : ℕ → Option MultiTouchInfo
   pub touched : ℕ → Bool
 
 unfoldable pub shown : Panel → Shown
@@ -105,9 +104,9 @@ shown p =
     }
 
 -- 01 item 6: "With a gesture, zooms, rotation and translation are those of the first device by id that has one, and the exponent is 0."
-unfoldable pub zoom_reply : MaybeMultiTouchInfo → Sums → Reply
-zoom_reply no_info s = zoom s.zoom_factor s.zoom_exponent
-zoom_reply (some_info g) s = zoom g.zoom_delta +0
+unfoldable pub zoom_reply : Option MultiTouchInfo → Sums → Reply
+zoom_reply None s = zoom s.zoom_factor s.zoom_exponent
+zoom_reply (Some g) s = zoom g.zoom_delta +0
 
 -- "a suppressed axis has factor 1 and exponent 0": is_horizontal, is_vertical
 unfoldable pub zoom_by_axis : Bool → Bool → Float → Float → Reply
@@ -116,47 +115,47 @@ zoom_by_axis false true z e = zoom_2d (record { x = one; y = z }) (record { x = 
 zoom_by_axis true true z e = zoom_2d (record { x = z; y = z }) (record { x = e; y = e })
 zoom_by_axis false false z e = zoom_2d (record { x = z; y = z }) (record { x = e; y = e })
 
-unfoldable pub zoom_2d_reply : MaybeMultiTouchInfo → Sums → Modifiers → InputOptions → Reply
-zoom_2d_reply no_info s m o =
+unfoldable pub zoom_2d_reply : Option MultiTouchInfo → Sums → Modifiers → InputOptions → Reply
+zoom_2d_reply None s m o =
     zoom_by_axis (matches_any m o.horizontal_scroll_modifier) (matches_any m o.vertical_scroll_modifier) s.zoom_factor s.zoom_exponent
-zoom_2d_reply (some_info g) s m o = zoom_2d g.zoom_delta_2d vec_zero
+zoom_2d_reply (Some g) s m o = zoom_2d g.zoom_delta_2d vec_zero
 
-unfoldable pub rotation_reply : MaybeMultiTouchInfo → Sums → Rotation
-rotation_reply no_info s = Radians s.rotation_radians
-rotation_reply (some_info g) s = Headings g.previous_heading g.heading
+unfoldable pub rotation_reply : Option MultiTouchInfo → Sums → Rotation
+rotation_reply None s = Radians s.rotation_radians
+rotation_reply (Some g) s = Headings g.previous_heading g.heading
 
-unfoldable pub translation_reply : MaybeMultiTouchInfo → Sums → Vec2
-translation_reply no_info s = s.smooth_scroll_delta
-translation_reply (some_info g) s = g.translation_delta
+unfoldable pub translation_reply : Option MultiTouchInfo → Sums → Vec2
+translation_reply None s = s.smooth_scroll_delta
+translation_reply (Some g) s = g.translation_delta
 
-unfoldable pub source_if : Bool → MouseWheelSource → MaybeMouseWheelSource
-source_if false s = no_source
-source_if true s = some_source s
+unfoldable pub source_if : Bool → MouseWheelSource → Option MouseWheelSource
+source_if false s = None
+source_if true s = Some s
 
 -- how long until a press turns into a context menu; egui asks too whether max_click_duration is finite, which in the domain it is
-unfoldable pub until_menu : InputOptions → Float → MaybeF64 → MaybeF64
-until_menu o now no_time = no_time
-until_menu o now (some_time t) =
-    let d = sub binary64 now t in cond (lt d o.max_click_duration) (some_time (sub binary64 o.max_click_duration d)) no_time
+unfoldable pub until_menu : InputOptions → Float → Option Float → Option Float
+until_menu o now None = None
+until_menu o now (Some t) =
+    let d = sub binary64 now t in cond (lt d o.max_click_duration) (Some (sub binary64 o.max_click_duration d)) None
 
 unfoldable pub some_event : List PointerEvent → Bool
 some_event [] = false
 some_event (e ∷ es) = true
 
 -- `wants_repaint_after`, in f64 seconds
-unfoldable pub repaint_after : Shown → MaybeF64
+unfoldable pub repaint_after : Shown → Option Float
 repaint_after s =
     cond
     (some_event s.held.pointer_events || vec_ne s.place.delta vec_zero
     || lt fifth (max_elem (vec_abs s.wheel.unprocessed_wheel_delta)) || not s.keys.feed_empty)
-    (some_time +0)
-    (cond (s.any_touches && not s.decidedly_dragging) (until_menu s.screen.options s.clock.time s.held.press_start_time) no_time)
+    (Some +0)
+    (cond (s.any_touches && not s.decidedly_dragging) (until_menu s.screen.options s.clock.time s.held.press_start_time) None)
 
 -- `total_drag_delta`: latest_pos and press_origin
-unfoldable pub drag_delta : MaybePos2 → MaybePos2 → MaybeVec2
-drag_delta no_pos o = no_vec
-drag_delta (some_pos v) no_pos = no_vec
-drag_delta (some_pos v) (some_pos o) = some_vec (pos_sub v o)
+unfoldable pub drag_delta : Option Pos2 → Option Pos2 → Option Vec2
+drag_delta None o = None
+drag_delta (Some v) None = None
+drag_delta (Some v) (Some o) = Some (pos_sub v o)
 
 unfoldable pub same_button : PointerButton → PointerButton → Bool
 same_button b c = eqb (button_number b) (button_number c)
@@ -175,14 +174,14 @@ releases_button b (Released k c) = same_button b c
 unfoldable pub clicks_button : PointerButton → PointerEvent → Bool
 clicks_button b (Moved v) = false
 clicks_button b (Pressed v c) = false
-clicks_button b (Released no_click c) = false
-clicks_button b (Released (some_click k) c) = same_button b c
+clicks_button b (Released None c) = false
+clicks_button b (Released (Some k) c) = same_button b c
 
 unfoldable pub clicks_button_times : ℕ → PointerButton → PointerEvent → Bool
 clicks_button_times n b (Moved v) = false
 clicks_button_times n b (Pressed v c) = false
-clicks_button_times n b (Released no_click c) = false
-clicks_button_times n b (Released (some_click k) c) = same_button b c && eqb n k.count
+clicks_button_times n b (Released None c) = false
+clicks_button_times n b (Released (Some k) c) = same_button b c && eqb n k.count
 
 unfoldable pub reply : Settled → Shown → Reply
 reply time s = number s.clock.time
@@ -245,9 +244,9 @@ reply potential_click_id s = widget s.interaction.potential_click_id
 reply potential_drag_id s = widget s.interaction.potential_drag_id
 
 -- `time_since_last_movement`: `(self.time - self.last_move_time) as f32`. 02 A.4: "or 'none' before any"
-unfoldable pub since : Float → MaybeF64 → MaybeF32
-since now no_time = no_number
-since now (some_time t) = Some_number (narrow binary32 (sub binary64 now t))
+unfoldable pub since : Float → Option Float → Option Float
+since now None = None
+since now (Some t) = Some (narrow binary32 (sub binary64 now t))
 
 -- a question asked of a panel
 unfoldable pub ask : Question → Panel → Reply

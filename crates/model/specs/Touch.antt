@@ -1,21 +1,20 @@
 -- touch_state.rs: touch devices, ascending by id, each with its touches, ascending by id, and its gesture. Definitions only.
-use Rattle.std.specs.Prelude.{ℕ, ◌≤◌, ◌<◌, Bool, true, false, not, ◌&&◌, ◌||◌, cond, List, [], ◌∷◌, map, pos, length, leb, ltb, eqb, Float}
-use Rattle.std.proofs.Math.Option.{Option, none, some}
+use Rattle.std.specs.Prelude.{ℕ, ◌≤◌, ◌<◌, Bool, true, false, not, ◌&&◌, ◌||◌, cond, List, [], ◌∷◌, map, pos, length, leb, ltb, eqb, Float, Option, None, Some}
 use Rattle.std.specs.Float.{binary32}
 use Rattle.std.specs.Float.Ieee.{add, sub, mul, div, lt, of_int}
 use Rattle.emath.specs.Vec.{vec_zero, pos_zero, pos_sub, vec_add, distance, abs, vec_abs}
 use Rattle.data.specs.Limits.{max_devices, max_touches}
 use Rattle.model.specs.Numbers.{+0, one, three}
-use Rattle.model.specs.Types.{Pos2, MaybePos2, no_pos, some_pos, Vec2, TouchPhase, Start, Move, End, Cancel, MaybeF32, no_force, some_force}
-use Rattle.model.specs.Types.{ActiveTouch, PinchType, Horizontal, Vertical, Proportional, DynGestureState, MaybeDynGestureState, no_state, some_state}
-use Rattle.model.specs.Types.{GestureState, MaybeGestureState, no_gesture, some_gesture, MultiTouchInfo, MaybeMultiTouchInfo, no_info, some_info}
+use Rattle.model.specs.Types.{Pos2, Vec2, TouchPhase, Start, Move, End, Cancel}
+use Rattle.model.specs.Types.{ActiveTouch, PinchType, Horizontal, Vertical, Proportional, DynGestureState}
+use Rattle.model.specs.Types.{GestureState, MultiTouchInfo}
 use Rattle.model.specs.Types.{Event, Key, ModifiersChanged, PointerMoved, MouseMoved, Button, PointerGone, Zoom, Rotate, Touch, MouseWheel, WindowFocused, Other}
 
 -- `TouchState`: a device and what it holds
 pub record TouchState : Type 0 where
   pub device_id : ℕ
   pub active_touches : List ActiveTouch
-  pub gesture_state : MaybeGestureState
+  pub gesture_state : Option GestureState
 
 -- ---- touches by ascending id
 
@@ -49,7 +48,7 @@ on_touch Cancel t us = remove_touch t.id us
 
 -- `TouchState::new`
 unfoldable pub new_device : ℕ → TouchState
-new_device d = record { device_id = d; active_touches = []; gesture_state = no_gesture }
+new_device d = record { device_id = d; active_touches = []; gesture_state = None }
 
 unfoldable pub touch_device : TouchPhase → ActiveTouch → TouchState → TouchState
 touch_device ph t v = record { device_id = v.device_id; active_touches = on_touch ph t v.active_touches; gesture_state = v.gesture_state }
@@ -60,8 +59,8 @@ at_device d f [] = f (new_device d) ∷ []
 at_device d f (v ∷ vs) = cond (ltb d v.device_id) (f (new_device d) ∷ v ∷ vs) (cond (eqb d v.device_id) (f v ∷ vs) (v ∷ at_device d f vs))
 
 unfoldable pub find_device : ℕ → List TouchState → Option TouchState
-find_device d [] = none
-find_device d (v ∷ vs) = cond (eqb d v.device_id) (some v) (find_device d vs)
+find_device d [] = None
+find_device d (v ∷ vs) = cond (eqb d v.device_id) (Some v) (find_device d vs)
 
 unfoldable pub is_start : TouchPhase → Bool
 is_start Start = true
@@ -71,8 +70,8 @@ is_start Cancel = false
 
 -- 01, refusal 5: "a fifth device, or Start of an eleventh touch", of n devices and the event's own, if it is known
 unfoldable pub no_place : TouchPhase → ℕ → ℕ → Option TouchState → Bool
-no_place ph i n none = leb max_devices n
-no_place ph i n (some v) = is_start ph && not (holds i v.active_touches) && leb max_touches (length v.active_touches)
+no_place ph i n None = leb max_devices n
+no_place ph i n (Some v) = is_start ph && not (holds i v.active_touches) && leb max_touches (length v.active_touches)
 
 -- ---- devices in order: so they are in every panel reached (theorems `Reach`), and a pass keeps them so
 
@@ -110,9 +109,9 @@ pub record InOrder (vs : List TouchState) : Type 0 where
 -- ---- the averages of a gesture: `calc_dynamic_state`
 
 -- `force.unwrap_or(0.0)`
-unfoldable pub force_or_zero : MaybeF32 → Float
-force_or_zero no_force = +0
-force_or_zero (some_force x) = x
+unfoldable pub force_or_zero : Option Float → Float
+force_or_zero None = +0
+force_or_zero (Some x) = x
 
 unfoldable pub sum_force : Float → List ActiveTouch → Float
 sum_force a [] = a
@@ -149,12 +148,12 @@ unfoldable pub center : Float → List ActiveTouch → Pos2
 center r ts = record { x = mul binary32 (sum_pos pos_zero ts).x r; y = mul binary32 (sum_pos pos_zero ts).y r }
 
 -- `calc_dynamic_state`: none of less than two fingers
-unfoldable pub calc_dynamic_state : List ActiveTouch → MaybeDynGestureState
-calc_dynamic_state [] = no_state
-calc_dynamic_state (t ∷ []) = no_state
+unfoldable pub calc_dynamic_state : List ActiveTouch → Option DynGestureState
+calc_dynamic_state [] = None
+calc_dynamic_state (t ∷ []) = None
 calc_dynamic_state (t ∷ u ∷ us) =
     let r = recip (length (t ∷ u ∷ us)) in
-    some_state (averages (center r (t ∷ u ∷ us)) r t (u ∷ us))
+    Some (averages (center r (t ∷ u ∷ us)) r t (u ∷ us))
 
 -- ---- `PinchType::classify`
 
@@ -170,20 +169,20 @@ classify (t ∷ u ∷ v ∷ vs) = Proportional
 -- ---- the gesture's step
 
 -- `update_gesture`: new averages, and `pointer_pos`, the pointer's interact position of the pass before
-unfoldable pub update_gesture : Float → PinchType → MaybeDynGestureState → MaybePos2 → MaybeGestureState → MaybeGestureState
-update_gesture time k no_state p g = no_gesture
-update_gesture time k (some_state a) p (some_gesture g) =
-    some_gesture (record { start_time = g.start_time; start_pointer_pos = g.start_pointer_pos; pinch_type = g.pinch_type; previous = some_state g.current; current = a })
-update_gesture time k (some_state a) no_pos no_gesture = no_gesture
-update_gesture time k (some_state a) (some_pos p) no_gesture =
-    some_gesture (record { start_time = time; start_pointer_pos = p; pinch_type = k; previous = no_state; current = a })
+unfoldable pub update_gesture : Float → PinchType → Option DynGestureState → Option Pos2 → Option GestureState → Option GestureState
+update_gesture time k None p g = None
+update_gesture time k (Some a) p (Some g) =
+    Some (record { start_time = g.start_time; start_pointer_pos = g.start_pointer_pos; pinch_type = g.pinch_type; previous = Some g.current; current = a })
+update_gesture time k (Some a) None None = None
+update_gesture time k (Some a) (Some p) None =
+    Some (record { start_time = time; start_pointer_pos = p; pinch_type = k; previous = None; current = a })
 
 -- where touches were added or removed, the previous averages are forgotten
-unfoldable pub forget_previous_if : Bool → MaybeGestureState → MaybeGestureState
-forget_previous_if b no_gesture = no_gesture
-forget_previous_if false (some_gesture g) = some_gesture g
-forget_previous_if true (some_gesture g) =
-    some_gesture (record { start_time = g.start_time; start_pointer_pos = g.start_pointer_pos; pinch_type = g.pinch_type; previous = no_state; current = g.current })
+unfoldable pub forget_previous_if : Bool → Option GestureState → Option GestureState
+forget_previous_if b None = None
+forget_previous_if false (Some g) = Some g
+forget_previous_if true (Some g) =
+    Some (record { start_time = g.start_time; start_pointer_pos = g.start_pointer_pos; pinch_type = g.pinch_type; previous = None; current = g.current })
 
 unfoldable pub adds_or_removes : TouchPhase → Bool
 adds_or_removes Start = true
@@ -227,7 +226,7 @@ touch_events [] vs = vs
 touch_events (e ∷ es) vs = touch_events es (touch_event e vs)
 
 -- `begin_pass` after its loop over the events: were touches added or removed in it?
-unfoldable pub end_device : Float → MaybePos2 → Bool → TouchState → TouchState
+unfoldable pub end_device : Float → Option Pos2 → Bool → TouchState → TouchState
 end_device time p added-or-removed v =
     record {
       device_id = v.device_id;
@@ -238,19 +237,19 @@ end_device time p added-or-removed v =
     }
 
 -- of the pass's events
-unfoldable pub end_touches : Float → MaybePos2 → List Event → TouchState → TouchState
+unfoldable pub end_touches : Float → Option Pos2 → List Event → TouchState → TouchState
 end_touches time p es v = end_device time p (added_or_removed_touches v.device_id es) v
 
 -- the devices' part of a pass: egui's `begin_pass` of every device
-unfoldable pub touch_pass : Float → MaybePos2 → List Event → List TouchState → List TouchState
+unfoldable pub touch_pass : Float → Option Pos2 → List Event → List TouchState → List TouchState
 touch_pass time p es vs = map (end_touches time p es) (touch_events es vs)
 
 -- ---- `info`
 
 -- `previous.unwrap_or(current)`
-unfoldable pub state_previous : MaybeDynGestureState → DynGestureState → DynGestureState
-state_previous no_state a = a
-state_previous (some_state b) a = b
+unfoldable pub state_previous : Option DynGestureState → DynGestureState → DynGestureState
+state_previous None a = a
+state_previous (Some b) a = b
 
 -- a zoom divides a spread by the one before
 unfoldable pub zoom_quotient : Float → Float → Float
@@ -277,26 +276,26 @@ info_from n g b =
       force = g.current.avg_force;
     }
 
-unfoldable pub info_of : ℕ → MaybeGestureState → MaybeMultiTouchInfo
-info_of n no_gesture = no_info
-info_of n (some_gesture g) = some_info (info_from n g (state_previous g.previous g.current))
+unfoldable pub info_of : ℕ → Option GestureState → Option MultiTouchInfo
+info_of n None = None
+info_of n (Some g) = Some (info_from n g (state_previous g.previous g.current))
 
 -- `TouchState::info`
-unfoldable pub info : TouchState → MaybeMultiTouchInfo
+unfoldable pub info : TouchState → Option MultiTouchInfo
 info v = info_of (length v.active_touches) v.gesture_state
 
 -- of the device with an id: an unknown one answers none
-unfoldable pub info_at : Option TouchState → MaybeMultiTouchInfo
-info_at none = no_info
-info_at (some v) = info v
+unfoldable pub info_at : Option TouchState → Option MultiTouchInfo
+info_at None = None
+info_at (Some v) = info v
 
-unfoldable pub first_of : MaybeMultiTouchInfo → MaybeMultiTouchInfo → MaybeMultiTouchInfo
-first_of no_info b = b
-first_of (some_info a) b = some_info a
+unfoldable pub first_of : Option MultiTouchInfo → Option MultiTouchInfo → Option MultiTouchInfo
+first_of None b = b
+first_of (Some a) b = Some a
 
 -- `multi_touch`: of the first device by id that has one
-unfoldable pub multi_touch : List TouchState → MaybeMultiTouchInfo
-multi_touch [] = no_info
+unfoldable pub multi_touch : List TouchState → Option MultiTouchInfo
+multi_touch [] = None
 multi_touch (v ∷ vs) = first_of (info v) (multi_touch vs)
 
 unfoldable pub some_touch : List ActiveTouch → Bool
@@ -310,8 +309,8 @@ any_touches (v ∷ vs) = some_touch v.active_touches || any_touches vs
 
 -- `TouchState::any_touches` of the device with an id
 unfoldable pub any_touches_at : Option TouchState → Bool
-any_touches_at none = false
-any_touches_at (some v) = some_touch v.active_touches
+any_touches_at None = false
+any_touches_at (Some v) = some_touch v.active_touches
 
 -- `has_touch_screen`
 unfoldable pub has_touch_screen : List TouchState → Bool

@@ -1,7 +1,6 @@
 -- widget_rect.rs, without `infos`: the widget set, and one insertion with the layer's widgets lent in a slice. Definitions only.
 -- The set knows each widget by id with its own record and position, and how many widgets each layer holds; the layers' widgets in painting order stand in the callers' slices.
-use Rattle.std.specs.Prelude.{ℕ, suc, ◌+◌, ◌-◌, Bool, true, false, ◌&&◌, ◌||◌, cond, List, [], ◌∷◌, ◌++◌, map, leb, ltb, eqb, length, take, drop, set}
-use Rattle.std.proofs.Math.Option.{Option, none, some}
+use Rattle.std.specs.Prelude.{ℕ, suc, ◌+◌, ◌-◌, Bool, true, false, ◌&&◌, ◌||◌, cond, List, [], ◌∷◌, ◌++◌, map, leb, ltb, eqb, length, take, drop, set, Option, None, Some}
 use Rattle.data.specs.Limits.{max_widgets, max_layers, max_order, rect_ok}
 use Rattle.data.specs.Sense.{sense_ok, sense_or}
 use Rattle.model.specs.Types.{LayerId, WidgetRect, InsertRefusal}
@@ -33,40 +32,40 @@ same_layer a b = eqb a.order b.order && eqb a.id b.id
 -- ---- questions
 
 unfoldable pub find_known : ℕ → List Known → Option Known
-find_known d [] = none
-find_known d (k ∷ ks) = cond (eqb d k.widget.id) (some k) (find_known d ks)
+find_known d [] = None
+find_known d (k ∷ ks) = cond (eqb d k.widget.id) (Some k) (find_known d ks)
 
 unfoldable pub widget_of : Option Known → Option WidgetRect
-widget_of none = none
-widget_of (some k) = some k.widget
+widget_of None = None
+widget_of (Some k) = Some k.widget
 
 -- `get`
 unfoldable pub get : ℕ → WidgetRects → Option WidgetRect
 get d s = widget_of (find_known d s.by_id)
 
 unfoldable pub is_known : Option Known → Bool
-is_known none = false
-is_known (some k) = true
+is_known None = false
+is_known (Some k) = true
 
 -- `contains`
 unfoldable pub contains : ℕ → WidgetRects → Bool
 contains d s = is_known (find_known d s.by_id)
 
 unfoldable pub order_of : Option Known → Option (LayerId × ℕ)
-order_of none = none
-order_of (some k) = some (k.widget.layer_id, k.position)
+order_of None = None
+order_of (Some k) = Some (k.widget.layer_id, k.position)
 
 -- `order`: "In which layer, and in which order in that layer?"
 unfoldable pub order : ℕ → WidgetRects → Option (LayerId × ℕ)
 order d s = order_of (find_known d s.by_id)
 
 unfoldable pub find_layer : LayerId → List Layer → Option Layer
-find_layer l [] = none
-find_layer l (y ∷ ys) = cond (same_layer l y.layer_id) (some y) (find_layer l ys)
+find_layer l [] = None
+find_layer l (y ∷ ys) = cond (same_layer l y.layer_id) (Some y) (find_layer l ys)
 
 unfoldable pub count_of : Option Layer → ℕ
-count_of none = 0
-count_of (some y) = y.count
+count_of None = 0
+count_of (Some y) = y.count
 
 -- how many widgets the set counts in a layer
 unfoldable pub layer_count : LayerId → WidgetRects → ℕ
@@ -92,23 +91,23 @@ edges_ok w = rect_ok w.rect && rect_ok w.interact_rect
 
 unfoldable pub record_refusal : WidgetRect → Option InsertRefusal
 record_refusal w =
-    cond (well_shaped w) (cond (some_id_zero w) (some ZeroId) (cond (edges_ok w) none (some OutsideDomain))) (some Malformed)
+    cond (well_shaped w) (cond (some_id_zero w) (Some ZeroId) (cond (edges_ok w) None (Some OutsideDomain))) (Some Malformed)
 
 -- 8: a lent slice shorter than the layer's widgets after the insertion
 unfoldable pub slice_refusal : ℕ → ℕ → Option InsertRefusal
-slice_refusal places needed = cond (ltb places needed) (some ShortSlice) none
+slice_refusal places needed = cond (ltb places needed) (Some ShortSlice) None
 
 -- 6: "new widget at 1,024, or new layer at 32"
 unfoldable pub full : WidgetRects → Option Layer → Bool
-full s none = leb max_widgets (length s.by_id) || leb max_layers (length s.by_layer)
-full s (some y) = leb max_widgets (length s.by_id)
+full s None = leb max_widgets (length s.by_id) || leb max_layers (length s.by_layer)
+full s (Some y) = leb max_widgets (length s.by_id)
 
 -- by whether the id is known: 7, then 8; or 6, then 8
 unfoldable pub known_refusal : WidgetRects → ℕ → WidgetRect → Option Known → Option InsertRefusal
-known_refusal s places w none =
-    cond (full s (find_layer w.layer_id s.by_layer)) (some Full) (slice_refusal places (layer_count w.layer_id s + 1))
-known_refusal s places w (some k) =
-    cond (same_layer w.layer_id k.widget.layer_id) (slice_refusal places (layer_count w.layer_id s)) (some OtherLayer)
+known_refusal s places w None =
+    cond (full s (find_layer w.layer_id s.by_layer)) (Some Full) (slice_refusal places (layer_count w.layer_id s + 1))
+known_refusal s places w (Some k) =
+    cond (same_layer w.layer_id k.widget.layer_id) (slice_refusal places (layer_count w.layer_id s)) (Some OtherLayer)
 
 unfoldable pub insert_refusal : WidgetRects → ℕ → WidgetRect → Option InsertRefusal
 insert_refusal s places w = or_else (record_refusal w) (known_refusal s places w (find_known w.id s.by_id))
@@ -191,16 +190,16 @@ update false s slice k w = replace s slice k w
 update true s slice k w = move_to_top s slice k w
 
 unfoldable pub insert_by : Option Known → Bool → WidgetRects → List WidgetRect → WidgetRect → Insertion
-insert_by none top s slice w = append s slice w
-insert_by (some k) top s slice w = update top s slice k (updated k.widget w)
+insert_by None top s slice w = append s slice w
+insert_by (Some k) top s slice w = update top s slice k (updated k.widget w)
 
 pub data Inserted : Type 0 where
   refused : InsertRefusal → Inserted
   inserted : Insertion → Inserted
 
 unfoldable pub insert_unless : Option InsertRefusal → Bool → WidgetRects → List WidgetRect → WidgetRect → Inserted
-insert_unless (some r) top s slice w = refused r
-insert_unless none top s slice w = inserted (insert_by (find_known w.id s.by_id) top s slice w)
+insert_unless (Some r) top s slice w = refused r
+insert_unless None top s slice w = inserted (insert_by (find_known w.id s.by_id) top s slice w)
 
 -- `insert` with `InteractOptions { move_to_top }`, into the widget's own layer
 unfoldable pub insert : Bool → WidgetRects → List WidgetRect → WidgetRect → Inserted

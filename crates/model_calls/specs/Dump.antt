@@ -1,13 +1,13 @@
 -- A panel's whole state, and a widget set's, as words, for what no question shows: the history, the click past, the wheel, the averages of a gesture. Definitions only.
-use Rattle.std.specs.Prelude.{ℕ, ◌+◌, ◌*◌, Bool, ◌&&◌, ◌||◌, cond, List, [], ◌∷◌, ◌++◌, ltb, eqb, length}
+use Rattle.std.specs.Prelude.{ℕ, ◌+◌, ◌*◌, Bool, ◌&&◌, ◌||◌, cond, List, [], ◌∷◌, ◌++◌, ltb, eqb, length, Option, None, Some}
 use Rattle.std.specs.Float.{binary64}
 use Rattle.emath.specs.History.{Sample}
 use Rattle.data.specs.Bits.{bit_number}
 use Rattle.data.specs.Modifiers.{modifiers_number}
 use Rattle.data.specs.Numbers.{source_number, status_number, pinch_number}
 use Rattle.feed.specs.Encode.{id_words, pos_words, vec_words, float_word}
-use Rattle.model.specs.Types.{LayerId, WidgetRect, InputOptions, ButtonsDown, WheelState, ActiveTouch, DynGestureState, MaybeDynGestureState, no_state, some_state}
-use Rattle.model.specs.Types.{MaybeGestureState, no_gesture, some_gesture}
+use Rattle.model.specs.Types.{LayerId, WidgetRect, InputOptions, ButtonsDown, WheelState, ActiveTouch, DynGestureState}
+use Rattle.model.specs.Types.{GestureState}
 use Rattle.model.specs.Pointer.{Place, Held, ClickPast}
 use Rattle.model.specs.Touch.{TouchState}
 use Rattle.model.specs.Pass.{Panel, Clock, Screen, Keys, Sums, Interaction}
@@ -50,13 +50,13 @@ unfoldable pub averages_words : DynGestureState → List ℕ
 averages_words a =
     float_word a.avg_distance ∷ vec_words a.avg_abs_distance2 ++ (pos_words a.avg_pos ++ (float_word a.avg_force ∷ vec_words a.heading))
 
-unfoldable pub previous_words : MaybeDynGestureState → List ℕ
-previous_words no_state = absent 8
-previous_words (some_state a) = present (averages_words a)
+unfoldable pub previous_words : Option DynGestureState → List ℕ
+previous_words None = absent 8
+previous_words (Some a) = present (averages_words a)
 
-unfoldable pub gesture_words : MaybeGestureState → List ℕ
-gesture_words no_gesture = 0 ∷ []
-gesture_words (some_gesture g) =
+unfoldable pub gesture_words : Option GestureState → List ℕ
+gesture_words None = 0 ∷ []
+gesture_words (Some g) =
     1 ∷ float_words binary64 g.start_time ++ (pos_words g.start_pointer_pos ++ (pinch_number g.pinch_type ∷ averages_words g.current ++ previous_words g.previous))
 
 unfoldable pub devices_words : List TouchState → List ℕ

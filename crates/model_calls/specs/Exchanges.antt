@@ -1,6 +1,5 @@
 -- A recorded exchange with egui: the words that it was given and those that it answered. The model is given the same. Definitions only.
-use Rattle.std.specs.Prelude.{ℕ, zero, suc, ◌+◌, ◌*◌, ◌-◌, ◌/◌, ◌%◌, Bool, true, false, ◌&&◌, cond, List, [], ◌∷◌, ◌++◌, length, get_or, take, drop, replicate, Float}
-use Rattle.std.proofs.Math.Option.{Option, none, some}
+use Rattle.std.specs.Prelude.{ℕ, zero, suc, ◌+◌, ◌*◌, ◌-◌, ◌/◌, ◌%◌, Bool, true, false, ◌&&◌, cond, List, [], ◌∷◌, ◌++◌, length, get_or, take, drop, replicate, Float, Option, None, Some}
 use Rattle.std.specs.Float.{binary64}
 use Rattle.std.specs.Float.Ieee.{of_bits}
 use Rattle.data.specs.Bits.{bit_of}
@@ -53,8 +52,8 @@ unfoldable pub rect_at : List ℕ → ℕ → Rect
 rect_at ws i = record { min = pos_of (word ws i) (word ws (1 + i)); max = pos_of (word ws (2 + i)) (word ws (3 + i)) }
 
 unfoldable pub if_given : {A : Type 0} → Bool → A → Option A
-if_given false a = none
-if_given true a = some a
+if_given false a = None
+if_given true a = Some a
 
 unfoldable pub pass_input : List ℕ → PassInput
 pass_input ws =
@@ -124,8 +123,8 @@ unfoldable pub answer_words : List ℕ → List ℕ
 answer_words ws = length ws ∷ ws
 
 unfoldable pub index_words : Option ℕ → List ℕ
-index_words none = []
-index_words (some i) = i ∷ []
+index_words None = []
+index_words (Some i) = i ∷ []
 
 unfoldable pub refusal_words : ℕ → Option ℕ → List ℕ
 refusal_words number index = (0x100_0000 * number + length (index_words index)) ∷ index_words index
@@ -140,8 +139,8 @@ interacted_words (I.answered a p) = answer_words (snapshot_words a ++ (p.tally �
 
 -- the set's record of a widget
 unfoldable pub record_words : Option WidgetRect → List ℕ
-record_words none = []
-record_words (some w) = widget_words w
+record_words None = []
+record_words (Some w) = widget_words w
 
 -- of an insertion of the widget with the id d
 unfoldable pub inserted_words : ℕ → Inserted → List ℕ

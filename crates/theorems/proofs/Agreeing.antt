@@ -1,7 +1,7 @@
 -- Two panels from the next taken pass on: they differ in the click past, in devices without a touch, in the tally and in the last movement's time, and answer alike. Assumes nothing.
+use Rattle.std.specs.Prelude.{Option, None, Some}
 use mathlib.Core.Path.{◌≡◌, refl, sym, ap, ◌∙◌, subst}
 use mathlib.Core.Bool.{Bool, true, false, not, ◌&&◌, ◌||◌, cond}
-use mathlib.Core.Option.{Option, none, some}
 use mathlib.Core.List.{List}
 use lib.Dec.{T}
 use lib.Ieee.{Float, binary32, binary64, sub, le}
@@ -9,7 +9,7 @@ use lib.Ieee.Scale.{finite}
 use Rattle.ieee_narrow.specs.Narrow.{narrow}
 use Rattle.ieee_laws.proofs.Order.{le_trans, le_refl}
 use Rattle.emath.specs.Vec.{vec_zero, vec_ne}
-use Rattle.model.specs.Types.{InputOptions, Primary, Event, MaybeF64, some_time}
+use Rattle.model.specs.Types.{InputOptions, Primary, Event}
 use Rattle.model.specs.Pointer.{Held, ClickPast, Press, any, is_click, is_move, move_time, any_down, no_buttons, button_down, press_too_long, is_decidedly_dragging, is_long_press, clear_events, press_events, press_pass}
 use Rattle.model.specs.Touch.{TouchState, touch_pass, multi_touch, any_touches, find_device, info_at, any_touches_at}
 use Rattle.model.specs.Pass.{Panel, PassInput, Interaction, Tally, begin_pass, clock_pass, decidedly_dragging, pass_events, time_of}
@@ -24,7 +24,7 @@ use Rattle.theorems.proofs.Trace.{Trace, unpressed, pressed, clicked, equal, pai
 use Rattle.theorems.proofs.Taken.{Taken, Answered}
 
 -- p with another click past, other devices, another tally and another time of the last movement
-unfoldable pub but_for : Panel → ClickPast → List TouchState → Tally → MaybeF64 → Panel
+unfoldable pub but_for : Panel → ClickPast → List TouchState → Tally → Option Float → Panel
 but_for p b vs n l =
     record {
       clock = p.clock;
@@ -46,7 +46,7 @@ pub record Agreeing (D tc : Float) (pr : Bool) (k : Since) (p q : Panel) : Type 
   pub past : ClickPast
   pub devices : List TouchState
   pub count : Tally
-  pub moved_at : MaybeF64
+  pub moved_at : Option Float
   pub is : q ≡ but_for p past devices count moved_at
   pub same_live : live p.touch_states ≡ live devices
   pub ascend_p : Ascend p.touch_states
@@ -87,8 +87,8 @@ press_together D tc old now o es h a b true c delay ft fn l m u t =
     (steps D tc now o delay es (clear_events h) a b c (next_pass D tc old h a b now true c fn m t)))
   where
     stays : (x : Option Bool) → button_came true x ≡ true
-    stays none = refl
-    stays (some y) = refl
+    stays None = refl
+    stays (Some y) = refl
 press_together D tc old now o es h a b false c delay ft fn l m u t = go c (next_pass D tc old h a b now false c fn m t)
   where
     go : (c : Bool) → Trace D tc now (clear_events h) a b false c
@@ -98,7 +98,7 @@ press_together D tc old now o es h a b false c delay ft fn l m u t = go c (next_
         (first D tc now o delay ft fn (le_trans tc old now l m) (le_refl now fn) es (clear_events h) a b q la lb u)
 
 -- the state after it, of p and of p with another click past
-begin_but_for : (p : Panel) (i : PassInput) (b : ClickPast) (vs : List TouchState) (n : Tally) (l : MaybeF64) (D tc : Float) (pr c : Bool)
+begin_but_for : (p : Panel) (i : PassInput) (b : ClickPast) (vs : List TouchState) (n : Tally) (l : Option Float) (D tc : Float) (pr c : Bool)
     → (t : Together D tc (time_of i p.clock.time) pr c (press_pass i.options (time_of i p.clock.time) (pass_events i) p.press) (press_pass i.options (time_of i p.clock.time) (pass_events i) (pair p.press.held b)))
     → decidedly_dragging p.clock p.screen p.press ≡ decidedly_dragging p.clock p.screen (pair p.press.held b)
     → begin_pass (but_for p b vs n l) i
@@ -162,10 +162,10 @@ agreeing_pass i D tc pr k p q p' q' g tp tq delay later opens =
     y : Press
     y = press_pass o now es (pair p.press.held g.past)
 
-    last : MaybeF64
+    last : Option Float
     last = move_time now m.press.held.pointer_events m.place.velocity g.moved_at
 
-    same_last : (b : Bool) → T (b || k.moved) → cond b (some_time now) g.moved_at ≡ cond b (some_time now) p.last_move_time
+    same_last : (b : Bool) → T (b || k.moved) → cond b (Some now) g.moved_at ≡ cond b (Some now) p.last_move_time
     same_last true u = refl
     same_last false u = g.moves u
 
@@ -286,7 +286,7 @@ module _ (D tc : Float) (pr : Bool) (k : Since) (p q : Panel) (g : Agreeing D tc
   since_movement_same : g.moved_at ≡ p.last_move_time → ask time_since_last_movement p ≡ ask time_since_last_movement q
   unfolding ask but_for
   since_movement_same e =
-      ap (λ (z : MaybeF64). Rattle.model.specs.Questions.maybe_number (since p.clock.pointer_time z)) (sym e) ∙ ap (ask time_since_last_movement) (sym g.is)
+      ap (λ (z : Option Float). Rattle.model.specs.Questions.maybe_number (since p.clock.pointer_time z)) (sym e) ∙ ap (ask time_since_last_movement) (sym g.is)
 
   doubly : (b : Bool) → T (not (not b)) → T b
   doubly true t = tt

@@ -1,9 +1,9 @@
 -- Drag starts and drag stops balance: one invariant of a call, then the list. Assumes nothing.
+use Rattle.std.specs.Prelude.{Option, None, Some}
 use Prim.Native.Nat.{ℕ, ◌+◌, ◌≤◌, ◌<◌}
 use native.Mathlib.Omega.{arith}
 use mathlib.Core.Path.{◌≡◌, refl, sym, ap}
 use mathlib.Core.Bool.{Bool, true, false, not, ◌&&◌, cond}
-use mathlib.Core.Option.{Option, none, some}
 use mathlib.Core.List.{List, [], ◌∷◌}
 use lib.Dec.{T, leb, eqb→eq, nleb→lt}
 use Rattle.data.specs.Limits.{max_tally}
@@ -36,8 +36,8 @@ unfolding OfPass pass pass_by begin_pass
 pass_done p i = go (pass_refusal p i)
   where
     go : (r : Option PassRefusal) → Done p (OfPass (pass_by r p i))
-    go (some r) = tt
-    go none = record { dragged = refl; tally = refl }
+    go (Some r) = tt
+    go None = record { dragged = refl; tally = refl }
 
 interact_done : (p : Panel) (x : InteractInput) → Done p (OfInteract (interact p x))
 unfolding OfInteract interact interact_seen interact_by tallied tallied_by snapshot interaction_after with_interaction
@@ -50,12 +50,12 @@ interact_done p x = go (input_refusal x)
     d = interaction_after (seen p) x p.interaction
 
     full : (r : Option InteractRefusal) → Done p (OfInteract (tallied_by r p s d))
-    full (some r) = tt
-    full none = record { now = refl; started = refl; stopped = refl; tally = refl }
+    full (Some r) = tt
+    full None = record { now = refl; started = refl; stopped = refl; tally = refl }
 
     go : (r : Option InteractRefusal) → Done p (OfInteract (interact_by r (seen p) p x))
-    go (some r) = tt
-    go none = full (tally_refusal s p.tally)
+    go (Some r) = tt
+    go None = full (tally_refusal s p.tally)
 
 call_done : (p : Panel) (c : Call) → Done p (call p c)
 unfolding call
@@ -65,17 +65,17 @@ call_done p (interacts x) = interact_done p x
 -- ---- one interact
 same_id_eq : (a b : Option ℕ) → T (same_id a b) → a ≡ b
 unfolding same_id
-same_id_eq none none t = refl
-same_id_eq none (some b) t = absurd t
-same_id_eq (some a) none t = absurd t
-same_id_eq (some a) (some b) t = ap some (eqb→eq a b t)
+same_id_eq None None t = refl
+same_id_eq None (Some b) t = absurd t
+same_id_eq (Some a) None t = absurd t
+same_id_eq (Some a) (Some b) t = ap Some (eqb→eq a b t)
 
 -- of the widget dragged before and the one dragged now
 balance_step : (w : ℕ) (before now : Option ℕ) → one_if_is w (if_changed before now now) + one_if_is w before ≡ one_if_is w (if_changed before now before) + one_if_is w now
 unfolding if_changed one_if_is
 balance_step w before now = go (same_id now before) (same_id_eq now before)
   where
-    go : (b : Bool) → (T b → now ≡ before) → one_if_is w (cond b none now) + one_if_is w before ≡ one_if_is w (cond b none before) + one_if_is w now
+    go : (b : Bool) → (T b → now ≡ before) → one_if_is w (cond b None now) + one_if_is w before ≡ one_if_is w (cond b None before) + one_if_is w now
     go true h = rw (h tt)
     go false h = omega arith
 
@@ -107,8 +107,8 @@ unfolding OfPass pass pass_by begin_pass after
 pass_fits p i h = go (pass_refusal p i)
   where
     go : (r : Option PassRefusal) → Fits (after p (OfPass (pass_by r p i)))
-    go (some r) = h
-    go none = h
+    go (Some r) = h
+    go None = h
 
 interact_fits : (p : Panel) (x : InteractInput) → Fits p → Fits (after p (OfInteract (interact p x)))
 unfolding OfInteract interact interact_seen interact_by tallied tallied_by tally_after tally_refusal with_interaction after is_some one_if
@@ -120,14 +120,14 @@ interact_fits p x h = go (input_refusal x)
     d : Interaction
     d = interaction_after (seen p) x p.interaction
 
-    full : (o : Option ℕ) (b : Bool) → (T (not b) → p.tally < max_tally) → s.drag_started ≡ o → Fits (after p (OfInteract (tallied_by (cond (is_some o && b) (some TallyFull) none) p s d)))
-    full none b k e = rw e (omega arith)
-    full (some w) true k e = h
-    full (some w) false k e = let z = k tt in rw e (omega arith)
+    full : (o : Option ℕ) (b : Bool) → (T (not b) → p.tally < max_tally) → s.drag_started ≡ o → Fits (after p (OfInteract (tallied_by (cond (is_some o && b) (Some TallyFull) None) p s d)))
+    full None b k e = rw e (omega arith)
+    full (Some w) true k e = h
+    full (Some w) false k e = let z = k tt in rw e (omega arith)
 
     go : (r : Option InteractRefusal) → Fits (after p (OfInteract (interact_by r (seen p) p x)))
-    go (some r) = h
-    go none = full s.drag_started (leb max_tally p.tally) (nleb→lt max_tally p.tally) refl
+    go (Some r) = h
+    go None = full s.drag_started (leb max_tally p.tally) (nleb→lt max_tally p.tally) refl
 
 call_fits : (p : Panel) (c : Call) → Fits p → Fits (after p (call p c))
 unfolding call
@@ -144,5 +144,5 @@ pub balance : Balance
 unfolding fresh no_interaction one_if_is
 balance cs w =
     let h = balanced_from w fresh cs in
-    let last : last_dragged none (outcomes fresh cs) ≡ (run fresh cs).interaction.dragged = h.last in
+    let last : last_dragged None (outcomes fresh cs) ≡ (run fresh cs).interaction.dragged = h.last in
     record { starts_less_stops = omega (arith, h.counts, ap (one_if_is w) last); dragged_is_last = sym last; tally_counts_starts = omega (arith, h.tally); tally_fits = run_fits fresh cs (omega arith) }

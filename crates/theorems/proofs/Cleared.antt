@@ -1,14 +1,14 @@
 -- The clearing pass and its interact clear a panel, further interacts leave it cleared, and the next taken pass makes two of them agree. Assumes nothing.
+use Rattle.std.specs.Prelude.{Option, None, Some}
 use mathlib.Core.Path.{◌≡◌, refl, sym, ap, ◌∙◌, subst}
 use mathlib.Core.Bool.{Bool, true, false, not, ◌&&◌, ◌||◌, cond, true≢false, false≢true}
-use mathlib.Core.Option.{Option, none, some}
 use mathlib.Core.List.{List, [], ◌∷◌, ◌++◌, map}
 use lib.Dec.{T}
 use lib.Ieee.{Float, le}
 use lib.Ieee.Scale.{finite}
 use Rattle.ieee_laws.proofs.Order.{le_refl}
 use Rattle.emath.specs.Vec.{vec_zero, vec_ne}
-use Rattle.model.specs.Types.{Vec2, Rect, Pos2, Modifiers, InputOptions, no_pos, some_pos, no_time, some_time, PointerButton, PointerEvent, Moved, Pressed, Released}
+use Rattle.model.specs.Types.{Vec2, Rect, Pos2, Modifiers, InputOptions, PointerButton, PointerEvent, Moved, Pressed, Released}
 use Rattle.model.specs.Types.{Event, Key, ModifiersChanged, PointerMoved, MouseMoved, Button, PointerGone, Zoom, Rotate, Touch, MouseWheel, WindowFocused, Other}
 use Rattle.model.specs.Pointer.{Place, with_place, place_event, place_events, clear_history_after, start_place, finish_place, end_place, place_pass}
 use Rattle.model.specs.Pointer.{Held, ClickPast, Press, any, is_press, is_release, is_click, is_move, move_time, any_down, no_buttons, could_any_button_be_click, is_decidedly_dragging, add_event, press_button, release_button, click_of, release}
@@ -54,7 +54,7 @@ pub record Cleared (c : PassInput) (tc : Float) (rect : Rect) (r : Rest) (p : Pa
   pub none_live : live own.touch_states ≡ []
 
 -- ---- interacts
-kept_none : (b : Bool) → kept_if b none ≡ none
+kept_none : (b : Bool) → kept_if b None ≡ None
 unfolding kept_if
 kept_none true = refl
 kept_none false = refl
@@ -68,7 +68,7 @@ nothing_left v x d e =
       potential_drag_id = kept_if (v.any_down && v.has_pointer) (e j).potential_drag_id;
       dragged = dragged_after x v.is_decidedly_dragging (e j);
     })
-    ∙ (λ j. record { potential_click_id = kept_none (v.could_any_button_be_click && v.any_down && v.has_pointer) j; potential_drag_id = kept_none (v.any_down && v.has_pointer) j; dragged = none })
+    ∙ (λ j. record { potential_click_id = kept_none (v.could_any_button_be_click && v.any_down && v.has_pointer) j; potential_drag_id = kept_none (v.any_down && v.has_pointer) j; dragged = None })
 
 -- the clearing pass's releases end every interaction
 releases_end : (x : InteractInput) (b : Bool) (g : Going) (o : InputOptions) (time : Float) (r : Rest) (s : Press)
@@ -139,7 +139,7 @@ module _ (c : PassInput) (tc : Float) (rect : Rect) (r : Rest) where
       }
 
   -- ---- the clearing pass and its interact
-  module _ (es : List TouchEnd) (gives_time : c.time ≡ some tc) (gives_rect : c.screen_rect ≡ some rect) (feed : pass_events c ≡ map end_event es ++ rest_events r) where
+  module _ (es : List TouchEnd) (gives_time : c.time ≡ Some tc) (gives_rect : c.screen_rect ≡ Some rect) (feed : pass_events c ≡ map end_event es ++ rest_events r) where
     pub clears : (p p₁ p₂ : Panel) (x : InteractInput) (s : InteractionSnapshot) → Reached p → EndsAll es p.touch_states → Taken p c p₁ → Answered p₁ x s p₂ → Cleared c tc rect r p₂
     unfolding undecided_of with_tally walked begin_pass clock_pass press_pass
     clears p p₁ p₂ x s reached ended t i =
@@ -247,7 +247,7 @@ unfolding press_events
 presses_stay o time [] s h = h
 presses_stay o time (e ∷ es) s h = presses_stay o time es (press_event o time e s) (press_stays o time e s h)
 
-press_seen : (o : InputOptions) (time : Float) (es : List Event) (s : Press) → first_button es ≡ some true → any is_press (press_events o time es s).held.pointer_events ≡ true
+press_seen : (o : InputOptions) (time : Float) (es : List Event) (s : Press) → first_button es ≡ Some true → any is_press (press_events o time es s).held.pointer_events ≡ true
 unfolding press_events press_event press_button is_press first_button button_event or_else
 press_seen o time [] s h = cc
 press_seen o time (e ∷ es) s h = go (pointer_view e) h (λ s k. press_seen o time es s k)
@@ -255,8 +255,8 @@ press_seen o time (e ∷ es) s h = go (pointer_view e) h (λ s k. press_seen o t
     pressed_now : (v : Pos2) (b : PointerButton) (m : Modifiers) → any is_press (press_event o time (Button v b true m) s).held.pointer_events ≡ true
     pressed_now v b m = any_right is_press s.held.pointer_events (Pressed v b) refl
 
-    go : {e : Event} → PointerView e → or_else (button_event e) (first_button es) ≡ some true
-        → ((s : Press) → first_button es ≡ some true → any is_press (press_events o time es s).held.pointer_events ≡ true)
+    go : {e : Event} → PointerView e → or_else (button_event e) (first_button es) ≡ Some true
+        → ((s : Press) → first_button es ≡ Some true → any is_press (press_events o time es s).held.pointer_events ≡ true)
         → any is_press (press_events o time es (press_event o time e s)).held.pointer_events ≡ true
     go (a_move v) k ih = ih (press_event o time (PointerMoved v) s) k
     go (a_press v b m) k ih = presses_stay o time es (press_event o time (Button v b true m) s) (pressed_now v b m)
@@ -277,16 +277,16 @@ unpressed_undecided o time h m q = rw (q.none_down, q.no_release)
 
 undecided : (D tc now : Float) (o : InputOptions) (es : List Event) (s : Press) (b : ClickPast) (c m : Bool) (f : Option Bool) → first_button es ≡ f → FirstIsPress D tc now f
     → Trace D tc now (press_events o now es s).held (press_events o now es s).past b (button_came false f) c → is_decidedly_dragging o now (press_events o now es s).held m ≡ false
-undecided D tc now o es s b c m none e u t = go c t
+undecided D tc now o es s b c m None e u t = go c t
   where
     go : (c : Bool) → Trace D tc now (press_events o now es s).held (press_events o now es s).past b false c → is_decidedly_dragging o now (press_events o now es s).held m ≡ false
     go c (unpressed q la lb) = unpressed_undecided o now (press_events o now es s).held m q
-undecided D tc now o es s b c m (some true) e u t = pressed_undecided o now (press_events o now es s).held m (press_seen o now es s e)
-undecided D tc now o es s b c m (some false) e u t = absurd u
+undecided D tc now o es s b c m (Some true) e u t = pressed_undecided o now (press_events o now es s).held m (press_seen o now es s e)
+undecided D tc now o es s b c m (Some false) e u t = absurd u
 
 -- no button, no pointer event
 no_held : Held
-no_held = record { down = no_buttons; press_origin = no_pos; press_start_time = no_time; pointer_events = [] }
+no_held = record { down = no_buttons; press_origin = None; press_start_time = None; pointer_events = [] }
 
 no_held_none : NoButton no_held
 unfolding no_held any_down no_buttons any
@@ -309,7 +309,7 @@ module _ (c : PassInput) (tc : Float) (rect : Rect) (r : Rest) (i : PassInput) (
 
   begin_cleared : begin_pass (cleared_panel c tc rect r u no_interaction) i
       ≡ but_for (begin_pass (cleared_panel c tc rect r w no_interaction) i) (press_events i.options (time_of i tc) (pass_events i) (pair no_held u.past)).past
-      (touch_pass (time_of i tc) (some_pos r.pos) (pass_events i) u.touch_states) u.tally
+      (touch_pass (time_of i tc) (Some r.pos) (pass_events i) u.touch_states) u.tally
       (move_time (time_of i tc) (begin_pass (cleared_panel c tc rect r w no_interaction) i).press.held.pointer_events (begin_pass (cleared_panel c tc rect r w no_interaction) i).place.velocity u.last_move_time)
   unfolding begin_pass but_for cleared_panel clock_pass press_pass clear_events no_held with_velocity
   begin_cleared =
@@ -336,7 +336,7 @@ module _ (c : PassInput) (tc : Float) (rect : Rect) (r : Rest) (i : PassInput) (
         press = pair (both.held j) y.past;
         started_decidedly_dragging = st j;
         last_move_time = move_time now (both.held j).pointer_events (velocity_pass u.velocity now es pp.place j).velocity u.last_move_time;
-        touch_states = touch_pass now (some_pos r.pos) es u.touch_states;
+        touch_states = touch_pass now (Some r.pos) es u.touch_states;
         wheel = m.wheel;
         keys = m.keys;
         sums = m.sums;
@@ -344,7 +344,7 @@ module _ (c : PassInput) (tc : Float) (rect : Rect) (r : Rest) (i : PassInput) (
         tally = u.tally;
       }
 
-  same_last : (b : Bool) → T (b || false) → cond b (some_time (time_of i tc)) u.last_move_time ≡ cond b (some_time (time_of i tc)) w.last_move_time
+  same_last : (b : Bool) → T (b || false) → cond b (Some (time_of i tc)) u.last_move_time ≡ cond b (Some (time_of i tc)) w.last_move_time
   same_last true t = refl
   same_last false t = absurd t
 
@@ -360,14 +360,14 @@ module _ (c : PassInput) (tc : Float) (rect : Rect) (r : Rest) (i : PassInput) (
       let m = begin_pass (cleared_panel c tc rect r w no_interaction) i in
       record {
         past = y.past;
-        devices = touch_pass now (some_pos r.pos) es u.touch_states;
+        devices = touch_pass now (Some r.pos) es u.touch_states;
         count = u.tally;
         moved_at = move_time now m.press.held.pointer_events m.place.velocity u.last_move_time;
         is = begin_cleared;
         moves = same_last (any is_move m.press.held.pointer_events || vec_ne m.place.velocity vec_zero);
-        same_live = touch_pass_live now (some_pos r.pos) es w.touch_states u.touch_states a b e;
-        ascend_p = touch_pass_ascending now (some_pos r.pos) es w.touch_states a;
-        ascend_q = touch_pass_ascending now (some_pos r.pos) es u.touch_states b;
+        same_live = touch_pass_live now (Some r.pos) es w.touch_states u.touch_states a b e;
+        ascend_p = touch_pass_ascending now (Some r.pos) es w.touch_states a;
+        ascend_q = touch_pass_ascending now (Some r.pos) es u.touch_states b;
         flag = both.flag;
         trace = both.trace;
         clicks = λ t. click_flag D tc now x.held x.past y.past (button_came false (first_button es)) both.flag both.trace (or_false (any is_click x.held.pointer_events) t);

@@ -1,8 +1,8 @@
 -- Demand 3, second half: the later list, call by call. Assumes nothing.
+use Rattle.std.specs.Prelude.{Option, None, Some}
 use Prim.Native.Nat.{ℕ, zero, suc}
 use mathlib.Core.Path.{◌≡◌, refl, sym, ap, ◌∙◌, subst}
 use mathlib.Core.Bool.{Bool, true, false, not, ◌&&◌, ◌||◌, cond}
-use mathlib.Core.Option.{Option, none, some}
 use mathlib.Core.List.{List, [], ◌∷◌}
 use lib.Dec.{T}
 use lib.Ieee.{Float, binary64, sub, le, of_bits}
@@ -41,31 +41,31 @@ no_place_right : (w : ℕ) (r s : PassRefusal) → s ≡ NoPlace w → Agree r s
 unfolding is_no_place
 no_place_right w r s e = rw e (λ p q. absurd q)
 
-survey_agrees : (left : ℕ) (is : List Item) (vs ws : List TouchState) (r s : PassRefusal) → survey left is vs ≡ some r → survey left is ws ≡ some s → Agree r s
+survey_agrees : (left : ℕ) (is : List Item) (vs ws : List TouchState) (r s : PassRefusal) → survey left is vs ≡ Some r → survey left is ws ≡ Some s → Agree r s
 unfolding survey item_refusal item_devices or_else
 survey_agrees left [] vs ws r s h k = impossible (cc)
 survey_agrees zero (i ∷ is) vs ws r s h k = λ _ _. cc
 survey_agrees (suc left) (i ∷ is) vs ws r s h k = go i.what h k (λ us ts a b. survey_agrees left is us ts r s a b)
   where
-    placed : (a b : Bool) (us ts : List TouchState) → or_else (cond a (some (NoPlace i.index)) none) (survey left is us) ≡ some r → or_else (cond b (some (NoPlace i.index)) none) (survey left is ts) ≡ some s
-        → ((us ts : List TouchState) → survey left is us ≡ some r → survey left is ts ≡ some s → Agree r s) → Agree r s
+    placed : (a b : Bool) (us ts : List TouchState) → or_else (cond a (Some (NoPlace i.index)) None) (survey left is us) ≡ Some r → or_else (cond b (Some (NoPlace i.index)) None) (survey left is ts) ≡ Some s
+        → ((us ts : List TouchState) → survey left is us ≡ Some r → survey left is ts ≡ Some s → Agree r s) → Agree r s
     placed true b us ts x y ih = no_place_left i.index r s (cc)
     placed false true us ts x y ih = no_place_right i.index r s (cc)
     placed false false us ts x y ih = ih us ts x y
 
-    go : (w : Decoded) → or_else (item_refusal i.index w vs) (survey left is (item_devices w vs)) ≡ some r → or_else (item_refusal i.index w ws) (survey left is (item_devices w ws)) ≡ some s
-        → ((us ts : List TouchState) → survey left is us ≡ some r → survey left is ts ≡ some s → Agree r s) → Agree r s
+    go : (w : Decoded) → or_else (item_refusal i.index w vs) (survey left is (item_devices w vs)) ≡ Some r → or_else (item_refusal i.index w ws) (survey left is (item_devices w ws)) ≡ Some s
+        → ((us ts : List TouchState) → survey left is us ≡ Some r → survey left is ts ≡ Some s → Agree r s) → Agree r s
     go malformed a b ih = λ _ _. cc
     go outside_domain a b ih = λ _ _. cc
     go (good e) a b ih = placed (crowded e vs) (crowded e ws) (touch_event e vs) (touch_event e ws) a b ih
 
-pass_agrees : (p q : Panel) (i : PassInput) (r s : PassRefusal) → p.clock.time ≡ q.clock.time → pass_refusal p i ≡ some r → pass_refusal q i ≡ some s → Agree r s
+pass_agrees : (p q : Panel) (i : PassInput) (r s : PassRefusal) → p.clock.time ≡ q.clock.time → pass_refusal p i ≡ Some r → pass_refusal q i ≡ Some s → Agree r s
 unfolding pass_refusal or_else
-pass_agrees p q i r s e h k = own (own_refusal i p.clock.time) h (subst (λ (z : Float). or_else (own_refusal i z) (survey max_events (items i.feed) q.touch_states) ≡ some s) (sym e) k)
+pass_agrees p q i r s e h k = own (own_refusal i p.clock.time) h (subst (λ (z : Float). or_else (own_refusal i z) (survey max_events (items i.feed) q.touch_states) ≡ Some s) (sym e) k)
   where
-    own : (o : Option PassRefusal) → or_else o (survey max_events (items i.feed) p.touch_states) ≡ some r → or_else o (survey max_events (items i.feed) q.touch_states) ≡ some s → Agree r s
-    own (some a) m n = λ _ _. cc
-    own none m n = survey_agrees max_events (items i.feed) p.touch_states q.touch_states r s m n
+    own : (o : Option PassRefusal) → or_else o (survey max_events (items i.feed) p.touch_states) ≡ Some r → or_else o (survey max_events (items i.feed) q.touch_states) ≡ Some s → Agree r s
+    own (Some a) m n = λ _ _. cc
+    own None m n = survey_agrees max_events (items i.feed) p.touch_states q.touch_states r s m n
 
 same_refusal : (p q : Panel) (c : Call) → p.clock.time ≡ q.clock.time → T (is_refused (call p c)) → T (is_refused (call q c)) → SameAnswer (call p c) (call q c)
 same_refusal p q c e = go (call_view p c) (call_view q c)
@@ -190,9 +190,9 @@ delay_in_range o h =
     in_range max_duration o.max_double_click_delay max_duration_finite (and_r d e (and_r c (d && e) (and_r b (c && (d && e)) (and_r a (b && (c && (d && e))) h))))
 
 nearer : (D tc time : Float) (f : Option Bool) → T (le D (twice D)) → FirstIsPress (twice D) tc time f → FirstIsPress D tc time f
-nearer D tc time none d h = tt
-nearer D tc time (some false) d h = h
-nearer D tc time (some true) d h = le_trans D (twice D) (sub binary64 time tc) d h
+nearer D tc time None d h = tt
+nearer D tc time (Some false) d h = h
+nearer D tc time (Some true) d h = le_trans D (twice D) (sub binary64 time tc) d h
 
 -- options fixed are options within their own delay
 fixed_within : (o : InputOptions) (tc : Float) (b : Bool) (p q : Panel) (cs : List Call) → InRange o.max_double_click_delay

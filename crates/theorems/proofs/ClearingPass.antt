@@ -1,9 +1,9 @@
 -- A panel after the clearing pass: all but a few parts is the clearing pass's own doing, and no touch is held. Assumes nothing.
+use Rattle.std.specs.Prelude.{Option, None, Some}
 use Prim.Native.Nat.{ℕ}
 use native.Mathlib.Omega.{arith}
 use mathlib.Core.Path.{◌≡◌, refl, sym, ap, ◌∙◌}
 use mathlib.Core.Bool.{Bool, true, false, ◌&&◌, ◌||◌, cond, true≢false}
-use mathlib.Core.Option.{some}
 use mathlib.Core.List.{List, [], ◌∷◌, ◌++◌, map}
 use lib.Dec.{T, eqb}
 use lib.Ieee.{Float}
@@ -11,7 +11,7 @@ use Rattle.emath.specs.Vec.{vec_zero, vec_add, normalized}
 use Rattle.emath.specs.History.{velocity}
 use Rattle.data.specs.Modifiers.{no_modifiers}
 use Rattle.model.specs.Numbers.{+0, one}
-use Rattle.model.specs.Types.{Vec2, Rect, InputOptions, MaybePos2, no_pos, some_pos, MaybeVec2, no_vec, some_vec, MaybeF64, no_time, PointerEvent, WheelState, End, ActiveTouch, Event, WindowFocused}
+use Rattle.model.specs.Types.{Vec2, Rect, InputOptions, Pos2, PointerEvent, WheelState, End, ActiveTouch, Event, WindowFocused}
 use Rattle.model.specs.Pointer.{Place, unwrap_or_default, zero_motion, add_motion, with_place, place_event, place_events, clear_history_after, start_place, delta_of, finish_place, end_place, place_pass}
 use Rattle.model.specs.Pointer.{CountTrue, ClickPast, Press, no_buttons, release_button, release, press_event, press_events, clear_events, press_pass}
 use Rattle.model.specs.Touch.{TouchState, remove_touch, on_touch, new_device, touch_device, at_device, some_touch, calc_dynamic_state, update_gesture, forget_previous_if, touch_event, touch_events, end_device, end_touches, touch_pass}
@@ -76,7 +76,7 @@ pub record Undecided : Type 0 where
   pub pointer_events : List PointerEvent
   pub past : ClickPast
   pub started_decidedly_dragging : Bool
-  pub last_move_time : MaybeF64
+  pub last_move_time : Option Float
   pub touch_states : List TouchState
   pub tally : Tally
 
@@ -90,17 +90,17 @@ cleared_keys = keys_pass (WindowFocused false ∷ []) fresh.keys
 abbrev cleared_place : Rest → Vec2 → Place
 cleared_place r v =
     record {
-      latest_pos = no_pos;
-      interact_pos = some_pos r.pos;
+      latest_pos = None;
+      interact_pos = Some r.pos;
       delta = vec_zero;
-      motion = some_vec (vec_add vec_zero r.motion);
+      motion = Some (vec_add vec_zero r.motion);
       velocity = v;
       direction = normalized (unwrap_or_default (velocity []));
       pos_history = [];
     }
 
 abbrev cleared_press : List PointerEvent → ClickPast → Press
-cleared_press es a = record { held = record { down = no_buttons; press_origin = no_pos; press_start_time = no_time; pointer_events = es }; past = a }
+cleared_press es a = record { held = record { down = no_buttons; press_origin = None; press_start_time = None; pointer_events = es }; past = a }
 
 -- the panel that it leaves, with what it does not decide and an interaction
 unfoldable pub cleared_panel : PassInput → Float → Rect → Rest → Undecided → Interaction → Panel
@@ -121,15 +121,15 @@ cleared_panel c tc rect r w d =
     }
 
 -- ---- part by part
-delta_gone : (a : MaybePos2) → delta_of a no_pos ≡ vec_zero
+delta_gone : (a : Option Pos2) → delta_of a None ≡ vec_zero
 unfolding delta_of
-delta_gone no_pos = refl
-delta_gone (some_pos a) = refl
+delta_gone None = refl
+delta_gone (Some a) = refl
 
-motion_only : (v : Vec2) (a : MaybeVec2) → add_motion v (zero_motion a) ≡ some_vec (vec_add vec_zero v)
+motion_only : (v : Vec2) (a : Option Vec2) → add_motion v (zero_motion a) ≡ Some (vec_add vec_zero v)
 unfolding add_motion zero_motion
-motion_only v no_vec = refl
-motion_only v (some_vec a) = refl
+motion_only v None = refl
+motion_only v (Some a) = refl
 
 place_rest : (time : Float) (r : Rest) (l : Place)
     → end_place time l.latest_pos true (place_events (rest_events r) (start_place l))
@@ -138,8 +138,8 @@ unfolding end_place finish_place place_events place_event with_place start_place
 place_rest time r l =
     let q = end_place time l.latest_pos true (place_events (rest_events r) (start_place l)) in
     λ j. record {
-      latest_pos = no_pos;
-      interact_pos = some_pos r.pos;
+      latest_pos = None;
+      interact_pos = Some r.pos;
       delta = delta_gone l.latest_pos j;
       motion = motion_only r.motion l.motion j;
       velocity = q.velocity;
@@ -159,7 +159,7 @@ press_rest : (o : InputOptions) (time : Float) (r : Rest) (s : Press) → CountT
 unfolding press_events press_event release release_button
 press_rest o time r s h =
     let z = press_events o time (rest_events r) s in
-    λ j. record { held = record { down = all_up_is s.held.down h j; press_origin = no_pos; press_start_time = no_time; pointer_events = z.held.pointer_events }; past = z.past }
+    λ j. record { held = record { down = all_up_is s.held.down h j; press_origin = None; press_start_time = None; pointer_events = z.held.pointer_events }; past = z.past }
 
 press_clears : (o : InputOptions) (time : Float) (es : List TouchEnd) (r : Rest) (s : Press) → CountTrue s.held.down
     → press_pass o time (ends_then es (rest_events r)) s
@@ -208,7 +208,7 @@ undecided_of q =
     }
 
 module _ (p : Panel) (c : PassInput) (tc : Float) (rect : Rect) (es : List TouchEnd) (r : Rest)
-    (gives_time : c.time ≡ some tc) (gives_rect : c.screen_rect ≡ some rect) (feed : pass_events c ≡ map end_event es ++ rest_events r) where
+    (gives_time : c.time ≡ Some tc) (gives_rect : c.screen_rect ≡ Some rect) (feed : pass_events c ≡ map end_event es ++ rest_events r) where
   pub time_is : time_of c p.clock.time ≡ tc
   unfolding time_of time_or
   time_is = rw gives_time
@@ -315,17 +315,17 @@ unfolding touch_events touch_event
 ends_leave_none [] r vs a h = none_left vs h
 ends_leave_none (e ∷ es) r vs a h = ends_leave_none es r (touch_event (end_event e) vs) (event_ascending (end_event e) vs a) (ends_step e es vs a h)
 
-gesture_ends : (time : Float) (p : MaybePos2) (ev : List Event) (v : TouchState) → v.active_touches ≡ [] → is_live (end_touches time p ev v) ≡ false
+gesture_ends : (time : Float) (p : Option Pos2) (ev : List Event) (v : TouchState) → v.active_touches ≡ [] → is_live (end_touches time p ev v) ≡ false
 unfolding is_live end_touches end_device calc_dynamic_state update_gesture forget_previous_if some_touch has_gesture
 gesture_ends time p ev v e = rw e
 
-none_live : (time : Float) (p : MaybePos2) (ev : List Event) (vs : List TouchState) → NoTouches vs → live (map (end_touches time p ev) vs) ≡ []
+none_live : (time : Float) (p : Option Pos2) (ev : List Event) (vs : List TouchState) → NoTouches vs → live (map (end_touches time p ev) vs) ≡ []
 unfolding live
 none_live time p ev [] h = refl
 none_live time p ev (v ∷ vs) h =
     live_no (end_touches time p ev v) (live (map (end_touches time p ev) vs)) (gesture_ends time p ev v h.0) ∙ none_live time p ev vs h.1
 
-pub touches_cleared : (time : Float) (p : MaybePos2) (es : List TouchEnd) (r : Rest) (vs : List TouchState) → Ascend vs → EndsAll es vs → live (touch_pass time p (ends_then es (rest_events r)) vs) ≡ []
+pub touches_cleared : (time : Float) (p : Option Pos2) (es : List TouchEnd) (r : Rest) (vs : List TouchState) → Ascend vs → EndsAll es vs → live (touch_pass time p (ends_then es (rest_events r)) vs) ≡ []
 unfolding touch_pass
 touches_cleared time p es r vs a h =
     none_live time p (ends_then es (rest_events r)) (touch_events (ends_then es (rest_events r)) vs) (ends_leave_none es r vs a h)

@@ -1,13 +1,13 @@
 -- Touch devices: those that hold no touch and no gesture answer nothing, so two panels that know different ones, but hold the same touches, answer alike.
 -- Assumes nothing.
+use Rattle.std.specs.Prelude.{Option, None, Some}
 use Prim.Native.Nat.{ℕ, ◌<◌}
 use mathlib.Core.Path.{◌≡◌, refl, sym, ap, ◌∙◌}
 use mathlib.Core.Bool.{Bool, true, false, ◌||◌, cond, true≢false}
-use mathlib.Core.Option.{Option, none, some}
 use mathlib.Core.List.{List, [], ◌∷◌, map}
 use lib.Dec.{T, eqb, eqb→eq}
 use lib.Ieee.{Float}
-use Rattle.model.specs.Types.{MaybePos2, ActiveTouch, MaybeGestureState, no_gesture, some_gesture, no_info, Event}
+use Rattle.model.specs.Types.{Pos2, ActiveTouch, GestureState, Event}
 use Rattle.model.specs.Touch.{TouchState, new_device, touch_device, at_device, find_device, calc_dynamic_state, update_gesture, forget_previous_if, touch_event, touch_events, end_device, end_touches, touch_pass}
 use Rattle.model.specs.Touch.{info, info_of, info_at, first_of, multi_touch, some_touch, any_touches, any_touches_at}
 use Rattle.model.specs.Touch.{device_id_of}
@@ -15,9 +15,9 @@ use Rattle.model.proofs.Ids.{less, equal, more, order, above_down}
 use Rattle.model.proofs.InOrder.{AboveAll, Ascend, TouchView, a_touch, no_touch, touch_view, touch_of, touch_event_is, at_front, at_same, at_more, find_above, event_ascending}
 
 -- ---- a device that holds a touch or a gesture
-unfoldable pub has_gesture : MaybeGestureState → Bool
-has_gesture no_gesture = false
-has_gesture (some_gesture g) = true
+unfoldable pub has_gesture : Option GestureState → Bool
+has_gesture None = false
+has_gesture (Some g) = true
 
 unfoldable pub is_live : TouchState → Bool
 is_live v = some_touch v.active_touches || has_gesture v.gesture_state
@@ -35,10 +35,10 @@ pub dead_is : (v : TouchState) → is_live v ≡ false → v ≡ new_device v.de
 unfolding is_live some_touch has_gesture new_device
 dead_is v h = go v.active_touches v.gesture_state h
   where
-    go : (ts : List ActiveTouch) (g : MaybeGestureState) → (some_touch ts || has_gesture g) ≡ false
-        → ◌≡◌ {A = TouchState} (record { device_id = v.device_id; active_touches = ts; gesture_state = g }) (record { device_id = v.device_id; active_touches = []; gesture_state = no_gesture })
-    go [] no_gesture h = refl
-    go [] (some_gesture g) h = absurd (true≢false h)
+    go : (ts : List ActiveTouch) (g : Option GestureState) → (some_touch ts || has_gesture g) ≡ false
+        → ◌≡◌ {A = TouchState} (record { device_id = v.device_id; active_touches = ts; gesture_state = g }) (record { device_id = v.device_id; active_touches = []; gesture_state = None })
+    go [] None h = refl
+    go [] (Some g) h = absurd (true≢false h)
     go (t ∷ ts) g h = absurd (true≢false h)
 
 live_yes : (v : TouchState) (vs : List TouchState) → is_live v ≡ true → keep v vs ≡ v ∷ vs
@@ -129,11 +129,11 @@ events_live (e ∷ es) vs ws a b h =
     events_live es (touch_event e vs) (touch_event e ws) (event_ascending e vs a) (event_ascending e ws b) (event_live e vs ws a b h)
 
 -- ---- a gesture's step
-dead_again : (time : Float) (p : MaybePos2) (es : List Event) (v : TouchState) → is_live v ≡ false → is_live (end_touches time p es v) ≡ false
+dead_again : (time : Float) (p : Option Pos2) (es : List Event) (v : TouchState) → is_live v ≡ false → is_live (end_touches time p es v) ≡ false
 unfolding end_touches end_device new_device calc_dynamic_state update_gesture forget_previous_if is_live some_touch has_gesture
 dead_again time p es v h = rw (dead_is v h)
 
-map_live : (time : Float) (p : MaybePos2) (es : List Event) (vs : List TouchState) → live (map (end_touches time p es) vs) ≡ live (map (end_touches time p es) (live vs))
+map_live : (time : Float) (p : Option Pos2) (es : List Event) (vs : List TouchState) → live (map (end_touches time p es) vs) ≡ live (map (end_touches time p es) (live vs))
 unfolding live
 map_live time p es [] = refl
 map_live time p es (v ∷ vs) = go (which (is_live v)) (map_live time p es vs)
@@ -146,14 +146,14 @@ map_live time p es (v ∷ vs) = go (which (is_live v)) (map_live time p es vs)
     go (off n) ih = live_no (g v) (live (map g vs)) (dead_again time p es v n) ∙ ih ∙ ap (λ (z : List TouchState). live (map g z)) (sym (live_no v (live vs) n))
 
 -- ---- the devices' part of a pass
-pub touch_pass_live : (time : Float) (p : MaybePos2) (es : List Event) (vs ws : List TouchState) → Ascend vs → Ascend ws → live vs ≡ live ws → live (touch_pass time p es vs) ≡ live (touch_pass time p es ws)
+pub touch_pass_live : (time : Float) (p : Option Pos2) (es : List Event) (vs ws : List TouchState) → Ascend vs → Ascend ws → live vs ≡ live ws → live (touch_pass time p es vs) ≡ live (touch_pass time p es ws)
 unfolding touch_pass
 touch_pass_live time p es vs ws a b h =
     map_live time p es (touch_events es vs) ∙ ap (λ (z : List TouchState). live (map (end_touches time p es) z)) (events_live es vs ws a b h)
     ∙ sym (map_live time p es (touch_events es ws))
 
 -- ---- what devices answer, those that are not live do not
-module _ {A : Type 0} (f : Option TouchState → A) (mute : (v : TouchState) → is_live v ≡ false → f (some v) ≡ f none) where
+module _ {A : Type 0} (f : Option TouchState → A) (mute : (v : TouchState) → is_live v ≡ false → f (Some v) ≡ f None) where
   -- an answer that no device gives which is not live is that of the live ones
   pub find_live : (d : ℕ) (vs : List TouchState) → Ascend vs → f (find_device d vs) ≡ f (find_device d (live vs))
   unfolding find_device live
@@ -165,16 +165,16 @@ module _ {A : Type 0} (f : Option TouchState → A) (mute : (v : TouchState) →
         | off n ↦ rw (live_no v (live vs) n) (dropped n (eqb d v.device_id) (eqb→eq d v.device_id) ih)
       ]
     where
-      kept : (b : Bool) → f (find_device d vs) ≡ f (find_device d (live vs)) → f (cond b (some v) (find_device d vs)) ≡ f (cond b (some v) (find_device d (live vs)))
+      kept : (b : Bool) → f (find_device d vs) ≡ f (find_device d (live vs)) → f (cond b (Some v) (find_device d vs)) ≡ f (cond b (Some v) (find_device d (live vs)))
       kept true ih = refl
       kept false ih = ih
 
       dropped : is_live v ≡ false → (b : Bool) → (T b → d ≡ v.device_id) → f (find_device d vs) ≡ f (find_device d (live vs))
-          → f (cond b (some v) (find_device d vs)) ≡ f (find_device d (live vs))
+          → f (cond b (Some v) (find_device d vs)) ≡ f (find_device d (live vs))
       dropped n true e ih = let ab : AboveAll d (live vs) = rw (e tt) (live_above v.device_id vs a.0) in mute v n ∙ ap f (sym (find_above d (live vs) ab))
       dropped n false e ih = ih
 
-mute_info : (v : TouchState) → is_live v ≡ false → info v ≡ no_info
+mute_info : (v : TouchState) → is_live v ≡ false → info v ≡ None
 unfolding info info_of new_device
 mute_info v n = rw (dead_is v n)
 

@@ -1,13 +1,13 @@
 -- The example meets what Clearing supposes: evaluated. Assumes nothing.
+use Rattle.std.specs.Prelude.{Option, None, Some}
 use mathlib.Core.Path.{◌≡◌, refl, sym, ap, subst}
 use mathlib.Core.Bool.{Bool, true, false}
-use mathlib.Core.Option.{Option, none, some}
 use mathlib.Core.List.{List, [], ◌∷◌, ◌++◌, map}
 use lib.Dec.{T}
 use lib.Ieee.{binary64, of_bits}
 use Rattle.emath.specs.Vec.{vec_zero}
 use Rattle.data.specs.Modifiers.{no_modifiers}
-use Rattle.model.specs.Types.{Point, Unknown, no_force}
+use Rattle.model.specs.Types.{Point, Unknown}
 use Rattle.model.specs.Pass.{Panel, PassInput, fresh, pass_events, pass, pass_by, pass_refusal, begin_pass, Tally}
 use Rattle.model.specs.Interact.{InteractInput, InteractionSnapshot, interact, interact_seen, interact_by, input_refusal, tally_after, tally_refusal, tallied, tallied_by, seen, snapshot, interaction_after, with_interaction}
 use Rattle.model.specs.Questions.{ask, settled, dragged, widget, tally, count}
@@ -17,7 +17,7 @@ use Rattle.theorems.specs.Example.{Example, two_seconds, hundred, zero32, corner
 use Rattle.theorems.proofs.Opened.{opened}
 
 -- ---- a call that is not refused
-pass_is_taken : (p : Panel) (i : PassInput) → pass_refusal p i ≡ none → call p (passes i) ≡ passed (begin_pass p i)
+pass_is_taken : (p : Panel) (i : PassInput) → pass_refusal p i ≡ None → call p (passes i) ≡ passed (begin_pass p i)
 unfolding call OfPass pass pass_by
 pass_is_taken p i e = rw e
 
@@ -27,12 +27,12 @@ answer p x = snapshot (seen p) x p.interaction
 abbrev then : Panel → InteractInput → Panel
 then p x = with_interaction p (interaction_after (seen p) x p.interaction) (tally_after (answer p x) p.tally)
 
-interact_is_answered : (p : Panel) (x : InteractInput) → input_refusal x ≡ none → tally_refusal (answer p x) p.tally ≡ none → call p (interacts x) ≡ answered (answer p x) (then p x)
+interact_is_answered : (p : Panel) (x : InteractInput) → input_refusal x ≡ None → tally_refusal (answer p x) p.tally ≡ None → call p (interacts x) ≡ answered (answer p x) (then p x)
 unfolding call OfInteract interact interact_seen interact_by tallied tallied_by
 interact_is_answered p x e f = rw (e, f)
 
 abbrev NotFull : Panel → InteractInput → Type 0
-NotFull p x = tally_refusal (answer p x) p.tally ≡ none
+NotFull p x = tally_refusal (answer p x) p.tally ≡ None
 
 -- ---- the example
 unfoldable pub example : Type 1
@@ -54,19 +54,19 @@ p₂ = then p₁ on_nothing
 q₂ : Panel
 q₂ = then q₁ on_nothing
 
-taken_p : pass_refusal p₀ clearing_pass ≡ none
+taken_p : pass_refusal p₀ clearing_pass ≡ None
 unfolding opened example p₀
 taken_p = refl
 
-taken_q : pass_refusal fresh clearing_pass ≡ none
+taken_q : pass_refusal fresh clearing_pass ≡ None
 unfolding opened example
 taken_q = refl
 
-nothing_refused : input_refusal on_nothing ≡ none
+nothing_refused : input_refusal on_nothing ≡ None
 unfolding opened example
 nothing_refused = refl
 
-widget_not_refused : input_refusal on_widget ≡ none
+widget_not_refused : input_refusal on_widget ≡ None
 unfolding opened example
 widget_not_refused = refl
 
@@ -88,7 +88,7 @@ rest =
     }
 
 ends : List TouchEnd
-ends = record { device_id = 7; id = 1; pos = corner; force = no_force } ∷ []
+ends = record { device_id = 7; id = 1; pos = corner; force = None } ∷ []
 
 feed_is : pass_events clearing_pass ≡ map end_event ends ++ rest_events rest
 unfolding opened example rest ends
@@ -135,19 +135,19 @@ unfoldable pub states : Type 1
 unfolding p₀ p₁ q₁ p₂ q₂ p₃ q₃ p₄ q₄ p₅ q₅
 states = Type 0
 
-press_p : pass_refusal p₂ press_pass ≡ none
+press_p : pass_refusal p₂ press_pass ≡ None
 unfolding opened example states
 press_p = refl
 
-press_q : pass_refusal q₂ press_pass ≡ none
+press_q : pass_refusal q₂ press_pass ≡ None
 unfolding opened example states
 press_q = refl
 
-release_p : pass_refusal p₄ release_pass ≡ none
+release_p : pass_refusal p₄ release_pass ≡ None
 unfolding opened example states
 release_p = refl
 
-release_q : pass_refusal q₄ release_pass ≡ none
+release_q : pass_refusal q₄ release_pass ≡ None
 unfolding opened example states
 release_q = refl
 
@@ -168,7 +168,7 @@ waits : FirstIsPress (twice clearing_pass.options.max_double_click_delay) (of_bi
 unfolding opened example states first_button button_event
 waits = tt
 
-press_first : first_button (pass_events press_pass) ≡ some true
+press_first : first_button (pass_events press_pass) ≡ Some true
 unfolding opened example first_button button_event
 press_first = refl
 
@@ -191,11 +191,11 @@ fair_later =
     both_passed p₃ q₃ (pass_is_taken p₂ press_pass press_p) (pass_is_taken q₂ press_pass press_q) (unfold press_pass clearing_pass pass_at in refl) waits
     (subst (λ (f : Option Bool). FairFrom (button_came false f) p₃ q₃ (interacts on_widget ∷ passes malformed_pass ∷ passes release_pass ∷ interacts on_widget ∷ [])) (sym press_first) fair_after)
 
-dragged_p : ask (settled dragged) p₀ ≡ widget (some 5)
+dragged_p : ask (settled dragged) p₀ ≡ widget (Some 5)
 unfolding opened example states
 dragged_p = refl
 
-dragged_q : ask (settled dragged) fresh ≡ widget none
+dragged_q : ask (settled dragged) fresh ≡ widget None
 unfolding opened
 dragged_q = refl
 

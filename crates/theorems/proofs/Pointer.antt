@@ -1,7 +1,7 @@
 -- What an event is to the buttons and clicks: a move, a press, a release, or nothing. Assumes nothing.
+use Rattle.std.specs.Prelude.{None}
 use mathlib.Core.Path.{◌≡◌, refl}
 use mathlib.Core.Bool.{true, false}
-use mathlib.Core.Option.{none}
 use lib.Ieee.{Float}
 use Rattle.model.specs.Types.{Pos2, Modifiers, InputOptions, PointerButton}
 use Rattle.model.specs.Types.{Event, Key, ModifiersChanged, PointerMoved, MouseMoved, Button, PointerGone, Zoom, Rotate, Touch, MouseWheel, WindowFocused, Other}
@@ -12,7 +12,7 @@ pub data PointerView : Event → Type 0 where
   a_move : (v : Pos2) → PointerView (PointerMoved v)
   a_press : (v : Pos2) (b : PointerButton) (m : Modifiers) → PointerView (Button v b true m)
   a_release : (v : Pos2) (b : PointerButton) (m : Modifiers) → PointerView (Button v b false m)
-  nothing : {e : Event} → ((o : InputOptions) (time : Float) (s : Press) → press_event o time e s ≡ s) → button_event e ≡ none → PointerView e
+  nothing : {e : Event} → ((o : InputOptions) (time : Float) (s : Press) → press_event o time e s ≡ s) → button_event e ≡ None → PointerView e
 
 pub pointer_view : (e : Event) → PointerView e
 unfolding press_event button_event

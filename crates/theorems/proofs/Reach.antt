@@ -1,4 +1,5 @@
 -- What holds of every panel reached: an invariant of each call. Assumes nothing.
+use Rattle.std.specs.Prelude.{Option, Some}
 use mathlib.Core.Path.{◌≡◌, refl, sym, ap, subst}
 use mathlib.Core.Bool.{Bool, true, false, ◌&&◌, ◌||◌, cond}
 use mathlib.Core.List.{List, [], ◌∷◌}
@@ -14,7 +15,7 @@ use Rattle.emath.specs.Vec.{vec_zero, vec_ne}
 use Rattle.data.specs.Limits.{max_events, zero32, one32, within32, time_ok, unit_interval_ok}
 use Rattle.feed.specs.Decode.{items}
 use Rattle.model.specs.Numbers.{+0}
-use Rattle.model.specs.Types.{Pos2, InputOptions, Event, MaybeF64, some_time}
+use Rattle.model.specs.Types.{Pos2, InputOptions, Event}
 use Rattle.model.specs.Pointer.{no_buttons, flags_down, CountTrue, ClickPast, Press, any, is_move, move_time, could_any_button_be_click, with_moved, remember_click, release, press_event, press_events, clear_events, press_pass}
 use Rattle.model.specs.Pass.{Panel, Clock, PassInput, fresh, fresh_press, begin_pass, clock_pass, pass_events, time_or, time_of}
 use Rattle.model.specs.Interact.{InteractInput, InteractionSnapshot, with_interaction}
@@ -50,7 +51,7 @@ events_not_after o now [] s n h = h
 events_not_after o now (e ∷ es) s n h = events_not_after o now es (press_event o now e s) n (event_not_after o now e s n h)
 
 -- ---- movements
-pass_moved : (c d : Clock) (b : Bool) (l : MaybeF64) → T (time_ok d.time) → d.pointer_time ≡ d.time → T (le c.time d.time) → LastMove c l → LastMove d (cond b (some_time d.time) l)
+pass_moved : (c d : Clock) (b : Bool) (l : Option Float) → T (time_ok d.time) → d.pointer_time ≡ d.time → T (le c.time d.time) → LastMove c l → LastMove d (cond b (Some d.time) l)
 pass_moved c d true l t e h m = move_by d.time t (le_refl d.time (time_in_range d.time t).is_finite) e
 pass_moved c d false l t e h no_move = no_move
 pass_moved c d false l t e h (move_by at k le-at f) = move_by at k (le_trans at c.time d.time le-at h) e
@@ -112,7 +113,7 @@ reach cs = run_reaches fresh cs (record { time_finite = tt; time_in_domain = +0-
 unfolding fits
 +0-fits = tt
 
-rested : (c : Clock) (l : MaybeF64) → T (time_ok c.time) → LastMove c l → FromZero (maybe_number (since c.pointer_time l))
+rested : (c : Clock) (l : Option Float) → T (time_ok c.time) → LastMove c l → FromZero (maybe_number (since c.pointer_time l))
 unfolding since
 rested c l t no_move = no_seconds
 rested c l t (move_by at k h e) =

@@ -1,7 +1,7 @@
 -- What a taken pass and a taken interact are, and what both-refused calls answer. Assumes nothing.
+use Rattle.std.specs.Prelude.{Option, None, Some}
 use mathlib.Core.Path.{◌≡◌, refl, sym, ap, ◌∙◌}
 use mathlib.Core.Bool.{Bool, true, false, not, ◌&&◌, cond}
-use mathlib.Core.Option.{Option, none, some}
 use lib.Dec.{T, leb}
 use lib.Ieee.{Float, lt}
 use lib.Ieee.Fits.{and_l, and_r}
@@ -22,7 +22,7 @@ pub record Taken (p : Panel) (i : PassInput) (q : Panel) : Type 0 where
   pub in_domain : T (time_ok (time_of i p.clock.time))
   pub options : T (options_ok i.options)
   pub not_before : T (not (lt (time_of i p.clock.time) p.clock.time))
-  pub surveyed : survey max_events (items i.feed) p.touch_states ≡ none
+  pub surveyed : survey max_events (items i.feed) p.touch_states ≡ None
 
 own_options : (i : PassInput) (t : Float) → T (own_numbers_ok i t) → T (time_ok t) × T (options_ok i.options)
 unfolding own_numbers_ok
@@ -43,11 +43,11 @@ taken_is p i q h = own (own_numbers_ok i t) (lt t p.clock.time) (λ x. x) (λ x.
     t = time_of i p.clock.time
 
     fed : (r : Option PassRefusal) → survey max_events (items i.feed) p.touch_states ≡ r → T (own_numbers_ok i t) → T (not (lt t p.clock.time)) → pass_by r p i ≡ P.taken q → Taken p i q
-    fed (some r) e a b k = impossible (cc)
-    fed none e a b k = let z = own_options i t a in record { is = cc; in_domain = z.0; options = z.1; not_before = b; surveyed = e }
+    fed (Some r) e a b k = impossible (cc)
+    fed None e a b k = let z = own_options i t a in record { is = cc; in_domain = z.0; options = z.1; not_before = b; surveyed = e }
 
     own : (a b : Bool) → (T a → T (own_numbers_ok i t)) → (T (not b) → T (not (lt t p.clock.time)))
-        → pass_by (or_else (cond a (cond b (some TimeBelow) none) (some (OutsideDomain 0))) (survey max_events (items i.feed) p.touch_states)) p i ≡ P.taken q → Taken p i q
+        → pass_by (or_else (cond a (cond b (Some TimeBelow) None) (Some (OutsideDomain 0))) (survey max_events (items i.feed) p.touch_states)) p i ≡ P.taken q → Taken p i q
     own false b x y k = impossible (cc)
     own true true x y k = impossible (cc)
     own true false x y k = fed (survey max_events (items i.feed) p.touch_states) refl (x tt) (y tt) k
@@ -76,15 +76,15 @@ interacted_is p x s q h = go (input_refusal x) h
     d = interaction_after (seen p) x p.interaction
 
     full : (r : Option InteractRefusal) → tallied_by r p t d ≡ I.answered s q → Answered p x s q
-    full (some r) k = impossible (cc)
-    full none k =
+    full (Some r) k = impossible (cc)
+    full None k =
         let a : s ≡ t = cc in
         let b : q ≡ with_interaction p d (tally_after t p.tally) = cc in
         record { answer = a; is = b ∙ ap (λ (z : InteractionSnapshot). with_interaction p d (tally_after z p.tally)) (sym a) }
 
     go : (r : Option InteractRefusal) → interact_by r (seen p) p x ≡ I.answered s q → Answered p x s q
-    go (some r) k = impossible (cc)
-    go none k = full (tally_refusal t p.tally) k
+    go (Some r) k = impossible (cc)
+    go None k = full (tally_refusal t p.tally) k
 
 pub answered_is : (p : Panel) (x : InteractInput) (s : InteractionSnapshot) (q : Panel) → call p (interacts x) ≡ answered s q → Answered p x s q
 unfolding call OfInteract
@@ -95,30 +95,30 @@ answered_is p x s q h = interacted_is p x s q (go (interact p x) h)
     go (I.answered t y) k = cc
 
 -- the tally refuses with 10 alone
-pub tally_refuses : (s : InteractionSnapshot) (n : Tally) (r : InteractRefusal) → tally_refusal s n ≡ some r → r ≡ TallyFull
+pub tally_refuses : (s : InteractionSnapshot) (n : Tally) (r : InteractRefusal) → tally_refusal s n ≡ Some r → r ≡ TallyFull
 unfolding tally_refusal
 tally_refuses s n r e = go (is_some s.drag_started && leb max_tally n) e
   where
-    go : (b : Bool) → cond b (some TallyFull) none ≡ some r → r ≡ TallyFull
+    go : (b : Bool) → cond b (Some TallyFull) None ≡ Some r → r ≡ TallyFull
     go true k = cc
     go false k = impossible (cc)
 
 -- ---- a call
 -- its refusal: a pass's is what the panel makes of it, an interact's is decided by its input, or else by the tally
 pub data CallView (p : Panel) : Call → Outcome → Type 0 where
-  pass_refused : (i : PassInput) (r : PassRefusal) → pass_refusal p i ≡ some r → CallView p (passes i) (refused_pass r)
+  pass_refused : (i : PassInput) (r : PassRefusal) → pass_refusal p i ≡ Some r → CallView p (passes i) (refused_pass r)
   pass_taken : (i : PassInput) (q : Panel) → Taken p i q → CallView p (passes i) (passed q)
-  interact_refused : (x : InteractInput) (r : InteractRefusal) → input_refusal x ≡ some r → CallView p (interacts x) (refused_interact r)
-  interact_full : (x : InteractInput) (r : InteractRefusal) → input_refusal x ≡ none → tally_refusal (snapshot (seen p) x p.interaction) p.tally ≡ some r → CallView p (interacts x) (refused_interact r)
+  interact_refused : (x : InteractInput) (r : InteractRefusal) → input_refusal x ≡ Some r → CallView p (interacts x) (refused_interact r)
+  interact_full : (x : InteractInput) (r : InteractRefusal) → input_refusal x ≡ None → tally_refusal (snapshot (seen p) x p.interaction) p.tally ≡ Some r → CallView p (interacts x) (refused_interact r)
   interact_taken : (x : InteractInput) (s : InteractionSnapshot) (q : Panel) → Answered p x s q → CallView p (interacts x) (answered s q)
 
 pub call_view : (p : Panel) (c : Call) → CallView p c (call p c)
 unfolding call OfPass OfInteract pass pass_by interact interact_seen interact_by tallied tallied_by
 call_view p (passes i) = go (pass p i) refl
   where
-    refusal : (o : Option PassRefusal) (r : PassRefusal) → pass_by o p i ≡ P.refused r → o ≡ some r
-    refusal none r k = impossible (cc)
-    refusal (some s) r k = cc
+    refusal : (o : Option PassRefusal) (r : PassRefusal) → pass_by o p i ≡ P.refused r → o ≡ Some r
+    refusal None r k = impossible (cc)
+    refusal (Some s) r k = cc
 
     go : (r : Passed) → pass p i ≡ r → CallView p (passes i) (OfPass r)
     go (P.refused r) k = pass_refused i r (refusal (pass_refusal p i) r k)
@@ -128,13 +128,13 @@ call_view p (interacts x) = go (interact p x) refl
     t : InteractionSnapshot
     t = snapshot (seen p) x p.interaction
 
-    full : (o : Option InteractRefusal) (r : InteractRefusal) → tallied_by o p t (interaction_after (seen p) x p.interaction) ≡ I.refused r → o ≡ some r
-    full none r k = impossible (cc)
-    full (some s) r k = cc
+    full : (o : Option InteractRefusal) (r : InteractRefusal) → tallied_by o p t (interaction_after (seen p) x p.interaction) ≡ I.refused r → o ≡ Some r
+    full None r k = impossible (cc)
+    full (Some s) r k = cc
 
     refusal : (o : Option InteractRefusal) (r : InteractRefusal) → input_refusal x ≡ o → interact_by o (seen p) p x ≡ I.refused r → CallView p (interacts x) (refused_interact r)
-    refusal none r e k = interact_full x r e (full (tally_refusal t p.tally) r k)
-    refusal (some s) r e k = interact_refused x r (cc)
+    refusal None r e k = interact_full x r e (full (tally_refusal t p.tally) r k)
+    refusal (Some s) r e k = interact_refused x r (cc)
 
     go : (r : Interacted) → interact p x ≡ r → CallView p (interacts x) (OfInteract r)
     go (I.refused r) k = refusal (input_refusal x) r refl k

@@ -1,4 +1,5 @@
 -- What a lost event may leave in the click past of two panels, and how it ends. Assumes nothing.
+use Rattle.std.specs.Prelude.{None, Some}
 use mathlib.Core.Path.{◌≡◌, refl, sym, ap, subst}
 use mathlib.Core.Bool.{Bool, true, false, ◌||◌}
 use mathlib.Core.List.{List, [], ◌∷◌, ◌++◌}
@@ -8,7 +9,7 @@ use lib.Ieee.Scale.{finite}
 use Rattle.ieee_laws.proofs.Order.{le_trans, le_not_lt}
 use Rattle.ieee_laws.proofs.Differences.{sub_spans}
 use Rattle.model.specs.Numbers.{neg_infinity}
-use Rattle.model.specs.Types.{Pos2, Modifiers, InputOptions, PointerButton, Event, PointerMoved, Button, no_click, some_click, PointerEvent, Moved, Pressed, Released}
+use Rattle.model.specs.Types.{Pos2, Modifiers, InputOptions, PointerButton, Event, PointerMoved, Button, PointerEvent, Moved, Pressed, Released}
 use Rattle.model.specs.Pointer.{Held, ClickPast, Press, any, is_release, is_click, any_down, no_buttons, could_any_button_be_click, is_decidedly_dragging, count_of, click_count, too_far}
 use Rattle.model.specs.Pointer.{add_event, press_button, release_button, with_moved, remember_click, click_of, release, press_event, press_events, clear_events}
 use Rattle.model.specs.Pass.{or_else}
@@ -178,20 +179,20 @@ module _ (D tc now : Float) (o : InputOptions) (delay : T (le o.max_double_click
   release_as cl h a b v u m c (equal e) = same_past h a b (release cl o now v m u) e
   release_as false h a b v u m c (pressed t times none_yet e la lb) =
       record {
-        held = release_button u no_click h;
+        held = release_button u None h;
         a = a;
         b = b;
         left = refl;
         right = refl;
         flag = false;
         grows = λ x. x;
-        trace = pressed t times (any_more is_click h.pointer_events (Released no_click u) none_yet refl) e la lb;
+        trace = pressed t times (any_more is_click h.pointer_events (Released None u) none_yet refl) e la lb;
       }
   release_as true h a b v u m c (pressed t times none_yet e la lb) =
       let x = far_apart D tc t now a.last_click_time times la in
       let y = far_apart D tc t now b.last_click_time times lb in
       record {
-        held = release_button u (some_click (record { pos = v; count = 1; modifiers = m })) h;
+        held = release_button u (Some (record { pos = v; count = 1; modifiers = m })) h;
         a = remember_click true now v a;
         b = remember_click true now v b;
         left = rw (one_click v a x);
@@ -201,10 +202,10 @@ module _ (D tc now : Float) (o : InputOptions) (delay : T (le o.max_double_click
         trace = clicked e refl refl x y;
       }
   release_as false h a b v u m c (clicked e s l x y) =
-      record { held = release_button u no_click h; a = a; b = b; left = refl; right = refl; flag = true; grows = λ x. x; trace = clicked e s l x y }
+      record { held = release_button u None h; a = a; b = b; left = refl; right = refl; flag = true; grows = λ x. x; trace = clicked e s l x y }
   release_as true h a b v u m c (clicked e s l x y) =
       record {
-        held = release_button u (some_click (record { pos = v; count = click_count o now v a; modifiers = m })) h;
+        held = release_button u (Some (record { pos = v; count = click_count o now v a; modifiers = m })) h;
         a = remember_click true now v a;
         b = remember_click true now v b;
         left = refl;

@@ -1,6 +1,5 @@
 -- Demand 3, first half: drag starts and drag stops balance, and the tally counts the starts. Definitions only.
-use Rattle.std.specs.Prelude.{ℕ, ◌+◌, ◌≤◌, ◌≡◌, cond, List, [], ◌∷◌, eqb}
-use Rattle.std.proofs.Math.Option.{Option, none, some}
+use Rattle.std.specs.Prelude.{ℕ, ◌+◌, ◌≤◌, ◌≡◌, cond, List, [], ◌∷◌, eqb, Option, None, Some}
 use Rattle.data.specs.Limits.{max_tally}
 use Rattle.model.specs.Pass.{fresh}
 use Rattle.model.specs.Interact.{one_if}
@@ -8,8 +7,8 @@ use Rattle.model.specs.Calls.{Call, Outcome, refused_pass, refused_interact, pas
 
 -- 1 if the id is the widget's, else 0
 unfoldable pub one_if_is : ℕ → Option ℕ → ℕ
-one_if_is w none = 0
-one_if_is w (some id) = cond (eqb w id) 1 0
+one_if_is w None = 0
+one_if_is w (Some id) = cond (eqb w id) 1 0
 
 -- 01: "A drag start of a widget is a taken interact that answers its id as drag_started": their number in a list
 unfoldable pub starts : ℕ → List Outcome → ℕ
@@ -45,9 +44,9 @@ all_starts (answered s p ∷ os) = one_if s.drag_started + all_starts os
 
 pub record Balanced (calls : List Call) (widget : ℕ) : Type 0 where
   -- "after the list its drag starts less its drag stops are one if it is dragged and zero otherwise"; 01: "and none is before the first"
-  pub starts_less_stops : starts widget (outcomes fresh calls) ≡ stops widget (outcomes fresh calls) + one_if_is widget (last_dragged none (outcomes fresh calls))
+  pub starts_less_stops : starts widget (outcomes fresh calls) ≡ stops widget (outcomes fresh calls) + one_if_is widget (last_dragged None (outcomes fresh calls))
   -- the widget that the panel itself keeps as dragged is that one
-  pub dragged_is_last : (run fresh calls).interaction.dragged ≡ last_dragged none (outcomes fresh calls)
+  pub dragged_is_last : (run fresh calls).interaction.dragged ≡ last_dragged None (outcomes fresh calls)
   -- 01: "The tally counts the list's drag starts."
   pub tally_counts_starts : (run fresh calls).tally ≡ all_starts (outcomes fresh calls)
   -- 01 item 7: "one 32-bit tally"

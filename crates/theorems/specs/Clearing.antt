@@ -1,9 +1,8 @@
 -- Demand 3, second half: a clearing pass ends the trace of a lost event. What is supposed and what is claimed. Definitions only.
-use Rattle.std.specs.Prelude.{ℕ, ◌≡◌, Bool, true, false, not, ◌&&◌, ◌||◌, List, [], ◌∷◌, ◌++◌, map, T, eqb, Float}
-use Rattle.std.proofs.Math.Option.{Option, none, some}
+use Rattle.std.specs.Prelude.{ℕ, ◌≡◌, Bool, true, false, not, ◌&&◌, ◌||◌, List, [], ◌∷◌, ◌++◌, map, T, eqb, Float, Option, None, Some}
 use Rattle.std.specs.Float.{binary64}
 use Rattle.std.specs.Float.Ieee.{add, sub, le}
-use Rattle.model.specs.Types.{Pos2, Vec2, Rect, Modifiers, InputOptions, Primary, Secondary, Middle, Extra1, Extra2, MouseWheelUnit, MouseWheelSource, MaybeF32, End, ActiveTouch}
+use Rattle.model.specs.Types.{Pos2, Vec2, Rect, Modifiers, InputOptions, Primary, Secondary, Middle, Extra1, Extra2, MouseWheelUnit, MouseWheelSource, End, ActiveTouch}
 use Rattle.model.specs.Types.{Event, Key, ModifiersChanged, PointerMoved, MouseMoved, Button, PointerGone, Zoom, Rotate, Touch, MouseWheel, WindowFocused, Other}
 use Rattle.model.specs.Types.{PassRefusal, Malformed, OutsideDomain, TimeBelow, TooManyEvents, NoPlace, InteractRefusal}
 use Rattle.emath.specs.Vec.{vec_zero, vec_ne}
@@ -22,7 +21,7 @@ pub record TouchEnd : Type 0 where
   pub device_id : ℕ
   pub id : ℕ
   pub pos : Pos2
-  pub force : MaybeF32
+  pub force : Option Float
 
 abbrev pub end_event : TouchEnd → Event
 end_event e = Touch e.device_id e.id End e.pos e.force
@@ -73,9 +72,9 @@ rest_events r =
 pub record Clears (c : PassInput) (p q : Panel) : Type 0 where
   -- 01: "It gives a time and a screen rectangle."
   pub time : Float
-  pub gives_time : c.time ≡ some time
+  pub gives_time : c.time ≡ Some time
   pub screen_rect : Rect
-  pub gives_rect : c.screen_rect ≡ some screen_rect
+  pub gives_rect : c.screen_rect ≡ Some screen_rect
   -- 01: "Its feed is: End for each touch held by either panel;" then the rest, in this order
   pub ends : List TouchEnd
   pub rest : Rest
@@ -98,30 +97,30 @@ Takes past c x p = TakesFrom (run fresh past) c x p
 
 -- of a button event, whether it is a press
 unfoldable pub button_event : Event → Option Bool
-button_event (Key k b) = none
-button_event (ModifiersChanged m) = none
-button_event (PointerMoved v) = none
-button_event (MouseMoved v) = none
-button_event (Button v b pressed m) = some pressed
-button_event PointerGone = none
-button_event (Zoom x) = none
-button_event (Rotate x) = none
-button_event (Touch d i ph v f) = none
-button_event (MouseWheel u v ph s m) = none
-button_event (WindowFocused b) = none
-button_event Other = none
+button_event (Key k b) = None
+button_event (ModifiersChanged m) = None
+button_event (PointerMoved v) = None
+button_event (MouseMoved v) = None
+button_event (Button v b pressed m) = Some pressed
+button_event PointerGone = None
+button_event (Zoom x) = None
+button_event (Rotate x) = None
+button_event (Touch d i ph v f) = None
+button_event (MouseWheel u v ph s m) = None
+button_event (WindowFocused b) = None
+button_event Other = None
 
 -- the first button event of a pass
 unfoldable pub first_button : List Event → Option Bool
-first_button [] = none
+first_button [] = None
 first_button (e ∷ es) = or_else (button_event e) (first_button es)
 
 -- "If the first later button event, where there is one, is a press no sooner than ..": of a taken pass at `time`, where none came before it.
 -- 01: "the f64 difference of that press's pass time and the clearing pass's is at least" the gap
 abbrev pub FirstIsPress : Float → Float → Float → Option Bool → Type 0
-FirstIsPress gap cleared time none = Unit {0}
-FirstIsPress gap cleared time (some false) = ⊥
-FirstIsPress gap cleared time (some true) = T (le gap (sub binary64 time cleared))
+FirstIsPress gap cleared time None = Unit {0}
+FirstIsPress gap cleared time (Some false) = ⊥
+FirstIsPress gap cleared time (Some true) = T (le gap (sub binary64 time cleared))
 
 abbrev pub Unless : Bool → Type 0 → Type 0
 Unless true A = Unit {0}
@@ -129,8 +128,8 @@ Unless false A = A
 
 -- has a button event come: before, or in this pass
 abbrev pub button_came : Bool → Option Bool → Bool
-button_came before none = before
-button_came before (some pressed) = true
+button_came before None = before
+button_came before (Some pressed) = true
 
 abbrev pub is_refused : Outcome → Bool
 is_refused (refused_pass r) = true

@@ -1,6 +1,5 @@
 -- Two panels that meet all that Clearing supposes: one holds a drag whose release and whose touch's End were lost, the other is fresh. Definitions only.
-use Rattle.std.specs.Prelude.{ℕ, ◌≡◌, true, false, cond, List, [], ◌∷◌, eqb, Float}
-use Rattle.std.proofs.Math.Option.{none, some}
+use Rattle.std.specs.Prelude.{ℕ, ◌≡◌, true, false, cond, List, [], ◌∷◌, eqb, Float, None, Some}
 use Rattle.std.specs.Float.{binary32, binary64}
 use Rattle.std.specs.Float.Ieee.{of_bits}
 use Rattle.model.specs.Options.{default_options}
@@ -28,8 +27,8 @@ screen = record { min = corner; max = record { x = hundred; y = hundred } }
 unfoldable pub pass_at : ℕ → List ℕ → PassInput
 pass_at t feed =
     record {
-      time = some (of_bits binary64 t);
-      screen_rect = some screen;
+      time = Some (of_bits binary64 t);
+      screen_rect = Some screen;
       predicted_dt = zero32;
       smoothing_factor = zero32;
       pixels_per_point = of_bits binary32 0x3f80_0000;
@@ -54,10 +53,10 @@ unfoldable pub on_widget : InteractInput
 on_widget =
     let w : WidgetRect = record { id = 5; parent_id = 1; layer_id = record { order = 0; id = 1 }; rect = screen; interact_rect = screen; sense = 2; enabled = true; visible = true } in
     let h : Hit = record { id = 5; sense = 2 } in
-    record { widgets = λ d. cond (eqb d 5) (some w) none; close = h ∷ []; contains_pointer = h ∷ []; click = none; drag = some h; hovered_places = 66; contains_places = 66 }
+    record { widgets = λ d. cond (eqb d 5) (Some w) None; close = h ∷ []; contains_pointer = h ∷ []; click = None; drag = Some h; hovered_places = 66; contains_places = 66 }
 
 unfoldable pub on_nothing : InteractInput
-on_nothing = record { widgets = λ d. none; close = []; contains_pointer = []; click = none; drag = none; hovered_places = 66; contains_places = 66 }
+on_nothing = record { widgets = λ d. None; close = []; contains_pointer = []; click = None; drag = None; hovered_places = 66; contains_places = 66 }
 
 -- a primary press and the Start of touch 1 of device 7, both at (10, 20), on the widget: nothing of it ends
 unfoldable pub drag_without_end : List Call
@@ -95,7 +94,7 @@ pub record Example : Type 0 where
   pub takes_q : Takes [] clearing_pass on_nothing q
   pub fair : Fair (λ o. o ≡ clearing_pass.options) (twice clearing_pass.options.max_double_click_delay) clears.time false p q later
   -- before it, one drags the widget; after it, the tallies differ
-  pub p_drags : ask (settled dragged) (run fresh drag_without_end) ≡ widget (some 5)
-  pub q_drags_none : ask (settled dragged) fresh ≡ widget none
+  pub p_drags : ask (settled dragged) (run fresh drag_without_end) ≡ widget (Some 5)
+  pub q_drags_none : ask (settled dragged) fresh ≡ widget None
   pub p_tally : ask tally p ≡ count 1
   pub q_tally : ask tally q ≡ count 0

@@ -1,11 +1,10 @@
 -- What holds of every panel that a list of calls reaches from the fresh one. Definitions only.
-use Rattle.std.specs.Prelude.{◌≡◌, Bool, not, List, T, Float}
-use Rattle.std.proofs.Math.Option.{none}
+use Rattle.std.specs.Prelude.{◌≡◌, Bool, not, List, T, Float, Option, None, Some}
 use Rattle.std.specs.Float.Ieee.{lt, le}
 use Rattle.std.specs.Float.Ieee.Scale.{finite}
 use Rattle.data.specs.Limits.{time_ok, unit_interval_ok}
 use Rattle.model.specs.Numbers.{+0, neg_infinity}
-use Rattle.model.specs.Types.{ButtonsDown, PointerButton, MaybeF64, no_time, some_time, no_number, Some_number}
+use Rattle.model.specs.Types.{ButtonsDown, PointerButton}
 use Rattle.model.specs.Pointer.{no_buttons, set_down, buttons, any_flag, CountTrue}
 use Rattle.model.specs.Pointer as Pointer
 use Rattle.model.specs.Touch.{InOrder}
@@ -19,9 +18,9 @@ pub data NotAfter (now t : Float) : Type 0 where
   by : T (finite t) → T (le t now) → NotAfter now t
 
 -- the last movement's time: none, or in the domain and not later than now, which is then the pointer's time too
-pub data LastMove (c : Clock) : MaybeF64 → Type 0 where
-  no_move : LastMove c no_time
-  move_by : (t : Float) → T (time_ok t) → T (le t c.time) → c.pointer_time ≡ c.time → LastMove c (some_time t)
+pub data LastMove (c : Clock) : Option Float → Type 0 where
+  no_move : LastMove c None
+  move_by : (t : Float) → T (time_ok t) → T (le t c.time) → c.pointer_time ≡ c.time → LastMove c (Some t)
 
 -- 02 A.7: "Press of a button already down and release of one already up must leave it true"; and where it is true, `any_down` is egui's scan of the flags
 pub record CountLaws : Type 0 where
@@ -58,8 +57,8 @@ RunsKeepCount = (p : Panel) → CountTrue p.press.held.down → (calls : List Ca
 
 -- an answer in seconds: none, or at least 0 and so a number
 pub data FromZero : Reply → Type 0 where
-  no_seconds : FromZero (maybe_number no_number)
-  seconds : (x : Float) → T (le +0 x) → FromZero (maybe_number (Some_number x))
+  no_seconds : FromZero (maybe_number None)
+  seconds : (x : Float) → T (le +0 x) → FromZero (maybe_number (Some x))
 
 -- 02 A.4: "the seconds since the last movement, or 'none' before any"
 abbrev pub RestedFromZero : Type 0
@@ -72,4 +71,4 @@ TimeNeverFalls = (calls later : List Call) → T (le (run fresh calls).clock.tim
 -- 01, row 3: "given time below the state's". An absent time, the old one plus predicted dt, is never below it
 abbrev pub AbsentTimeNeverBelow : Type 0
 AbsentTimeNeverBelow =
-    (calls : List Call) (i : PassInput) → i.time ≡ none → T (unit_interval_ok i.predicted_dt) → T (not (lt (time_of i (run fresh calls).clock.time) (run fresh calls).clock.time))
+    (calls : List Call) (i : PassInput) → i.time ≡ None → T (unit_interval_ok i.predicted_dt) → T (not (lt (time_of i (run fresh calls).clock.time) (run fresh calls).clock.time))

@@ -1,6 +1,5 @@
 -- What `zoom_factor` answers.
-use Rattle.std.specs.Prelude.{ℕ, ◌+◌, ◌-◌, ◌*◌, ◌≤◌, ◌<◌, Bool, not, ◌&&◌, ◌≡◌, T, Float}
-use Rattle.std.proofs.Math.Option.{none}
+use Rattle.std.specs.Prelude.{ℕ, ◌+◌, ◌-◌, ◌*◌, ◌≤◌, ◌<◌, Bool, not, ◌&&◌, ◌≡◌, T, Float, None, Ok, Err, Result}
 use Rattle.std.specs.Float.{binary32}
 use Rattle.std.specs.Float.Ieee.{le, of_bits}
 use Rattle.std.specs.Float.Ieee.Positive.{num, den, positive}
@@ -8,8 +7,6 @@ use Rattle.data.specs.Numbers.{Row}
 use Rattle.zoom_factor.specs.Series.{negative, plus_terms, minus_terms, numerator, denominator}
 use Rattle.zoom_factor.specs.declared.ZoomRefusal.{ZoomRefusal}
 use Rattle.zoom_factor.specs.declared.ZoomRefusal.TheVariants.{ExponentOutside}
-use Rattle.zoom_factor.specs.declared.ZoomAnswer.{ZoomAnswer}
-use Rattle.zoom_factor.specs.declared.ZoomAnswer.TheVariants.{Factor, Refused}
 
 -- "an f32 exponent e of size at most 1": from -1 to 1, which no not-a-number is
 unfoldable pub unit_sized : Float → Bool
@@ -33,9 +30,9 @@ zoom_refusal_number ExponentOutside = 13
 
 -- "Numbers from 11 on join 01's table: returned alone"
 abbrev pub zoom_row : ZoomRefusal → Row
-zoom_row q = record { number = zoom_refusal_number q; index = none }
+zoom_row q = record { number = zoom_refusal_number q; index = None }
 
 -- the answer to every f32: a factor where e is of size at most 1, else the row of 13
-abbrev pub Answers : Float → ZoomAnswer → Type 0
-Answers e (Factor r) = T (unit_sized e) × Close e r
-Answers e (Refused q) = T (not (unit_sized e)) × (zoom_row q ≡ record { number = 13; index = none })
+abbrev pub Answers : Float → Result Float ZoomRefusal → Type 0
+Answers e (Ok r) = T (unit_sized e) × Close e r
+Answers e (Err q) = T (not (unit_sized e)) × (zoom_row q ≡ record { number = 13; index = None })

@@ -25,12 +25,6 @@ impl ZoomRefusal {
     }
 }
 
-#[derive(Clone, Copy)]
-pub enum ZoomAnswer {
-    Factor(f32),
-    Refused(ZoomRefusal),
-}
-
 // 1 in units
 const ONE: u64 = 0x4000_0000;
 
@@ -99,7 +93,7 @@ fn nearest(sum: u64) -> f32
     ((sum + 128) / 256) as f32 / 4194304.0
 }
 
-pub fn zoom_factor(exponent: f32) -> ZoomAnswer
+pub fn zoom_factor(exponent: f32) -> Result<f32, ZoomRefusal>
     ensures { Answers exponent result }
 {
     if -1.0 <= exponent {
@@ -107,8 +101,8 @@ pub fn zoom_factor(exponent: f32) -> ZoomAnswer
             let bits: u32 = f32::to_bits(exponent);
             let size = units((bits % SIGN) as u64);
             let sum = series(bits >= SIGN, size);
-            return ZoomAnswer::Factor(nearest(sum));
+            return Ok(nearest(sum));
         }
     }
-    ZoomAnswer::Refused(ZoomRefusal::ExponentOutside)
+    Err(ZoomRefusal::ExponentOutside)
 }

@@ -1,3 +1,4 @@
+use Rattle.std.specs.Prelude.{Option, None, Some}
 use mathlib.Core.Path.{◌≡◌}
 use mathlib.Core.List.{List}
 use Prim.Native.Nat.{ℕ, suc, ◌+◌, ◌/◌, ◌%◌, ◌<◌}
@@ -8,30 +9,27 @@ use borrow.Author.Tests.{le-ltb, lt-ltb, ne_eqb}
 use Rattle.emath.specs.declared.pos2.Pos2.{Pos2}
 use Rattle.data.specs.declared.event.Event.TheVariants.{Touch}
 use Rattle.data.specs.declared.touch.TouchPhase.{TouchPhase}
-use Rattle.data.specs.declared.touch.MaybeF32.{MaybeF32}
-use Rattle.data.specs.declared.touch.MaybeF32.TheVariants.{None as no_force, Some as some_force}
-use Rattle.feed.specs.declared.found.MaybeEvent.TheVariants.{Some as some_event}
 use Rattle.feed.specs.Shape.{clean, float_of, pos_of, id_of, phase_of, force_of, touch_shape}
 use Rattle.feed.proofs.Words.{word_after}
 use Rattle.feed_shape.proofs.shape.touch_shape.Goals as goal
 
 -- a touch by its words' places in the feed
-touched : (ws : List ℕ) (at low : ℕ) (device id : ℕ) (phase : TouchPhase) (pos : Pos2) (force : MaybeF32) → low < 8 →
+touched : (ws : List ℕ) (at low : ℕ) (device id : ℕ) (phase : TouchPhase) (pos : Pos2) (force : Option Float) → low < 8 →
     device ≡ id_of (get_or ws (at + 1) 0) (get_or ws (at + 2) 0) →
     id ≡ id_of (get_or ws (at + 3) 0) (get_or ws (at + 4) 0) →
     phase ≡ phase_of (low % 4) →
     pos ≡ pos_of (get_or ws (at + 5) 0) (get_or ws (at + 6) 0) →
     force ≡ force_of (low / 4 % 2) (get_or ws (at + 7) 0) →
-    some_event (Touch device id phase pos force) ≡ touch_shape low (drop (suc at) ws)
+    Some (Touch device id phase pos force) ≡ touch_shape low (drop (suc at) ws)
 unfolding touch_shape clean
 touched ws at low device id phase pos force h d i p o f =
     rw (lt-ltb _ _ h, word_after ws at 0, word_after ws at 1, word_after ws at 2, word_after ws at 3, word_after ws at 4, word_after ws at 5, word_after ws at 6, d, i, p, o, f)
 
-forced : (n w : ℕ) (x : Float) → n ≡ 1 → x ≡ float_of w → some_force x ≡ force_of n w
+forced : (n w : ℕ) (x : Float) → n ≡ 1 → x ≡ float_of w → Some x ≡ force_of n w
 unfolding force_of
 forced n w x h e = rw (h, e)
 
-unforced : (n w : ℕ) → (n ≡ 1 → ⊥) → no_force ≡ force_of n w
+unforced : (n w : ℕ) → (n ≡ 1 → ⊥) → None ≡ force_of n w
 unfolding force_of
 unforced n w h = rw (ne_eqb _ _ h)
 
