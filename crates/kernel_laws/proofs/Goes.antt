@@ -13,11 +13,11 @@ use Rattle.feed.specs.Encode.{encode_all}
 use Rattle.kernel_record.specs.declared.KernelRecord.{KernelRecord}
 use Rattle.kernel_record.specs.Records.{record_bytes, held_dropped}
 use Rattle.kernel_touch.specs.declared.slots.KernelTouches.{KernelTouches}
+use Rattle.kernel_touch.specs.declared.answer.KernelRefusal.{KernelRefusal}
 use Rattle.kernel_touch.specs.declared.answer.KernelRefusal.TheVariants.{FeedFull}
-use Rattle.kernel_touch.specs.declared.answer.KernelAnswer.TheVariants.{Taken}
+use Rattle.kernel_touch.specs.declared.answer.Taken.{Taken}
 use Rattle.kernel_touch.specs.declared.answer.KernelRead.{KernelRead}
-use Rattle.kernel_touch.specs.declared.answer.MaybeRefusal.{MaybeRefusal}
-use Rattle.kernel_touch.specs.declared.answer.MaybeRefusal.TheVariants as maybe
+use Rattle.std.specs.Prelude.{Result, Ok, Err, ⊤}
 use Rattle.kernel_touch.specs.Slots.{fresh}
 use Rattle.kernel_touch.specs.Step.{after, refusal, unless}
 use Rattle.kernel_report.proofs.Written.{encode_append}
@@ -35,10 +35,10 @@ unfoldable then_run : KernelOutcome → ℕ → ℕ → List KernelRecord → Ke
 then_run (refused q) device room ss = refused q
 then_run (taken k es) device room ss = run device room ss k es
 
-by_then : (q : MaybeRefusal) (o : KernelOutcome) (device room : ℕ) (ss : List KernelRecord) → by q (then_run o device room ss) ≡ then_run (by q o) device room ss
+by_then : (q : Result ⊤ KernelRefusal) (o : KernelOutcome) (device room : ℕ) (ss : List KernelRecord) → by q (then_run o device room ss) ≡ then_run (by q o) device room ss
 unfolding by then_run
-by_then maybe.None o device room ss = refl
-by_then (maybe.Some q) o device room ss = refl
+by_then (Ok t) o device room ss = refl
+by_then (Err q) o device room ss = refl
 
 run_append : (device room : ℕ) (rs ss : List KernelRecord) (k : KernelTouches) (es : List Event) →
     run device room (rs ++ ss) k es ≡ then_run (run device room rs k es) device room ss
@@ -59,10 +59,10 @@ verdict_joined room es fs r k h =
     ap (λ (b : Bool). cond (acts r k) (unless b FeedFull) (refusal r k))
     (ap (λ (n : ℕ). leb n room) both ∙ shifted (length (encode_all es)) (length (encode_all fs)) (room - length (encode_all es)) room (omega arith))
 
-by_joined : (q : MaybeRefusal) (es : List Event) (o : KernelOutcome) → by q (joined es o) ≡ joined es (by q o)
+by_joined : (q : Result ⊤ KernelRefusal) (es : List Event) (o : KernelOutcome) → by q (joined es o) ≡ joined es (by q o)
 unfolding by joined
-by_joined maybe.None es o = refl
-by_joined (maybe.Some q) es o = refl
+by_joined (Ok t) es o = refl
+by_joined (Err q) es o = refl
 
 run_joined : (device room : ℕ) (es : List Event) → length (encode_all es) ≤ room → (rs : List KernelRecord) (k : KernelTouches) (fs : List Event) →
     run device room rs k (es ++ fs) ≡ joined es (run device (room - length (encode_all es)) rs k fs)
@@ -123,26 +123,27 @@ pub fits : Fits
 unfolding outcome
 fits k c next es e = call_fits k c.device c.bytes c.room next es e
 
-call_answered : (k : KernelTouches) (device : ℕ) (bytes feed feed' : List ℕ) (n : ℕ) (dropped held : Bool) (o : KernelOutcome) → InRange k.slots →
-    read k device bytes (length feed) ≡ o → answer_of held o ≡ Taken n dropped → feed' ≡ feed_of feed o →
-    (n ≤ length feed) × Says (events_in o) (take n feed')
+call_answered : (k : KernelTouches) (device : ℕ) (bytes feed feed' : List ℕ) (t : Taken) (held : Bool) (o : KernelOutcome) → InRange k.slots →
+    read k device bytes (length feed) ≡ o → answer_of held o ≡ Ok t → feed' ≡ feed_of feed o →
+    (t.words ≤ length feed) × Says (events_in o) (take t.words feed')
 unfolding answer_of feed_of words_of events_in outcome
-call_answered k device bytes feed feed' n dropped held (refused q) h e a f = let z : ◌≡◌ {A = ℕ} 0 1 = cc in absurd (omega arith)
-call_answered k device bytes feed feed' n dropped held (taken next es) h e a f =
+call_answered k device bytes feed feed' t held (refused q) h e a f = let z : ◌≡◌ {A = ℕ} 0 1 = cc in absurd (omega arith)
+call_answered k device bytes feed feed' t held (taken next es) h e a f =
     let c : Call = record { device = device; bytes = bytes; room = length feed } in
     let ws = encode_all es in
-    let words : length ws ≡ n = cc in
-    let first : take n feed' ≡ ws = ap (take n) f ∙ take_at ws (drop (length ws) feed) n words in
+    let same : record { words = length ws; dropped = held } ≡ t = cc in
+    let words : length ws ≡ t.words = ap (λ (x : Taken). x.words) same in
+    let first : take t.words feed' ≡ ws = ap (take t.words) f ∙ take_at ws (drop (length ws) feed) t.words words in
     (omega (arith, words, fits k c next es e), subst (λ (x : List ℕ). Says es x) (sym first) (decodes k c next es h e))
 
 pub answered : Answered
 unfolding read_of
-answered past device bytes feed r feed' n dropped h e =
+answered past device bytes feed r feed' t h e =
     let k = after_calls fresh past in
     let o = read k device bytes (length feed) in
     let held = held_dropped (all_records bytes) in
-    let same : answer_of held o ≡ Taken n dropped = sym (ap (λ (x : KernelRead). x.answer) h.result) ∙ e in
-    call_answered k device bytes feed feed' n dropped held o (keeps_range.calls past) refl same h.feed_is
+    let same : answer_of held o ≡ Ok t = sym (ap (λ (x : KernelRead). x.answer) h.result) ∙ e in
+    call_answered k device bytes feed feed' t held o (keeps_range.calls past) refl same h.feed_is
 
 -- ---- the slots that it returns are those of the definitions
 called : {k : KernelTouches} {cs : List Call} {last : KernelTouches} → Called k cs last → last ≡ after_calls k cs

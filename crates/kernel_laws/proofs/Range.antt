@@ -4,7 +4,6 @@ use native.Mathlib.Omega.{arith}
 use mathlib.Core.Path.{◌≡◌, refl, sym, ap, ◌∙◌, subst}
 use mathlib.Core.Bool.{Bool, true, false, cond, ◌&&◌}
 use mathlib.Core.List.{List, [], ◌∷◌, ◌++◌, map}
-use mathlib.Core.Option.{none, some}
 use lib.Dec.{T, leb, leb→le, lit<}
 use lib.IntN.{ℤ, pos, negsuc, nat_abs}
 use lib.ListN.{length}
@@ -27,8 +26,7 @@ use Rattle.kernel_touch.specs.declared.slots.Slot.{Slot}
 use Rattle.kernel_touch.specs.declared.slots.KernelTouches.{KernelTouches}
 use Rattle.kernel_touch.specs.declared.answer.KernelRefusal.{KernelRefusal}
 use Rattle.kernel_touch.specs.declared.answer.KernelRefusal.TheVariants.{FeedFull}
-use Rattle.kernel_touch.specs.declared.answer.MaybeRefusal.{MaybeRefusal}
-use Rattle.kernel_touch.specs.declared.answer.MaybeRefusal.TheVariants as maybe
+use Rattle.std.specs.Prelude.{Result, Ok, None, Some, ⊤}
 use Rattle.kernel_touch.specs.Slots.{no_finger, empty_slots, fresh, finger_at, put_at, chosen_finger, put_finger, with_x, with_y, with_id, choose, skips, settle, settled}
 use Rattle.kernel_touch.specs.Step.{unless, bad, done, skipped, after, refusal}
 use Rattle.kernel_report.specs.declared.change.Change.{Change}
@@ -101,12 +99,12 @@ unfolding empty_slots
 empty_in zero = tt
 empty_in (suc n) = (no_finger_in, empty_in n)
 
-passed : (b : Bool) (q : KernelRefusal) → unless b q ≡ maybe.None → T b
+passed : (b : Bool) (q : KernelRefusal) → unless b q ≡ Ok tt → T b
 unfolding unless
 passed true q e = tt
 passed false q e = let z : ◌≡◌ {A = ℕ} 0 1 = cc in absurd (omega arith)
 
-done_in : (r : KernelRecord) (k : KernelTouches) → bad r ≡ maybe.None → InRange k.slots → InRange (done r k).slots
+done_in : (r : KernelRecord) (k : KernelTouches) → bad r ≡ Ok tt → InRange k.slots → InRange (done r k).slots
 unfolding done bad choose with_x with_y with_id put_finger chosen_finger skips settled
 done_in (MtSlot v) k e h = h
 done_in (MtPositionX v) k e h = put_in k.chosen _ k.slots (passed (position_ok v) _ e, (finger_in k.chosen k.slots h).1) h
@@ -125,7 +123,7 @@ skipped_in r k h = go (is_end r)
     go false = h
 
 -- a report end refuses nothing of itself
-judged : (r : KernelRecord) (q : MaybeRefusal) → cond (is_end r) q (bad r) ≡ maybe.None → bad r ≡ maybe.None
+judged : (r : KernelRecord) (q : Result ⊤ KernelRefusal) → cond (is_end r) q (bad r) ≡ Ok tt → bad r ≡ Ok tt
 unfolding is_end bad
 judged (MtSlot v) q e = e
 judged (MtPositionX v) q e = e
@@ -135,7 +133,7 @@ judged ReportEnd q e = refl
 judged Dropped q e = e
 judged Other q e = e
 
-record_in : (room : ℕ) (all : List Event) (r : KernelRecord) (k : KernelTouches) → verdict room all r k ≡ maybe.None → InRange k.slots →
+record_in : (room : ℕ) (all : List Event) (r : KernelRecord) (k : KernelTouches) → verdict room all r k ≡ Ok tt → InRange k.slots →
     InRange (after r k).slots
 unfolding verdict acts refusal after
 record_in room all r k v h = go k.skipping refl
@@ -144,7 +142,7 @@ record_in room all r k v h = go k.skipping refl
     go true e = subst (λ (b : Bool). InRange (cond b (skipped r k) (done r k)).slots) (sym e) (skipped_in r k h)
     go false e =
         let full = unless (leb (length (encode_all all)) room) FeedFull in
-        let here : cond (is_end r) full (bad r) ≡ maybe.None = ap (λ (b : Bool). cond (cond b false (is_end r)) full (cond b maybe.None (bad r))) (sym e) ∙ v in
+        let here : cond (is_end r) full (bad r) ≡ Ok tt = ap (λ (b : Bool). cond (cond b false (is_end r)) full (cond b (Ok tt) (bad r))) (sym e) ∙ v in
         subst (λ (b : Bool). InRange (cond b (skipped r k) (done r k)).slots) (sym e) (done_in r k (judged r full here) h)
 
 -- ---- and so its events are of the domain
@@ -218,7 +216,7 @@ unfolding fresh
 keeps_range = record { fresh_slots = empty_in max_slots; call = call_keeps; calls = λ cs. calls_keep fresh cs (empty_in max_slots) }
 
 -- ---- good events are refused for their number alone
-only_4 : (left : ℕ) (is : List Item) (es : List Event) → map (λ (i : Item). i.what) is ≡ map good es → (q : PassRefusal) → first_refusal left is ≡ some q →
+only_4 : (left : ℕ) (is : List Item) (es : List Event) → map (λ (i : Item). i.what) is ≡ map good es → (q : PassRefusal) → first_refusal left is ≡ Some q →
     (index : ℕ) × (q ≡ TooManyEvents index)
 unfolding first_refusal then_refusal
 only_4 left [] es e q h = let z : ◌≡◌ {A = ℕ} 0 1 = cc in absurd (omega arith)
@@ -229,7 +227,7 @@ only_4 (suc left) (i ∷ is) (x ∷ es) e q h =
     let rest : map (λ (u : Item). u.what) is ≡ map good es = cc in
     only_4 left is es rest q (sym (ap (λ w. then_refusal i.index w (first_refusal left is)) first) ∙ h)
 
-up_to : (left : ℕ) (is : List Item) (es : List Event) → map (λ (i : Item). i.what) is ≡ map good es → length es ≤ left → first_refusal left is ≡ none
+up_to : (left : ℕ) (is : List Item) (es : List Event) → map (λ (i : Item). i.what) is ≡ map good es → length es ≤ left → first_refusal left is ≡ None
 unfolding first_refusal then_refusal
 up_to left [] es e h = refl
 up_to left (i ∷ is) [] e h = let z : ◌≡◌ {A = ℕ} 0 1 = cc in absurd (omega arith)

@@ -13,7 +13,7 @@ use Rattle.kernel_record.specs.declared.KernelRecord.{KernelRecord}
 use Rattle.kernel_record.specs.Records.{record_bytes}
 use Rattle.kernel_touch.specs.declared.slots.KernelTouches.{KernelTouches}
 use Rattle.kernel_touch.specs.declared.answer.KernelRefusal.TheVariants.{Length, FeedFull}
-use Rattle.kernel_touch.specs.declared.answer.MaybeRefusal.TheVariants as maybe
+use Rattle.std.specs.Prelude.{Ok}
 use Rattle.kernel_touch.specs.Step.{after, refusal, unless}
 use Rattle.kernel_report.proofs.Written.{encode_none}
 use Rattle.kernel_read.specs.Read.{acts, events, verdict, refused, taken, run, all_records, read, is_taken}
@@ -23,7 +23,7 @@ use Rattle.kernel_read.proofs.Run.{by_cases, grown, no_words, fits_if, run_next,
 pub data Steps (device room : ℕ) (next : KernelTouches) (all : List Event) : List KernelRecord → KernelTouches → List Event → Type 0 where
   last : {k : KernelTouches} {es : List Event} → k ≡ next → es ≡ all → Steps device room next all [] k es
   step : {r : KernelRecord} {rs : List KernelRecord} {k : KernelTouches} {es : List Event} →
-      verdict room (es ++ events device r k) r k ≡ maybe.None → Steps device room next all rs (after r k) (es ++ events device r k) →
+      verdict room (es ++ events device r k) r k ≡ Ok tt → Steps device room next all rs (after r k) (es ++ events device r k) →
       Steps device room next all (r ∷ rs) k es
 
 pub steps_of : (device room : ℕ) (next : KernelTouches) (all : List Event) (rs : List KernelRecord) (k : KernelTouches) (es : List Event) →
@@ -73,7 +73,7 @@ call_taken k device bytes room next es w = read_run k device bytes room true w.w
 -- ---- its words fit
 -- a record that is not refused
 pub record_fits : (device room : ℕ) (r : KernelRecord) (k : KernelTouches) (es : List Event) → length (encode_all es) ≤ room →
-    verdict room (es ++ events device r k) r k ≡ maybe.None → length (encode_all (es ++ events device r k)) ≤ room
+    verdict room (es ++ events device r k) r k ≡ Ok tt → length (encode_all (es ++ events device r k)) ≤ room
 unfolding verdict
 record_fits device room r k es h v = by_cases (length (encode_all (es ++ events device r k)) ≤ room) (acts r k)
     (λ a. leb-true _ room (fits_if _ (ap (λ (b : Bool). cond b (unless (leb (length (encode_all (es ++ events device r k))) room) FeedFull) (refusal r k)) (sym a) ∙ v)))
@@ -99,9 +99,9 @@ steps_grow device room next all (r ∷ rs) k es (step v s) =
     omega (arith, grown device r k es, steps_grow device room next all rs (after r k) (es ++ events device r k) s)
 
 verdict_enough : (room enough : ℕ) (all : List Event) (r : KernelRecord) (k : KernelTouches) → length (encode_all all) ≤ enough →
-    verdict room all r k ≡ maybe.None → verdict enough all r k ≡ maybe.None
+    verdict room all r k ≡ Ok tt → verdict enough all r k ≡ Ok tt
 unfolding verdict
-verdict_enough room enough all r k h v = by_cases (cond (acts r k) (unless (leb (length (encode_all all)) enough) FeedFull) (refusal r k) ≡ maybe.None) (acts r k)
+verdict_enough room enough all r k h v = by_cases (cond (acts r k) (unless (leb (length (encode_all all)) enough) FeedFull) (refusal r k) ≡ Ok tt) (acts r k)
     (λ a. (λ j. cond (a j) (unless (le-leb (length (encode_all all)) enough h j) FeedFull) (refusal r k)) ∙ (unfold unless in refl))
     (λ a.
     ap (λ (b : Bool). cond b (unless (leb (length (encode_all all)) enough) FeedFull) (refusal r k)) a

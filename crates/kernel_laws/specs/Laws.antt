@@ -1,6 +1,5 @@
 -- What is promised of the converter beside its contract.
-use Rattle.std.specs.Prelude.{ℕ, ◌+◌, ◌%◌, ◌≤◌, ◌≡◌, Bool, ◌||◌, List, ◌++◌, map, ◌⊎◌, length, take}
-use Rattle.std.proofs.Math.Option.{none, some}
+use Rattle.std.specs.Prelude.{ℕ, ◌+◌, ◌%◌, ◌≤◌, ◌≡◌, ◌||◌, List, ◌++◌, map, ◌⊎◌, length, take, Ok, None, Some}
 use Rattle.data.specs.Limits.{max_events}
 use Rattle.data.specs.Numbers.{pass_refusal_number}
 use Rattle.feed.specs.Types.{Event, PassRefusal, TooManyEvents}
@@ -12,7 +11,7 @@ use Rattle.model.specs.Pass as Pass
 use Rattle.model.specs.Pass.{Panel, PassInput, own_refusal, pass}
 use Rattle.kernel_record.specs.Records.{record_bytes, held_dropped}
 use Rattle.kernel_touch.specs.declared.slots.KernelTouches.{KernelTouches}
-use Rattle.kernel_touch.specs.declared.answer.KernelAnswer.TheVariants.{Taken}
+use Rattle.kernel_touch.specs.declared.answer.Taken.{Taken}
 use Rattle.kernel_touch.specs.declared.answer.KernelRead.{KernelRead}
 use Rattle.kernel_touch.specs.Slots.{fresh}
 use Rattle.kernel_read.specs.Read.{taken, all_records, read, kernel_of, Reads}
@@ -37,8 +36,8 @@ pub record Says (es : List Event) (ws : List ℕ) : Type 0 where
   pub each_good : map (λ (i : Item). i.what) (items ws) ≡ map good es
   pub events : events_of (items ws) ≡ es
   -- of what a feed alone decides, it is refused with 4 only, and not with up to 64 events
-  pub only_4 : (q : PassRefusal) → feed_refusal ws ≡ some q → (index : ℕ) × (q ≡ TooManyEvents index)
-  pub up_to_64 : length es ≤ max_events → feed_refusal ws ≡ none
+  pub only_4 : (q : PassRefusal) → feed_refusal ws ≡ Some q → (index : ℕ) × (q ≡ TooManyEvents index)
+  pub up_to_64 : length es ≤ max_events → feed_refusal ws ≡ None
 
 -- the words of a taken call, of slots whose positions are of the domain
 abbrev pub Decodes : Type 0
@@ -49,7 +48,7 @@ Decodes =
 abbrev pub LeftToPass : Type 0
 LeftToPass =
     (p : Panel) (i : PassInput) (es : List Event) (q : PassRefusal) → Says es i.feed → pass p i ≡ Pass.refused q →
-    (own_refusal i p.clock.time ≡ some q) ⊎ ((pass_refusal_number q ≡ 4) ⊎ (pass_refusal_number q ≡ 5))
+    (own_refusal i p.clock.time ≡ Some q) ⊎ ((pass_refusal_number q ≡ 4) ⊎ (pass_refusal_number q ≡ 5))
 
 -- ---- "Fits"
 abbrev pub Fits : Type 0
@@ -58,9 +57,9 @@ Fits = (k : KernelTouches) (c : Call) (next : KernelTouches) (es : List Event) �
 -- what the caller of `read_records` has of both, after any calls: it answers n words, the buffer has so many, and they say the call's events
 abbrev pub Answered : Type 0
 Answered =
-    (past : List Call) (device : ℕ) (bytes feed : List ℕ) (r : KernelRead) (feed' : List ℕ) (n : ℕ) (dropped : Bool) →
-    Reads (after_calls fresh past) device bytes feed r feed' → r.answer ≡ Taken n dropped →
-    (n ≤ length feed) × Says (events_in (read (after_calls fresh past) device bytes (length feed))) (take n feed')
+    (past : List Call) (device : ℕ) (bytes feed : List ℕ) (r : KernelRead) (feed' : List ℕ) (t : Taken) →
+    Reads (after_calls fresh past) device bytes feed r feed' → r.answer ≡ Ok t →
+    (t.words ≤ length feed) × Says (events_in (read (after_calls fresh past) device bytes (length feed))) (take t.words feed')
 
 -- ---- "Goes on": two calls of whole records are one call with the records of both
 pub record GoesOn : Type 0 where

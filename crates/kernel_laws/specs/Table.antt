@@ -1,10 +1,9 @@
 -- A.1's table of (id then, id now) and the edges of its sentences: each a list of calls from fresh slots, with the answer of each call. `AllPass` evaluates them.
-use Rattle.std.specs.Prelude.{ℕ, ◌-◌, ◌/◌, ◌%◌, ◌≡◌, Bool, true, false, List, [], ◌∷◌, ◌++◌, map, ℤ, pos, negsuc}
-use Rattle.std.proofs.Math.Option.{none, some}
+use Rattle.std.specs.Prelude.{ℕ, ◌-◌, ◌/◌, ◌%◌, ◌≡◌, Bool, true, false, List, [], ◌∷◌, ◌++◌, map, ℤ, pos, negsuc, None, Some}
 use Rattle.std.specs.Float.{binary32}
 use Rattle.std.specs.Float.Ieee.{of_int}
 use Rattle.data.specs.Numbers.{Row}
-use Rattle.feed.specs.Types.{TouchPhase, Start, Move, End, no_force, Event, Touch}
+use Rattle.feed.specs.Types.{TouchPhase, Start, Move, End, Event, Touch}
 use Rattle.feed.specs.Encode.{join}
 use Rattle.kernel_record.specs.Records.{held_dropped}
 use Rattle.kernel_touch.specs.declared.slots.KernelTouches.{KernelTouches}
@@ -49,7 +48,7 @@ lost = raw 0 3 (pos 0)
 
 -- of device 7, without force
 unfoldable pub touches : TouchPhase → ℕ → ℕ → ℕ → Event
-touches phase id a b = Touch 7 id phase (record { x = of_int binary32 (pos a); y = of_int binary32 (pos b) }) no_force
+touches phase id a b = Touch 7 id phase (record { x = of_int binary32 (pos a); y = of_int binary32 (pos b) }) None
 
 unfoldable pub finger_starts : ℕ → ℕ → ℕ → Event
 finger_starts id a b = touches Start id a b
@@ -83,11 +82,11 @@ loses records es = within 448 records (gives true es)
 
 -- refused with a number alone
 unfoldable pub fails : List (List ℕ) → ℕ → Step
-fails records n = within 448 records (refuses (record { number = n; index = none }))
+fails records n = within 448 records (refuses (record { number = n; index = None }))
 
 -- refused with 2 and the index 0
 unfoldable pub outside : List (List ℕ) → Step
-outside records = within 448 records (refuses (record { number = 2; index = some 0 }))
+outside records = within 448 records (refuses (record { number = 2; index = Some 0 }))
 
 -- finger 5 in slot 0 at (0, 0)
 unfoldable pub five : Step
@@ -163,10 +162,10 @@ refusals =
     -- "or a tracking id below -1"
     ∷ (outside (raw 3 0x39 (negsuc 1) ∷ []) ∷ gets (id 2147483647 ∷ end ∷ []) (finger_starts 2147483647 0 0 ∷ []) ∷ [])
     -- "8, at the report end whose events don't fit the feed buffer": 6, 7, 13 and 14 words
-    ∷ (within 6 (id 5 ∷ end ∷ []) (refuses (record { number = 8; index = none })) ∷ within 7 (id 5 ∷ end ∷ []) (gives false (finger_starts 5 0 0 ∷ [])) ∷ [])
-    ∷ (five ∷ within 13 (id 6 ∷ end ∷ []) (refuses (record { number = 8; index = none })) ∷ within 14 (id 6 ∷ end ∷ []) (gives false (finger_ends 5 0 0 ∷ finger_starts 6 0 0 ∷ [])) ∷ [])
+    ∷ (within 6 (id 5 ∷ end ∷ []) (refuses (record { number = 8; index = None })) ∷ within 7 (id 5 ∷ end ∷ []) (gives false (finger_starts 5 0 0 ∷ [])) ∷ [])
+    ∷ (five ∷ within 13 (id 6 ∷ end ∷ []) (refuses (record { number = 8; index = None })) ∷ within 14 (id 6 ∷ end ∷ []) (gives false (finger_ends 5 0 0 ∷ finger_starts 6 0 0 ∷ [])) ∷ [])
     -- "the first in record order": 8 before 12
-    ∷ (within 6 (id 5 ∷ end ∷ slot 99 ∷ []) (refuses (record { number = 8; index = none })) ∷ fails (id 5 ∷ end ∷ slot 99 ∷ []) 12 ∷ [])
+    ∷ (within 6 (id 5 ∷ end ∷ slot 99 ∷ []) (refuses (record { number = 8; index = None })) ∷ fails (id 5 ∷ end ∷ slot 99 ∷ []) 12 ∷ [])
     -- "all left as before": also what came before the refused record
     ∷ (fails (id 5 ∷ end ∷ slot 3 ∷ lost ∷ end ∷ slot 99 ∷ []) 12 ∷ gets (end ∷ []) [] ∷ five ∷ []) ∷ []
 

@@ -1,14 +1,13 @@
 -- What the two loops of a call hand over.
-use Rattle.std.specs.Prelude.{ℕ, ◌≡◌, Bool, List, length}
+use Rattle.std.specs.Prelude.{ℕ, ◌≡◌, Bool, List, length, Result, Ok, Err}
 use Rattle.kernel_touch.specs.declared.slots.KernelTouches.{KernelTouches}
-use Rattle.kernel_read.specs.declared.Looked.{Looked}
-use Rattle.kernel_read.specs.declared.Looked.TheVariants as looks
+use Rattle.kernel_touch.specs.declared.answer.KernelRefusal.{KernelRefusal}
 use Rattle.kernel_read.specs.declared.Filled.{Filled}
 use Rattle.kernel_read.specs.Read.{KernelOutcome, refused, taken, kernel_of, words_of, feed_of}
 
-unfoldable pub looked : Bool → KernelOutcome → Looked
-looked dropped (refused q) = looks.Refused q
-looked dropped (taken next es) = looks.Fits dropped
+unfoldable pub looked : Bool → KernelOutcome → Result Bool KernelRefusal
+looked dropped (refused q) = Err q
+looked dropped (taken next es) = Ok dropped
 
 pub record Fills (k : KernelTouches) (o : KernelOutcome) (feed : List ℕ) (r : Filled) (feed' : List ℕ) : Type 0 where
   -- the slots after the records

@@ -10,85 +10,75 @@ ghost use Rattle.kernel_report.specs.Put.{put};
 ghost use Rattle.kernel_read.specs.Read.{acts, events, run, all_records, is_taken, Reads};
 ghost use Rattle.kernel_read.specs.Steps.{looked, Fills};
 
-use kernel_record::{KernelRecord, RECORD_BYTES, is_dropped, is_end, record_at};
+use kernel_record::{KernelRecord, RECORD_BYTES, record_at};
 use kernel_report::report::{report_words, write_report};
-use kernel_touch::answer::{KernelAnswer, KernelRead, KernelRefusal, MaybeRefusal};
+use kernel_touch::answer::{KernelRead, KernelRefusal, Taken};
 use kernel_touch::slots::KernelTouches;
-pub use kernel_touch::slots::fresh;
-use kernel_touch::step::{after, refusal};
 
-// What a call will come to: taken, with whether its records hold a 'dropped', or refused.
-#[derive(Clone, Copy)]
-pub enum Looked {
-    Fits(bool),
-    Refused(KernelRefusal),
-}
-
-#[derive(Clone, Copy)]
+// The slots after a call, and the number of words written.
+#[derive(Clone, Copy, Debug, PartialEq, Eq)]
 pub struct Filled {
     pub kernel: KernelTouches,
     pub words: usize,
 }
 
 // Whether a record is a report end that is acted on.
+#[tactic(auto, unfolding(crate::specs::Read::acts))]
 fn acts(r: KernelRecord, k: KernelTouches) -> bool
     ensures { result ≡ acts r k }
 {
-    if k.skipping {
-        return false;
-    }
-    is_end(r)
+    !k.skipping && r.is_end()
 }
 
 // The words that a record gives.
+#[tactic(auto, using(crate::proofs::Run::report_events, crate::proofs::Run::no_words))]
 fn record_words(r: KernelRecord, k: KernelTouches) -> usize
     ensures { (device : ℕ) → result ≡ length (encode_all (events device r k)) }
 {
-    if acts(r, k) {
-        return report_words(k);
-    }
-    0
+    if acts(r, k) { report_words(k) } else { 0 }
 }
 
 // A record's verdict, with `words` to write and room for `left`.
-fn verdict(r: KernelRecord, k: KernelTouches, words: usize, left: usize) -> MaybeRefusal
+#[tactic(auto, unfolding(kernel_touch::specs::Step::unless))]
+fn verdict(
+    r: KernelRecord,
+    k: KernelTouches,
+    words: usize,
+    left: usize,
+) -> Result<(), KernelRefusal>
     ensures { result ≡ cond (acts r k) (unless (leb words left) FeedFull) (refusal r k) }
 {
-    if acts(r, k) {
-        if words > left {
-            return MaybeRefusal::Some(KernelRefusal::FeedFull);
-        }
-        return MaybeRefusal::None;
+    if !acts(r, k) {
+        return k.refusal(r);
     }
-    refusal(r, k)
+    if words <= left {
+        Ok(())
+    } else {
+        Err(KernelRefusal::FeedFull)
+    }
 }
 
-// The records one after the other, with nothing written.
-fn look(k: KernelTouches, bytes: &[u8], room: usize) -> Looked
+// The records one after the other, with nothing written: whether one is a 'dropped'.
+fn look(k: KernelTouches, bytes: &[u8], room: usize) -> Result<bool, KernelRefusal>
     ensures { (device : ℕ) → result ≡ looked (held_dropped (all_records bytes.now))
         (run device room (all_records bytes.now) k []) }
 {
-    let n = bytes.len() / RECORD_BYTES;
     let mut kernel = k;
     let mut left = room;
     let mut dropped = false;
-    let mut i: usize = 0;
-    while i < n {
-        let r = record_at(bytes, i * RECORD_BYTES);
+    for record in bytes.chunks_exact(RECORD_BYTES) {
+        let r = record_at(record, 0);
         let words = record_words(r, kernel);
-        let q = verdict(r, kernel, words, left);
-        if let MaybeRefusal::Some(refusal) = q {
-            return Looked::Refused(refusal);
-        }
+        verdict(r, kernel, words, left)?;
         left -= words;
-        dropped = dropped | is_dropped(r);
-        kernel = after(r, kernel);
-        i += 1;
+        dropped |= r.is_dropped();
+        kernel = kernel.after(r);
     }
-    Looked::Fits(dropped)
+    Ok(dropped)
 }
 
 // A record's words, from place `at` on; the place after them.
+#[tactic(auto, using(crate::proofs::Run::report_events, crate::proofs::Run::no_words), unfolding(kernel_report::specs::Put::put))]
 fn write_record(
     r: KernelRecord,
     k: KernelTouches,
@@ -101,9 +91,10 @@ fn write_record(
         × (feed.new ≡ put at (encode_all (events device r k)) feed.old) }
 {
     if acts(r, k) {
-        return write_report(k, device, feed, at);
+        write_report(k, device, feed, at)
+    } else {
+        at
     }
-    at
 }
 
 // The records again, each report's words written.
@@ -113,20 +104,14 @@ fn fill(k: KernelTouches, device: u64, bytes: &[u8], feed: &mut [u32]) -> Filled
         (run device (length feed.old) (all_records bytes.now) k [])
         feed.old result feed.new }
 {
-    let n = bytes.len() / RECORD_BYTES;
     let mut kernel = k;
-    let mut at: usize = 0;
-    let mut i: usize = 0;
-    while i < n {
-        let r = record_at(bytes, i * RECORD_BYTES);
+    let mut at = 0;
+    for record in bytes.chunks_exact(RECORD_BYTES) {
+        let r = record_at(record, 0);
         at = write_record(r, kernel, device, feed, at);
-        kernel = after(r, kernel);
-        i += 1;
+        kernel = kernel.after(r);
     }
-    Filled {
-        kernel: kernel,
-        words: at,
-    }
+    Filled { kernel, words: at }
 }
 
 // The bytes of a call become events of `device` in the feed buffer.
@@ -136,20 +121,22 @@ pub fn read_records(k: KernelTouches, device: u64, bytes: &[u8], feed: &mut [u32
     if bytes.len() % RECORD_BYTES != 0 {
         return KernelRead {
             kernel: k,
-            answer: KernelAnswer::Refused(KernelRefusal::Length),
+            answer: Err(KernelRefusal::Length),
         };
     }
     match look(k, bytes, feed.len()) {
-        Looked::Refused(q) => KernelRead {
+        Err(q) => KernelRead {
             kernel: k,
-            answer: KernelAnswer::Refused(q),
+            answer: Err(q),
         },
-        Looked::Fits(dropped) => {
+        Ok(dropped) => {
             let f = fill(k, device, bytes, feed);
-            let kernel = f.kernel;
             KernelRead {
-                kernel: kernel,
-                answer: KernelAnswer::Taken(f.words, dropped),
+                kernel: f.kernel,
+                answer: Ok(Taken {
+                    words: f.words,
+                    dropped,
+                }),
             }
         }
     }

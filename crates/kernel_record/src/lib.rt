@@ -1,33 +1,32 @@
 // The records of a run of bytes.
 #![tactic(auto)]
 
-ghost use Rattle.std.specs.Prelude.{◌≡◌, ◌+◌, ◌<◌, ◌≤◌, length};
+ghost use Rattle.std.specs.Prelude.{◌≡◌, ◌+◌, ◌≤◌, length};
+ghost use Rattle.kernel_values.specs.Value.{signed};
 ghost use Rattle.kernel_record.specs.Records.{half, word, report_record, touch_record, record_of, record_at, record_bytes, is_end, is_dropped};
-
-use kernel_values::signed;
 
 // 16 bytes of time, type, code and value
 pub const RECORD_BYTES: usize = 24;
 
 // The kernel's names, from linux/input-event-codes.h: types, codes of type 0, codes of type 3.
-pub const EV_SYN: u32 = 0;
+pub const EV_SYN: u16 = 0;
 
-pub const EV_ABS: u32 = 3;
+pub const EV_ABS: u16 = 3;
 
-pub const SYN_REPORT: u32 = 0;
+pub const SYN_REPORT: u16 = 0;
 
-pub const SYN_DROPPED: u32 = 3;
+pub const SYN_DROPPED: u16 = 3;
 
-pub const ABS_MT_SLOT: u32 = 0x2f;
+pub const ABS_MT_SLOT: u16 = 0x2f;
 
-pub const ABS_MT_POSITION_X: u32 = 0x35;
+pub const ABS_MT_POSITION_X: u16 = 0x35;
 
-pub const ABS_MT_POSITION_Y: u32 = 0x36;
+pub const ABS_MT_POSITION_Y: u16 = 0x36;
 
-pub const ABS_MT_TRACKING_ID: u32 = 0x39;
+pub const ABS_MT_TRACKING_ID: u16 = 0x39;
 
 // What a record says. Other: it is skipped.
-#[derive(Clone, Copy)]
+#[derive(Clone, Copy, Debug, PartialEq, Eq)]
 pub enum KernelRecord {
     MtSlot(i32),
     MtPositionX(i32),
@@ -38,92 +37,80 @@ pub enum KernelRecord {
     Other,
 }
 
-fn wide(b: u8) -> u32
-    ensures { (result ≡ b) × (result < 256) }
-{
-    b as u32
+impl KernelRecord {
+    #[tactic(auto, unfolding(crate::specs::Records::is_end))]
+    pub fn is_end(self) -> bool
+        ensures { result ≡ is_end self }
+    {
+        matches!(self, KernelRecord::ReportEnd)
+    }
+
+    #[tactic(auto, unfolding(crate::specs::Records::is_dropped))]
+    pub fn is_dropped(self) -> bool
+        ensures { result ≡ is_dropped self }
+    {
+        matches!(self, KernelRecord::Dropped)
+    }
 }
 
-fn half(bytes: &[u8], at: usize) -> u32
+#[tactic(auto, unfolding(crate::specs::Records::half))]
+fn half(bytes: &[u8], at: usize) -> u16
     requires { at + 2 ≤ length bytes.now }
-    ensures { (result ≡ half bytes.now at) × (result < 65536) }
+    ensures { result ≡ half bytes.now at }
 {
-    wide(bytes[at]) + 256 * wide(bytes[at + 1])
+    u16::from_le_bytes([bytes[at], bytes[at + 1]])
 }
 
-fn word(bytes: &[u8], at: usize) -> u32
+#[tactic(auto, unfolding(crate::specs::Records::half, crate::specs::Records::word, kernel_values::specs::Value::signed))]
+fn value(bytes: &[u8], at: usize) -> i32
     requires { at + 4 ≤ length bytes.now }
-    ensures { result ≡ word bytes.now at }
+    ensures { result ≡ signed (word bytes.now at) }
 {
-    half(bytes, at) + 65536 * half(bytes, at + 2)
+    i32::from_le_bytes([bytes[at], bytes[at + 1], bytes[at + 2], bytes[at + 3]])
 }
 
-fn report_record(code: u32) -> KernelRecord
+#[tactic(auto, unfolding(crate::specs::Records::report_record))]
+fn report_record(code: u16) -> KernelRecord
     ensures { result ≡ report_record code }
 {
-    if code == SYN_REPORT {
-        return KernelRecord::ReportEnd;
+    match code {
+        SYN_REPORT => KernelRecord::ReportEnd,
+        SYN_DROPPED => KernelRecord::Dropped,
+        _ => KernelRecord::Other,
     }
-    if code == SYN_DROPPED {
-        return KernelRecord::Dropped;
-    }
-    KernelRecord::Other
 }
 
-fn touch_record(code: u32, value: i32) -> KernelRecord
+#[tactic(auto, unfolding(crate::specs::Records::touch_record))]
+fn touch_record(code: u16, value: i32) -> KernelRecord
     ensures { result ≡ touch_record code value }
 {
-    if code == ABS_MT_SLOT {
-        return KernelRecord::MtSlot(value);
+    match code {
+        ABS_MT_SLOT => KernelRecord::MtSlot(value),
+        ABS_MT_POSITION_X => KernelRecord::MtPositionX(value),
+        ABS_MT_POSITION_Y => KernelRecord::MtPositionY(value),
+        ABS_MT_TRACKING_ID => KernelRecord::MtTrackingId(value),
+        _ => KernelRecord::Other,
     }
-    if code == ABS_MT_POSITION_X {
-        return KernelRecord::MtPositionX(value);
-    }
-    if code == ABS_MT_POSITION_Y {
-        return KernelRecord::MtPositionY(value);
-    }
-    if code == ABS_MT_TRACKING_ID {
-        return KernelRecord::MtTrackingId(value);
-    }
-    KernelRecord::Other
 }
 
-fn record_of(kind: u32, code: u32, value: i32) -> KernelRecord
+#[tactic(auto, unfolding(crate::specs::Records::record_of))]
+fn record_of(kind: u16, code: u16, value: i32) -> KernelRecord
     ensures { result ≡ record_of kind code value }
 {
-    if kind == EV_SYN {
-        return report_record(code);
+    match kind {
+        EV_SYN => report_record(code),
+        EV_ABS => touch_record(code, value),
+        _ => KernelRecord::Other,
     }
-    if kind == EV_ABS {
-        return touch_record(code, value);
-    }
-    KernelRecord::Other
 }
 
+#[tactic(auto, unfolding(crate::specs::Records::record_at))]
 pub fn record_at(bytes: &[u8], at: usize) -> KernelRecord
     requires { at + record_bytes ≤ length bytes.now }
     ensures { result ≡ record_at bytes.now at }
 {
     let kind = half(bytes, at + 16);
     let code = half(bytes, at + 18);
-    let value = signed(word(bytes, at + 20));
+    let value = value(bytes, at + 20);
     record_of(kind, code, value)
-}
-
-pub fn is_end(r: KernelRecord) -> bool
-    ensures { result ≡ is_end r }
-{
-    match r {
-        KernelRecord::ReportEnd => true,
-        _ => false,
-    }
-}
-
-pub fn is_dropped(r: KernelRecord) -> bool
-    ensures { result ≡ is_dropped r }
-{
-    match r {
-        KernelRecord::Dropped => true,
-        _ => false,
-    }
 }

@@ -1,10 +1,11 @@
 -- Words written one after the other, and the words of a report's events. Assumes nothing.
-use Prim.Native.Nat.{ℕ, suc, ◌+◌, ◌<◌, ◌≤◌, min}
+use Prim.Native.Nat.{ℕ, zero, suc, ◌+◌, ◌<◌, ◌≤◌, min}
 use native.Mathlib.Omega.{arith}
 use mathlib.Core.Path.{◌≡◌, refl, sym, ap, ◌∙◌}
 use mathlib.Core.List.{List, [], ◌∷◌, ◌++◌, append_assoc, append-nil}
 use lib.ListN.{length, get_or, set, take, drop, length-take, length-set, length-append, drop_of_length-le}
 use lib.Seq.{drop-cons}
+use borrow.Rule.Slice.PartMut.{put_mid}
 use Rattle.feed.specs.Types.{Event, TouchPhase, Start, Move, End}
 use Rattle.feed.specs.Encode.{encode, encode_all, join, words_after, id_words, pos_words, force_words}
 use Rattle.kernel_touch.specs.declared.slots.Finger.{Finger}
@@ -27,14 +28,6 @@ put_append at [] b feed = ap (λ (k : ℕ). put k b feed) (omega arith)
 put_append at (w ∷ a) b feed =
     put_append (suc at) a b (set feed at w) ∙ ap (λ (k : ℕ). put k b (put (suc at) a (set feed at w))) (omega arith)
 
--- one more
-pub put_next : (at i : ℕ) (ws feed : List ℕ) → i < length ws →
-    put (at + suc i) (drop (suc i) ws) (set feed (at + i) (get_or ws i 0)) ≡ put (at + i) (drop i ws) feed
-unfolding put
-put_next at i ws feed h =
-    ap (λ (k : ℕ). put k (drop (suc i) ws) (set feed (at + i) (get_or ws i 0))) (omega arith)
-    ∙ sym (ap (λ (l : List ℕ). put (at + i) l feed) (drop-cons ws i 0 h))
-
 -- two lists of words, one after the other
 pub put_both : (at : ℕ) (a b feed : List ℕ) → put (at + length a) b (put at a feed) ≡ put at (a ++ b) feed
 put_both at a b feed = sym (put_append at a b feed)
@@ -44,36 +37,30 @@ pub put_two : (at next : ℕ) (a b ws feed feed₁ feed₂ : List ℕ) → next 
 put_two at next a b ws feed feed₁ feed₂ n e f w =
     f ∙ (λ j. put (n j) b (e j)) ∙ put_both at a b feed ∙ ap (λ (l : List ℕ). put at l feed) (sym w)
 
+-- one place further on, past one more word
+pub put_after : (at x : ℕ) (ws feed : List ℕ) → put (suc at) ws (x ∷ feed) ≡ x ∷ put at ws feed
+unfolding put
+put_after at x [] feed = refl
+put_after at x (w ∷ ws) feed = put_after (suc at) x ws (set feed at w)
+
 -- from the first place on
 pub put_first : (ws feed : List ℕ) → length ws ≤ length feed → put 0 ws feed ≡ ws ++ drop (length ws) feed
 unfolding put
-put_first ws feed h = from [] ws feed h
-  where
-    from : (done ws feed : List ℕ) → length ws ≤ length feed → put (length done) ws (done ++ feed) ≡ done ++ (ws ++ drop (length ws) feed)
-    from done [] feed h = refl
-    from done (w ∷ ws) [] h = absurd (omega arith)
-    from done (w ∷ ws) (x ∷ feed) h =
-        (λ j. put (suc (length done)) ws (set_at done j))
-        ∙ (λ j. put (one_more done j) ws (sym (append_assoc done (w ∷ []) feed) j))
-        ∙ from (done ++ (w ∷ [])) ws feed (omega arith)
-        ∙ append_assoc done (w ∷ []) (ws ++ drop (length ws) feed)
-      where
-        set_at : (done : List ℕ) → set (done ++ (x ∷ feed)) (length done) w ≡ done ++ (w ∷ feed)
-        set_at [] = refl
-        set_at (y ∷ done) = ap (λ (l : List ℕ). y ∷ l) (set_at done)
+put_first [] feed h = refl
+put_first (w ∷ ws) [] h = absurd (omega arith)
+put_first (w ∷ ws) (x ∷ feed) h = put_after 0 w ws feed ∙ ap (λ (l : List ℕ). w ∷ l) (put_first ws feed (omega arith))
 
-        one_more : (done : List ℕ) → suc (length done) ≡ length (done ++ (w ∷ []))
-        one_more done = sym (length-append done (w ∷ []) ∙ omega arith)
+-- words copied to the k places from `at` on
+pub put_is_mid : (at k : ℕ) (ws feed : List ℕ) → at + k ≤ length feed → k ≡ length ws → put_mid at k feed ws ≡ put at ws feed
+put_is_mid zero k ws feed h e = ap (λ (n : ℕ). ws ++ drop n feed) e ∙ sym (put_first ws feed (omega arith))
+put_is_mid (suc at) k ws [] h e = absurd (omega arith)
+put_is_mid (suc at) k ws (x ∷ feed) h e = ap (λ (l : List ℕ). x ∷ l) (put_is_mid at k ws feed (omega arith) e) ∙ sym (put_after at x ws feed)
 
 -- ---- encoded events
 pub encode_append : (es fs : List Event) → encode_all (es ++ fs) ≡ encode_all es ++ encode_all fs
 unfolding encode_all join
 encode_append [] fs = refl
 encode_append (e ∷ es) fs = ap (λ (l : List ℕ). encode e ++ l) (encode_append es fs) ∙ sym (append_assoc (encode e) (encode_all es) (encode_all fs))
-
-pub encode_one : (e : Event) (es : List Event) → encode_all (e ∷ es) ≡ encode e ++ encode_all es
-unfolding encode_all join
-encode_one e es = refl
 
 pub encode_none : encode_all [] ≡ []
 unfolding encode_all join
@@ -90,46 +77,54 @@ seven n words ws l e h =
     let is : n ≡ touch_words = omega arith in
     ap (λ (k : ℕ). take k words) (sym is) ∙ h
 
--- ---- a slot's words
-pub change_words : (d : ℕ) (s : Slot) (ch : Change) → change s ≡ ch → length (encode_all (slot_events d s)) ≡ length (encode_all (change_events d ch s))
-unfolding slot_events
-change_words d s ch e = ap (λ (x : Change). length (encode_all (change_events d x s))) e
+-- ---- a slot's words, by how it changed
+abbrev pub words_by : ℕ → Change → Slot → List ℕ
+words_by d Still s = []
+words_by d Begun s = encode (touch d Start s.now.id s.now)
+words_by d Moved s = encode (touch d Move s.now.id s.now)
+words_by d Lifted s = encode (touch d End s.acted.id s.now)
+words_by d Replaced s = encode (touch d End s.acted.id s.now) ++ encode (touch d Start s.now.id s.now)
 
-change_le : (d : ℕ) (ch : Change) (s : Slot) → length (encode_all (change_events d ch s)) ≤ 14
-unfolding change_events encode_all join encode words_after id_words pos_words force_words touch
-change_le d Still s = omega arith
-change_le d Begun s = omega arith
-change_le d Moved s = omega arith
-change_le d Lifted s = omega arith
-change_le d Replaced s = omega arith
+by_change : (d : ℕ) (ch : Change) (s : Slot) → encode_all (change_events d ch s) ≡ words_by d ch s
+unfolding change_events encode_all join
+by_change d Still s = refl
+by_change d Begun s = append-nil (encode (touch d Start s.now.id s.now))
+by_change d Moved s = append-nil (encode (touch d Move s.now.id s.now))
+by_change d Lifted s = append-nil (encode (touch d End s.acted.id s.now))
+by_change d Replaced s = ap (λ (l : List ℕ). encode (touch d End s.acted.id s.now) ++ l) (append-nil (encode (touch d Start s.now.id s.now)))
+
+pub slot_is : (d : ℕ) (s : Slot) → encode_all (slot_events d s) ≡ words_by d (change s) s
+unfolding slot_events
+slot_is d s = by_change d (change s) s
+
+-- how many
+abbrev pub count_by : Change → ℕ
+count_by Still = 0
+count_by Begun = 7
+count_by Moved = 7
+count_by Lifted = 7
+count_by Replaced = 14
+
+counted : (d : ℕ) (ch : Change) (s : Slot) → length (words_by d ch s) ≡ count_by ch
+unfolding encode words_after id_words pos_words force_words touch
+counted d Still s = refl
+counted d Begun s = refl
+counted d Moved s = refl
+counted d Lifted s = refl
+counted d Replaced s = refl
+
+pub slot_length : (d : ℕ) (s : Slot) → length (encode_all (slot_events d s)) ≡ count_by (change s)
+slot_length d s = ap length (slot_is d s) ∙ counted d (change s) s
+
+few : (ch : Change) → count_by ch ≤ 14
+few Still = omega arith
+few Begun = omega arith
+few Moved = omega arith
+few Lifted = omega arith
+few Replaced = omega arith
 
 pub slot_le : (d : ℕ) (s : Slot) → length (encode_all (slot_events d s)) ≤ 14
-unfolding slot_events
-slot_le d s = change_le d (change s) s
-
--- a slot's words by how it changed
-pub still_words : (d : ℕ) (s : Slot) → change s ≡ Still → encode_all (slot_events d s) ≡ []
-unfolding slot_events change_events encode_all join
-still_words d s e = ap (λ (ch : Change). encode_all (change_events d ch s)) e
-
-pub begun_words : (d : ℕ) (s : Slot) → change s ≡ Begun → encode_all (slot_events d s) ≡ encode (touch d Start s.now.id s.now)
-unfolding slot_events change_events encode_all join
-begun_words d s e = ap (λ (ch : Change). encode_all (change_events d ch s)) e ∙ append-nil (encode (touch d Start s.now.id s.now))
-
-pub moved_words : (d : ℕ) (s : Slot) → change s ≡ Moved → encode_all (slot_events d s) ≡ encode (touch d Move s.now.id s.now)
-unfolding slot_events change_events encode_all join
-moved_words d s e = ap (λ (ch : Change). encode_all (change_events d ch s)) e ∙ append-nil (encode (touch d Move s.now.id s.now))
-
-pub lifted_words : (d : ℕ) (s : Slot) → change s ≡ Lifted → encode_all (slot_events d s) ≡ encode (touch d End s.acted.id s.now)
-unfolding slot_events change_events encode_all join
-lifted_words d s e = ap (λ (ch : Change). encode_all (change_events d ch s)) e ∙ append-nil (encode (touch d End s.acted.id s.now))
-
-pub replaced_words : (d : ℕ) (s : Slot) → change s ≡ Replaced →
-    encode_all (slot_events d s) ≡ encode (touch d End s.acted.id s.now) ++ encode (touch d Start s.now.id s.now)
-unfolding slot_events change_events encode_all join
-replaced_words d s e =
-    ap (λ (ch : Change). encode_all (change_events d ch s)) e
-    ∙ ap (λ (l : List ℕ). encode (touch d End s.acted.id s.now) ++ l) (append-nil (encode (touch d Start s.now.id s.now)))
+slot_le d s = rw (slot_length d s) (few (change s))
 
 -- ---- the slots from slot i on; past the end an index reads `blank`
 abbrev pub blank : Slot

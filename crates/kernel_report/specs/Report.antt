@@ -1,9 +1,9 @@
 -- The events of a report end: A.1's "At a report end the changed slots, whose id or position differs from that at the last report end acted on, give their
 -- events in slot order".
-use Rattle.std.specs.Prelude.{ℕ, Bool, ◌&&◌, cond, List, [], ◌∷◌, ◌++◌, ℤ, nat_abs}
+use Rattle.std.specs.Prelude.{ℕ, Bool, ◌&&◌, cond, List, [], ◌∷◌, ◌++◌, ℤ, nat_abs, None}
 use Rattle.std.specs.Float.{binary32}
 use Rattle.std.specs.Float.Ieee.{of_int}
-use Rattle.feed.specs.Types.{Pos2, TouchPhase, Start, Move, End, no_force, Event, Touch}
+use Rattle.feed.specs.Types.{Pos2, TouchPhase, Start, Move, End, Event, Touch}
 use Rattle.kernel_values.specs.Value.{same_number, is_finger}
 use Rattle.kernel_touch.specs.declared.slots.Finger.{Finger}
 use Rattle.kernel_touch.specs.declared.slots.Slot.{Slot}
@@ -32,7 +32,7 @@ position f = record { x = of_int binary32 f.x; y = of_int binary32 f.y }
 
 -- "the touch id is the tracking id, all carry the slot's last position, no force"
 unfoldable pub touch : ℕ → TouchPhase → ℤ → Finger → Event
-touch device phase id f = Touch device (nat_abs id) phase (position f) no_force
+touch device phase id f = Touch device (nat_abs id) phase (position f) None
 
 -- its words: the feed's table says six after the first
 abbrev pub touch_words : ℕ

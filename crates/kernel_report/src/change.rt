@@ -3,10 +3,10 @@ ghost use Rattle.std.specs.Prelude.{◌≡◌};
 ghost use Rattle.kernel_report.specs.Report.{same_place, moved, replaced, change};
 
 use kernel_touch::slots::{Finger, Slot};
-use kernel_values::{is_finger, same_number};
+use kernel_values::is_finger;
 
 // Replaced: one finger was lifted and another begun.
-#[derive(Clone, Copy)]
+#[derive(Clone, Copy, Debug, PartialEq, Eq)]
 pub enum Change {
     Still,
     Begun,
@@ -15,51 +15,45 @@ pub enum Change {
     Replaced,
 }
 
+#[tactic(auto, unfolding(crate::specs::Report::same_place, kernel_values::specs::Value::same_number))]
 fn same_place(a: Finger, b: Finger) -> bool
     ensures { result ≡ same_place a b }
 {
-    if same_number(a.x, b.x) {
-        return same_number(a.y, b.y);
-    }
-    false
+    a.x == b.x && a.y == b.y
 }
 
 // The same id, then and now.
+#[tactic(auto, unfolding(crate::specs::Report::moved))]
 fn moved(then: Finger, now: Finger) -> Change
     ensures { result ≡ moved then now }
 {
-    if same_place(then, now) {
-        return Change::Still;
+    if is_finger(now.id) && !same_place(then, now) {
+        Change::Moved
+    } else {
+        Change::Still
     }
-    if is_finger(now.id) {
-        return Change::Moved;
-    }
-    Change::Still
 }
 
 // Another id.
+#[tactic(auto, unfolding(crate::specs::Report::replaced))]
 fn replaced(then: i32, now: i32) -> Change
     ensures { result ≡ replaced then now }
 {
-    if is_finger(then) {
-        if is_finger(now) {
-            return Change::Replaced;
-        }
-        return Change::Lifted;
+    match (is_finger(then), is_finger(now)) {
+        (true, true) => Change::Replaced,
+        (true, false) => Change::Lifted,
+        (false, true) => Change::Begun,
+        (false, false) => Change::Still,
     }
-    if is_finger(now) {
-        return Change::Begun;
-    }
-    Change::Still
 }
 
+#[tactic(auto, unfolding(crate::specs::Report::change, kernel_values::specs::Value::same_number))]
 pub fn change_of(s: Slot) -> Change
     ensures { result ≡ change s }
 {
-    let then = s.acted;
-    let now = s.now;
-    if same_number(then.id, now.id) {
-        return moved(then, now);
+    if s.acted.id == s.now.id {
+        moved(s.acted, s.now)
+    } else {
+        replaced(s.acted.id, s.now.id)
     }
-    replaced(then.id, now.id)
 }

@@ -8,34 +8,31 @@ use crate::change::{Change, change_of};
 use crate::touch::{TOUCH_WORDS, write_touch};
 use data::touch::TouchPhase;
 use kernel_touch::slots::{KernelTouches, Slot};
-use kernel_values::MAX_SLOTS;
 
 // The number of words of a slot's events.
+#[tactic(auto, using(crate::proofs::Written::slot_length))]
 fn slot_words(s: Slot) -> usize
     ensures { (device : ℕ) → result ≡ length (encode_all (slot_events device s)) }
 {
     match change_of(s) {
         Change::Still => 0,
-        Change::Begun => TOUCH_WORDS,
-        Change::Moved => TOUCH_WORDS,
-        Change::Lifted => TOUCH_WORDS,
+        Change::Begun | Change::Moved | Change::Lifted => TOUCH_WORDS,
         Change::Replaced => 2 * TOUCH_WORDS,
     }
 }
 
+#[tactic(auto, using(crate::proofs::Written::report_last))]
 pub fn report_words(k: KernelTouches) -> usize
     ensures { (device : ℕ) → result ≡ length (encode_all (report device k.slots)) }
 {
-    let mut words: usize = 0;
-    let mut i: usize = 0;
-    while i < MAX_SLOTS {
-        let s = k.slots[i];
-        words += slot_words(s);
-        i += 1;
+    let mut words = 0;
+    for slot in k.slots.iter() {
+        words += slot_words(*slot);
     }
     words
 }
 
+#[tactic(auto, using(crate::proofs::Written::slot_is, crate::proofs::Written::slot_length, crate::proofs::Written::length_put), unfolding(crate::specs::Put::put))]
 fn write_slot(s: Slot, device: u64, feed: &mut [u32], at: usize) -> usize
     requires { at + length (encode_all (slot_events device s)) ≤ length feed.old }
     ensures { (result ≡ at + length (encode_all (slot_events device s)))
@@ -56,17 +53,15 @@ fn write_slot(s: Slot, device: u64, feed: &mut [u32], at: usize) -> usize
 }
 
 // Slot after slot; the place after the last word.
+#[tactic(auto, using(crate::proofs::Written::next_length, crate::proofs::Written::report_last), unfolding(crate::specs::Put::put))]
 pub fn write_report(k: KernelTouches, device: u64, feed: &mut [u32], at: usize) -> usize
     requires { at + length (encode_all (report device k.slots)) ≤ length feed.old }
     ensures { (result ≡ at + length (encode_all (report device k.slots)))
         × (feed.new ≡ put at (encode_all (report device k.slots)) feed.old) }
 {
     let mut next = at;
-    let mut i: usize = 0;
-    while i < MAX_SLOTS {
-        let s = k.slots[i];
-        next = write_slot(s, device, feed, next);
-        i += 1;
+    for slot in k.slots.iter() {
+        next = write_slot(*slot, device, feed, next);
     }
     next
 }

@@ -5,42 +5,43 @@ ghost use Rattle.kernel_report.specs.Put.{put};
 ghost use Rattle.kernel_report.specs.Report.{position, touch, touch_words};
 
 use data::event::Event;
-use data::touch::{MaybeF32, TouchPhase};
+use data::touch::TouchPhase;
 use emath::pos2::Pos2;
 use feed_encode::encode;
 use kernel_touch::slots::Finger;
-use kernel_values::{coordinate, magnitude};
+use kernel_values::coordinate;
 
 // The words of a touch without force.
 pub const TOUCH_WORDS: usize = 7;
 
+#[tactic(auto, unfolding(crate::specs::Report::position))]
 fn position(f: Finger) -> Pos2
     ensures { result ≡ position f }
 {
-    let x = coordinate(f.x);
-    let y = coordinate(f.y);
-    Pos2 { x: x, y: y }
+    Pos2 {
+        x: coordinate(f.x),
+        y: coordinate(f.y),
+    }
 }
 
+#[tactic(auto, unfolding(crate::specs::Report::touch))]
 fn touch(device: u64, phase: TouchPhase, id: i32, f: Finger) -> Event
     ensures { result ≡ touch device phase id f }
 {
     let pos = position(f);
-    let number = magnitude(id) as u64;
-    Event::Touch(device, number, phase, pos, MaybeF32::None)
+    let number = u64::from(id.unsigned_abs());
+    Event::Touch(device, number, phase, pos, None)
 }
 
-// Seven words, from place `at` on; the place after them.
+// Seven words, from place `at` on; the place after them. The feed and the place stay two parameters: of a struct that holds a `&mut` each clause would have to say what stands behind it afterwards.
+#[tactic(auto, using(crate::proofs::Written::put_is_mid))]
 fn write_words(words: [u32; 8], feed: &mut [u32], at: usize) -> usize
     requires { at + touch_words ≤ length feed.old }
     ensures { (result ≡ at + touch_words) × (feed.new ≡ put at (take touch_words words) feed.old) }
 {
-    let mut i: usize = 0;
-    while i < TOUCH_WORDS {
-        feed[at + i] = words[i];
-        i += 1;
-    }
-    at + i
+    let next = at + TOUCH_WORDS;
+    feed[at..next].copy_from_slice(&words[..TOUCH_WORDS]);
+    next
 }
 
 pub fn write_touch(

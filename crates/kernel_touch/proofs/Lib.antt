@@ -1,2 +1,1 @@
--- What the proofs of the functions rest on.
 pub mod SlotList

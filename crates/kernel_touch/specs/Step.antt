@@ -1,28 +1,26 @@
 -- What one record refuses, and what it does.
-use Rattle.std.specs.Prelude.{Bool, true, false, cond}
+use Rattle.std.specs.Prelude.{Bool, true, false, cond, Result, Ok, Err, ⊤}
 use Rattle.kernel_values.specs.Value.{slot_ok, position_ok, tracking_id_ok}
 use Rattle.kernel_record.specs.declared.KernelRecord.{KernelRecord}
 use Rattle.kernel_record.specs.declared.KernelRecord.TheVariants.{MtSlot, MtPositionX, MtPositionY, MtTrackingId, ReportEnd, Dropped, Other}
 use Rattle.kernel_touch.specs.declared.slots.KernelTouches.{KernelTouches}
-use Rattle.kernel_touch.specs.declared.answer.MaybeRefusal.{MaybeRefusal}
-use Rattle.kernel_touch.specs.declared.answer.MaybeRefusal.TheVariants as maybe
 use Rattle.kernel_touch.specs.declared.answer.KernelRefusal.{KernelRefusal}
 use Rattle.kernel_touch.specs.declared.answer.KernelRefusal.TheVariants.{SlotOutside, OutsideDomain}
 use Rattle.kernel_record.specs.Records.{is_end}
 use Rattle.kernel_touch.specs.Slots.{with_x, with_y, with_id, choose, skips, settled}
 
-unfoldable pub unless : Bool → KernelRefusal → MaybeRefusal
-unless ok q = cond ok maybe.None (maybe.Some q)
+unfoldable pub unless : Bool → KernelRefusal → Result ⊤ KernelRefusal
+unless ok q = cond ok (Ok tt) (Err q)
 
 -- "12 for a slot outside 0 to 9; 2 for a position over 65,536 in size or a tracking id below -1"
-unfoldable pub bad : KernelRecord → MaybeRefusal
+unfoldable pub bad : KernelRecord → Result ⊤ KernelRefusal
 bad (MtSlot v) = unless (slot_ok v) SlotOutside
 bad (MtPositionX v) = unless (position_ok v) OutsideDomain
 bad (MtPositionY v) = unless (position_ok v) OutsideDomain
 bad (MtTrackingId v) = unless (tracking_id_ok v) OutsideDomain
-bad ReportEnd = maybe.None
-bad Dropped = maybe.None
-bad Other = maybe.None
+bad ReportEnd = Ok tt
+bad Dropped = Ok tt
+bad Other = Ok tt
 
 -- a record that is not skipped
 unfoldable pub done : KernelRecord → KernelTouches → KernelTouches
@@ -41,5 +39,5 @@ skipped r k = cond (is_end r) (skips false k) k
 unfoldable pub after : KernelRecord → KernelTouches → KernelTouches
 after r k = cond k.skipping (skipped r k) (done r k)
 
-unfoldable pub refusal : KernelRecord → KernelTouches → MaybeRefusal
-refusal r k = cond k.skipping maybe.None (bad r)
+unfoldable pub refusal : KernelRecord → KernelTouches → Result ⊤ KernelRefusal
+refusal r k = cond k.skipping (Ok tt) (bad r)

@@ -2,7 +2,7 @@
 use crate::slots::KernelTouches;
 
 // 11, 12, 2 with index 0, 8
-#[derive(Clone, Copy)]
+#[derive(Clone, Copy, Debug, PartialEq, Eq)]
 pub enum KernelRefusal {
     Length,
     SlotOutside,
@@ -10,22 +10,16 @@ pub enum KernelRefusal {
     FeedFull,
 }
 
-// Option<KernelRefusal>
-#[derive(Clone, Copy)]
-pub enum MaybeRefusal {
-    None,
-    Some(KernelRefusal),
+// The number of words written, and whether the records held a 'dropped'.
+#[derive(Clone, Copy, Debug, PartialEq, Eq)]
+pub struct Taken {
+    pub words: usize,
+    pub dropped: bool,
 }
 
-// Taken: the number of words written, and whether the records held a 'dropped'.
-#[derive(Clone, Copy)]
-pub enum KernelAnswer {
-    Taken(usize, bool),
-    Refused(KernelRefusal),
-}
-
-#[derive(Clone, Copy)]
+// Refused, the kernel is as before.
+#[derive(Clone, Copy, Debug, PartialEq, Eq)]
 pub struct KernelRead {
     pub kernel: KernelTouches,
-    pub answer: KernelAnswer,
+    pub answer: Result<Taken, KernelRefusal>,
 }

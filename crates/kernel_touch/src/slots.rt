@@ -2,11 +2,11 @@
 ghost use Rattle.std.specs.Prelude.{◌≡◌};
 ghost use Rattle.kernel_touch.specs.Slots.{fresh, chosen_finger, put_finger, with_x, with_y, with_id, choose, skips, settled};
 
-use kernel_values::{MAX_SLOTS, magnitude};
+use kernel_values::MAX_SLOTS;
 
-// A tracking id, -1 for no finger, and the last position. `repr(C)` here and below: a host keeps the slots from call to call.
+// A tracking id, the kernel's -1 for no finger, and the last position. `repr(C)` here and below, and no Option: a host keeps the slots from call to call, and C reads them.
 #[repr(C)]
-#[derive(Clone, Copy)]
+#[derive(Clone, Copy, Debug, PartialEq, Eq)]
 pub struct Finger {
     pub id: i32,
     pub x: i32,
@@ -15,7 +15,7 @@ pub struct Finger {
 
 // A slot's finger now, and at the last report end acted on.
 #[repr(C)]
-#[derive(Clone, Copy)]
+#[derive(Clone, Copy, Debug, PartialEq, Eq)]
 pub struct Slot {
     pub now: Finger,
     pub acted: Finger,
@@ -23,111 +23,109 @@ pub struct Slot {
 
 // `skipping`: after 'dropped', through the next report end.
 #[repr(C)]
-#[derive(Clone, Copy)]
+#[derive(Clone, Copy, Debug, PartialEq, Eq)]
 pub struct KernelTouches {
     pub slots: [Slot; MAX_SLOTS],
     pub chosen: usize,
     pub skipping: bool,
 }
 
-pub fn fresh() -> KernelTouches
-    ensures { result ≡ fresh }
-{
-    let finger = Finger { id: -1, x: 0, y: 0 };
-    let slot = Slot {
-        now: finger,
-        acted: finger,
-    };
-    let slots = [slot; MAX_SLOTS];
-    KernelTouches {
-        slots: slots,
-        chosen: 0,
-        skipping: false,
-    }
-}
-
-// The chosen slot's finger; none where there is no such slot.
-fn chosen_finger(k: KernelTouches) -> Finger
-    ensures { result ≡ chosen_finger k }
-{
-    let at = k.chosen;
-    if at < MAX_SLOTS {
-        let slot = k.slots[at];
-        return slot.now;
-    }
-    Finger { id: -1, x: 0, y: 0 }
-}
-
-fn put_finger(k: KernelTouches, finger: Finger) -> KernelTouches
-    ensures { result ≡ put_finger finger k }
-{
-    let mut next = k;
-    let at = k.chosen;
-    if at < MAX_SLOTS {
-        let slot = k.slots[at];
-        let acted = slot.acted;
-        next.slots[at] = Slot {
-            now: finger,
-            acted: acted,
-        };
-    }
-    next
-}
-
-pub fn set_x(k: KernelTouches, x: i32) -> KernelTouches
-    ensures { result ≡ with_x x k }
-{
-    let mut finger = chosen_finger(k);
-    finger.x = x;
-    put_finger(k, finger)
-}
-
-pub fn set_y(k: KernelTouches, y: i32) -> KernelTouches
-    ensures { result ≡ with_y y k }
-{
-    let mut finger = chosen_finger(k);
-    finger.y = y;
-    put_finger(k, finger)
-}
-
-pub fn set_id(k: KernelTouches, id: i32) -> KernelTouches
-    ensures { result ≡ with_id id k }
-{
-    let mut finger = chosen_finger(k);
-    finger.id = id;
-    put_finger(k, finger)
-}
-
-pub fn choose(k: KernelTouches, v: i32) -> KernelTouches
-    ensures { result ≡ choose v k }
-{
-    let mut next = k;
-    next.chosen = magnitude(v) as usize;
-    next
-}
-
-pub fn skip(k: KernelTouches, skipping: bool) -> KernelTouches
-    ensures { result ≡ skips skipping k }
-{
-    let mut next = k;
-    next.skipping = skipping;
-    next
-}
-
-// A report end is acted on: each slot's finger is the one of the last report end.
-pub fn settle(k: KernelTouches) -> KernelTouches
-    ensures { result ≡ settled k }
-{
-    let mut next = k;
-    let mut i: usize = 0;
-    while i < MAX_SLOTS {
-        let s = next.slots[i];
-        let finger = s.now;
-        next.slots[i] = Slot {
+impl KernelTouches {
+    #[tactic(auto, unfolding(crate::specs::Slots::fresh, crate::specs::Slots::empty_slots, crate::specs::Slots::no_finger))]
+    pub fn fresh() -> KernelTouches
+        ensures { result ≡ fresh }
+    {
+        let finger = Finger { id: -1, x: 0, y: 0 };
+        let slot = Slot {
             now: finger,
             acted: finger,
         };
-        i += 1;
+        KernelTouches {
+            slots: [slot; MAX_SLOTS],
+            chosen: 0,
+            skipping: false,
+        }
     }
-    next
+
+    // The chosen slot's finger; none where there is no such slot.
+    #[tactic(auto, using(crate::proofs::SlotList::finger_is, crate::proofs::SlotList::no_finger_is), unfolding(crate::specs::Slots::chosen_finger, crate::specs::Slots::no_finger))]
+    fn chosen_finger(self) -> Finger
+        ensures { result ≡ chosen_finger self }
+    {
+        match self.slots.get(self.chosen) {
+            Some(slot) => slot.now,
+            None => Finger { id: -1, x: 0, y: 0 },
+        }
+    }
+
+    #[tactic(auto, using(crate::proofs::SlotList::put_is, crate::proofs::SlotList::put_nothing), unfolding(crate::specs::Slots::put_finger))]
+    fn put_finger(mut self, finger: Finger) -> KernelTouches
+        ensures { result ≡ put_finger finger self }
+    {
+        // No `get_mut`: its contract says nothing of the slots afterwards, and the proof does not close.
+        let chosen = self.chosen;
+        if chosen < MAX_SLOTS {
+            self.slots[chosen].now = finger;
+        }
+        self
+    }
+
+    #[tactic(auto, unfolding(crate::specs::Slots::with_x))]
+    pub fn set_x(self, x: i32) -> KernelTouches
+        ensures { result ≡ with_x x self }
+    {
+        self.put_finger(Finger {
+            x,
+            ..self.chosen_finger()
+        })
+    }
+
+    #[tactic(auto, unfolding(crate::specs::Slots::with_y))]
+    pub fn set_y(self, y: i32) -> KernelTouches
+        ensures { result ≡ with_y y self }
+    {
+        self.put_finger(Finger {
+            y,
+            ..self.chosen_finger()
+        })
+    }
+
+    #[tactic(auto, unfolding(crate::specs::Slots::with_id))]
+    pub fn set_id(self, id: i32) -> KernelTouches
+        ensures { result ≡ with_id id self }
+    {
+        self.put_finger(Finger {
+            id,
+            ..self.chosen_finger()
+        })
+    }
+
+    #[tactic(auto, unfolding(crate::specs::Slots::choose))]
+    pub fn choose(self, v: i32) -> KernelTouches
+        ensures { result ≡ choose v self }
+    {
+        KernelTouches {
+            chosen: v.unsigned_abs() as usize,
+            ..self
+        }
+    }
+
+    #[tactic(auto, unfolding(crate::specs::Slots::skips))]
+    pub fn skip(self, skipping: bool) -> KernelTouches
+        ensures { result ≡ skips skipping self }
+    {
+        KernelTouches { skipping, ..self }
+    }
+
+    // A report end is acted on: each slot's finger is the one of the last report end.
+    #[tactic(auto, using(crate::proofs::SlotList::from_first))]
+    pub fn settle(mut self) -> KernelTouches
+        ensures { result ≡ settled self }
+    {
+        for slot in self.slots.iter_mut() {
+            let now = slot.now;
+            *slot = Slot { now, acted: now };
+        }
+        self
+    }
 }

@@ -2,21 +2,20 @@
 ghost use Rattle.std.specs.Prelude.{◌≡◌};
 ghost use Rattle.kernel_touch.specs.Step.{bad, done, skipped, after, refusal, unless};
 
-use crate::answer::{KernelRefusal, MaybeRefusal};
-use crate::slots::{KernelTouches, choose, set_id, set_x, set_y, settle, skip};
-use kernel_record::{KernelRecord, is_end};
+use crate::answer::KernelRefusal;
+use crate::slots::KernelTouches;
+use kernel_record::KernelRecord;
 use kernel_values::{position_ok, slot_ok, tracking_id_ok};
 
-fn unless(ok: bool, q: KernelRefusal) -> MaybeRefusal
+#[tactic(auto, unfolding(crate::specs::Step::unless))]
+fn unless(ok: bool, q: KernelRefusal) -> Result<(), KernelRefusal>
     ensures { result ≡ unless ok q }
 {
-    if ok {
-        return MaybeRefusal::None;
-    }
-    MaybeRefusal::Some(q)
+    if ok { Ok(()) } else { Err(q) }
 }
 
-fn bad(r: KernelRecord) -> MaybeRefusal
+#[tactic(auto, unfolding(crate::specs::Step::bad))]
+fn bad(r: KernelRecord) -> Result<(), KernelRefusal>
     ensures { result ≡ bad r }
 {
     match r {
@@ -24,50 +23,49 @@ fn bad(r: KernelRecord) -> MaybeRefusal
         KernelRecord::MtPositionX(v) => unless(position_ok(v), KernelRefusal::OutsideDomain),
         KernelRecord::MtPositionY(v) => unless(position_ok(v), KernelRefusal::OutsideDomain),
         KernelRecord::MtTrackingId(v) => unless(tracking_id_ok(v), KernelRefusal::OutsideDomain),
-        KernelRecord::ReportEnd => MaybeRefusal::None,
-        KernelRecord::Dropped => MaybeRefusal::None,
-        KernelRecord::Other => MaybeRefusal::None,
+        KernelRecord::ReportEnd | KernelRecord::Dropped | KernelRecord::Other => Ok(()),
     }
 }
 
-// A record that is not skipped.
-fn done(r: KernelRecord, k: KernelTouches) -> KernelTouches
-    ensures { result ≡ done r k }
-{
-    match r {
-        KernelRecord::MtSlot(v) => choose(k, v),
-        KernelRecord::MtPositionX(v) => set_x(k, v),
-        KernelRecord::MtPositionY(v) => set_y(k, v),
-        KernelRecord::MtTrackingId(v) => set_id(k, v),
-        KernelRecord::ReportEnd => settle(k),
-        KernelRecord::Dropped => skip(k, true),
-        KernelRecord::Other => k,
+impl KernelTouches {
+    // A record that is not skipped.
+    #[tactic(auto, unfolding(crate::specs::Step::done))]
+    fn done(self, r: KernelRecord) -> KernelTouches
+        ensures { result ≡ done r self }
+    {
+        match r {
+            KernelRecord::MtSlot(v) => self.choose(v),
+            KernelRecord::MtPositionX(v) => self.set_x(v),
+            KernelRecord::MtPositionY(v) => self.set_y(v),
+            KernelRecord::MtTrackingId(v) => self.set_id(v),
+            KernelRecord::ReportEnd => self.settle(),
+            KernelRecord::Dropped => self.skip(true),
+            KernelRecord::Other => self,
+        }
     }
-}
 
-fn skipped(r: KernelRecord, k: KernelTouches) -> KernelTouches
-    ensures { result ≡ skipped r k }
-{
-    if is_end(r) {
-        return skip(k, false);
+    #[tactic(auto, unfolding(crate::specs::Step::skipped))]
+    fn skipped(self, r: KernelRecord) -> KernelTouches
+        ensures { result ≡ skipped r self }
+    {
+        if r.is_end() { self.skip(false) } else { self }
     }
-    k
-}
 
-pub fn after(r: KernelRecord, k: KernelTouches) -> KernelTouches
-    ensures { result ≡ after r k }
-{
-    if k.skipping {
-        return skipped(r, k);
+    #[tactic(auto, unfolding(crate::specs::Step::after))]
+    pub fn after(self, r: KernelRecord) -> KernelTouches
+        ensures { result ≡ after r self }
+    {
+        if self.skipping {
+            self.skipped(r)
+        } else {
+            self.done(r)
+        }
     }
-    done(r, k)
-}
 
-pub fn refusal(r: KernelRecord, k: KernelTouches) -> MaybeRefusal
-    ensures { result ≡ refusal r k }
-{
-    if k.skipping {
-        return MaybeRefusal::None;
+    #[tactic(auto, unfolding(crate::specs::Step::refusal))]
+    pub fn refusal(self, r: KernelRecord) -> Result<(), KernelRefusal>
+        ensures { result ≡ refusal r self }
+    {
+        if self.skipping { Ok(()) } else { bad(r) }
     }
-    bad(r)
 }

@@ -1,12 +1,13 @@
-use Prim.Native.Nat.{◌-◌, ◌≤◌}
 use mathlib.Core.Path.{◌≡◌}
 use lib.ListN.{length}
+use Rattle.std.specs.Slice.Iter.{chunks_exact_size, chunks_exact_rest}
+use Rattle.kernel_record.specs.Records.{record_bytes}
 use Rattle.kernel_read.proofs.Run.{Fillings}
 use Rattle.kernel_read.proofs.fill.Given as goal
 
-abbrev pub invariant-loop-i : goal.invariant-loop-i
-invariant-loop-i l =
-    (l.i ≤ l.n) × (length l.feed ≡ length l.initial.feed) × Fillings l.device l.n l.i l.at l.bytes l.initial.feed l.feed l.initial.kernel l.kernel
-
-abbrev pub decreases-loop-i : goal.decreases-loop-i
-decreases-loop-i l = l.n - l.i
+abbrev pub invariant-loop-record : goal.invariant-loop-record
+invariant-loop-record l = record {
+  size : chunks_exact_size l.record-iterator ≡ record_bytes;
+  places : length l.feed ≡ length l.initial.feed;
+  fillings : Fillings l.device l.at l.bytes (chunks_exact_rest l.record-iterator) l.initial.feed l.feed l.initial.kernel l.kernel;
+}

@@ -1,64 +1,73 @@
-use mathlib.Core.Path.{◌≡◌, sym, ap, ◌∙◌}
-use native.Mathlib.Numerals.{add-one}
+use mathlib.Core.Path.{◌≡◌, sym, ap, ◌∙◌, subst}
+use mathlib.Core.List.{List}
+use Prim.Native.Nat.{ℕ, ◌<◌}
+use borrow.Author.Rules.{rules}
 use native.Mathlib.Omega.{arith}
-use Rattle.kernel_record.specs.Records.{held_dropped}
+use lib.ListN.{length}
+use Rattle.std.specs.Prelude.{Ok}
+use Rattle.std.specs.Slice.Iter.{chunks_exact_rest}
+use Rattle.std.proofs.lemmas.Result.{err_from_is_err_and}
+use Rattle.kernel_record.specs.Records.{record_bytes, held_dropped}
 use Rattle.kernel_read.specs.Read.{all_records}
 use Rattle.kernel_read.specs.Steps.{looked}
-use Rattle.kernel_read.specs.declared.Looked.TheVariants.{Fits}
-use Rattle.kernel_read.proofs.Run.{rest_first, look_first, look_next, look_refused, look_last, held_next, held_last, has_room}
+use Rattle.kernel_read.proofs.Run.{Looks, look_first, look_next, look_refused, look_last, held_next, held_last, has_room}
 use Rattle.kernel_read.proofs.look.Goals as goal
 
-pub loop-i-init : goal.loop-i-init
-loop-i-init c = (omega arith, ap held_dropped (rest_first _ _), λ device. look_first device _ _ _ _)
-
-pub overflow_mul-i : goal.overflow_mul-i
-overflow_mul-i c = omega (arith, c.loop-i-test.true)
-
-pub record_at-r-requires : goal.record_at-r-requires
-record_at-r-requires c = omega (arith, c.loop-i-test.true)
-
-pub returns-in-Some : goal.returns-in-Some
-unfolding looked all_records
-returns-in-Some c =
-    let now = c.loop-i in
+pub loop-record-init : goal.loop-record-init
+loop-record-init c =
     let bytes = c.args.bytes.now in
+    let all : chunks_exact_rest c.into_iter-record-iterator.result ≡ bytes = search rules in
+    record {
+      size = search rules;
+      held = ap (λ (ahead : List ℕ). held_dropped (all_records ahead)) all;
+      looks = λ device. subst (λ (ahead : List ℕ). Looks device c.args.room c.args.room bytes ahead c.args.k c.args.k) (sym all) (look_first device _ _ _);
+    }
+
+pub returns-in_err-verdict : goal.returns-in_err-verdict
+unfolding looked
+returns-in_err-verdict c =
+    let now = c.loop-record in
+    let bytes = c.args.bytes.now in
+    let steps = c.in-Some.ensures.steps in
+    let p = err_from_is_err_and c.from_residual.result c.from_residual.ensures.1 in
+    rw (p.1, p.2)
     (λ device.
     sym (ap (looked (held_dropped (all_records bytes)))
-    (look_refused device _ _ now.i now.left _ bytes _ now.kernel c.record_at-r.result _ c.loop-i-test.true c.record_at-r.ensures
+    (look_refused device _ now.left _ bytes _ _ _ _ now.kernel c.record_at-r.result _ steps.1.0 (steps.1.1 ∙ now.invariant.size) c.record_at-r.ensures
     (c.record_words-words.ensures device)
-    (sym c.verdict-q.ensures ∙ c.in-Some.is)
-    (now.invariant.2 device))))
+    (sym c.verdict.ensures ∙ c.in_err-verdict.was)
+    (now.invariant.looks device))))
 
 pub overflow_sub-left : goal.overflow_sub-left
 overflow_sub-left c =
-    let now = c.loop-i in
-    has_room 0 _ now.left c.record_at-r.result now.kernel (c.record_words-words.ensures 0) (sym c.verdict-q.ensures ∙ c.in_default.is)
+    let now = c.loop-record in
+    has_room 0 _ now.left c.record_at-r.result now.kernel (c.record_words-words.ensures 0) (sym c.verdict.ensures ∙ c.in_ok-verdict.was)
 
-pub overflow_add-i : goal.overflow_add-i
-overflow_add-i c = omega arith
-
-pub loop-i-smaller : goal.loop-i-smaller
-loop-i-smaller c = omega arith
-
-pub loop-i-preserved : goal.loop-i-preserved
-loop-i-preserved c =
-    let now = c.loop-i in
-    let bytes = c.args.bytes.now in (
-      omega (arith, c.loop-i-test.true),
-      rw (add-one now.i) (held_next _ now.i bytes c.record_at-r.result now.dropped _ c.loop-i-test.true c.record_at-r.ensures c.is_dropped-dropped.ensures ∙ now.invariant.1),
-      λ device.
-          rw (add-one now.i, c.after-kernel.ensures)
-          (look_next device _ _ now.i now.left _ bytes _ now.kernel c.record_at-r.result c.loop-i-test.true c.record_at-r.ensures
+pub loop-record-preserved : goal.loop-record-preserved
+loop-record-preserved c =
+    let now = c.loop-record in
+    let bytes = c.args.bytes.now in
+    let steps = c.in-Some.ensures.steps in
+    record {
+      size = steps.0 ∙ now.invariant.size;
+      held =
+          held_next _ _ _ c.record_at-r.result now.dropped _ steps.1.0 (steps.1.1 ∙ now.invariant.size) c.record_at-r.ensures c.is_dropped-dropped.ensures
+          ∙ now.invariant.held;
+      looks =
+          λ device.
+          rw c.after-kernel.ensures
+          (look_next device _ now.left _ bytes _ _ _ _ now.kernel c.record_at-r.result steps.1.0 (steps.1.1 ∙ now.invariant.size) c.record_at-r.ensures
           (c.record_words-words.ensures device)
-          (sym c.verdict-q.ensures ∙ c.in_default.is)
-          (now.invariant.2 device)),
-    )
+          (sym c.verdict.ensures ∙ c.in_ok-verdict.was)
+          (now.invariant.looks device));
+    }
 
 pub returns : goal.returns
-unfolding looked all_records
+unfolding looked
 returns c =
-    let now = c.loop-i in
+    let now = c.loop-record in
     let bytes = c.args.bytes.now in
-    let held : now.dropped ≡ held_dropped (all_records bytes) = sym (held_last _ now.i bytes now.dropped c.loop-i-test.false) ∙ now.invariant.1 in
+    let short : length (chunks_exact_rest now.record-iterator) < record_bytes = omega (arith, c.in-None.ensures.steps.1.0, now.invariant.size) in
+    let held : now.dropped ≡ held_dropped (all_records bytes) = sym (held_last _ now.dropped short) ∙ now.invariant.held in
     (λ device.
-    ap Fits held ∙ sym (ap (looked (held_dropped (all_records bytes))) (look_last device _ _ now.i now.left bytes _ now.kernel c.loop-i-test.false (now.invariant.2 device))))
+    ap Ok held ∙ sym (ap (looked (held_dropped (all_records bytes))) (look_last device _ now.left bytes _ _ now.kernel short (now.invariant.looks device))))

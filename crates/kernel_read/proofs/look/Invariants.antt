@@ -1,13 +1,17 @@
-use Prim.Native.Nat.{ℕ, ◌-◌, ◌≤◌}
+use Prim.Native.Nat.{ℕ}
 use mathlib.Core.Path.{◌≡◌}
 use mathlib.Core.Bool.{◌||◌}
-use Rattle.kernel_record.specs.Records.{records, held_dropped}
-use Rattle.kernel_read.proofs.Run.{rest, Looks}
+use Rattle.std.specs.Slice.Iter.{chunks_exact_size, chunks_exact_rest}
+use Rattle.kernel_record.specs.Records.{record_bytes, held_dropped}
+use Rattle.kernel_read.specs.Read.{all_records}
+use Rattle.kernel_read.proofs.Run.{Looks}
 use Rattle.kernel_read.proofs.look.Given as goal
 
-abbrev pub invariant-loop-i : goal.invariant-loop-i
-invariant-loop-i l =
-    (l.i ≤ l.n) × ((l.dropped || held_dropped (rest l.n l.i l.bytes)) ≡ held_dropped (records l.n 0 l.bytes)) × ((device : ℕ) → Looks device l.room l.n l.i l.left l.bytes l.initial.kernel l.kernel)
-
-abbrev pub decreases-loop-i : goal.decreases-loop-i
-decreases-loop-i l = l.n - l.i
+abbrev pub invariant-loop-record : goal.invariant-loop-record
+invariant-loop-record l =
+    let ahead = chunks_exact_rest l.record-iterator in
+    record {
+      size : chunks_exact_size l.record-iterator ≡ record_bytes;
+      held : (l.dropped || held_dropped (all_records ahead)) ≡ held_dropped (all_records l.bytes);
+      looks : (device : ℕ) → Looks device l.room l.left l.bytes ahead l.initial.kernel l.kernel;
+    }

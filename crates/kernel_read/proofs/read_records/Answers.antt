@@ -9,14 +9,14 @@ returns-then-bytes-ne0 c =
 pub fill-f-requires : goal.fill-f-requires
 fill-f-requires c =
     let begin = c.args in
-    will_fit begin.k begin.device begin.bytes.now begin.feed.now _ _ (c.look.ensures begin.device) c.in-Fits.is
+    will_fit begin.k begin.device begin.bytes.now begin.feed.now _ _ (c.look.ensures begin.device) c.in-Ok.is
 
-pub returns-in-Refused : goal.returns-in-Refused
-returns-in-Refused c =
+pub returns-in-Err : goal.returns-in-Err
+returns-in-Err c =
     let begin = c.args in
-    refused_record begin.k begin.device begin.bytes.now begin.feed.now _ _ c.if-bytes-ne0.false (c.look.ensures begin.device) c.in-Refused.is
+    refused_record begin.k begin.device begin.bytes.now begin.feed.now _ _ c.if-bytes-ne0.false (c.look.ensures begin.device) c.in-Err.is
 
-pub returns-in-Fits : goal.returns-in-Fits
-returns-in-Fits c =
+pub returns-in-Ok : goal.returns-in-Ok
+returns-in-Ok c =
     let begin = c.args in
-    taken_reads begin.k begin.device begin.bytes.now begin.feed.now _ _ c.fill-f.result _ c.if-bytes-ne0.false (c.look.ensures begin.device) c.in-Fits.is c.fill-f.ensures
+    taken_reads begin.k begin.device begin.bytes.now begin.feed.now _ _ c.fill-f.result _ c.if-bytes-ne0.false (c.look.ensures begin.device) c.in-Ok.is c.fill-f.ensures
