@@ -1,3 +1,4 @@
 pub mod Walk
 pub mod Loops
 pub mod OfKind
+pub mod Rows

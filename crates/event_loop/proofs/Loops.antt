@@ -1,61 +1,37 @@
 -- What a loop along a list computes. Assumes nothing.
 use mathlib.Core.Path.{◌≡◌, refl, sym, ap, ◌∙◌}
 use mathlib.Core.Bool.{Bool, true, false, ◌||◌, cond}
-use mathlib.Core.List.{List, [], ◌∷◌, ◌++◌, map-append}
-use Prim.Native.Nat.{ℕ, zero, suc, ◌+◌, ◌-◌, ◌*◌, ◌≤◌, ◌<◌}
+use mathlib.Core.List.{List, [], ◌∷◌, ◌++◌, map, map-append, append_assoc, append-nil}
+use Prim.Native.Nat.{ℕ, ◌+◌, ◌≤◌, ◌<◌}
 use native.Mathlib.Omega.{arith}
-use native.Mathlib.Numerals.{add-one, unary_clauses}
-use lib.ListN.{get_or, set, length, drop, length-append, length-map, get_or-append}
-use lib.Seq.{get_or-set_same, get_or-set_other, get_or_at, drop-cons, drop-length}
-use lib.Dec.{ltb}
-use borrow.Author.Tests.{ltb-true, ltb-false}
-use Rattle.data.specs.Limits.{max_events}
+use lib.ListN.{get_or, length, take, drop, length-map}
+use Rattle.std.proofs.lemmas.List.{take_more, take_all, take-append-drop}
 use Rattle.feed.specs.Types.{Event}
 use Rattle.event_loop.specs.Shaped.{shaped_at}
-use Rattle.event_loop.specs.Lists.{listed, listed_events, reads, own}
+use Rattle.event_loop.specs.Lists.{listed_events, reads, own}
 use Rattle.event_loop.specs.Loop.{Loop, Any, OwnLaw, OwnAnyLaw}
 
--- ---- the places of a list
-module _ (ps : List ℕ) (l : ℕ) where
-  pub listed_length : (n : ℕ) → length (listed ps l n) ≡ n
-  unfolding listed
-  listed_length zero = refl
-  listed_length (suc n) = length-append (listed ps l n) _ ∙ rw (listed_length n) (omega arith)
+-- ---- the events at some places
+pub none : (ws : List ℕ) → listed_events ws [] ≡ []
+unfolding listed_events
+none ws = refl
 
-  listed_at : (n i : ℕ) → i < n → get_or (listed ps l n) i 0 ≡ get_or ps (l * max_events + i) 0
-  unfolding listed
-  listed_at zero i h = absurd (omega arith)
-  listed_at (suc n) i h = go (λ k. listed_at n i k) (ltb i n) refl
-    where
-      go : (i < n → get_or (listed ps l n) i 0 ≡ get_or ps (l * max_events + i) 0) → (b : Bool) → ltb i n ≡ b →
-          get_or (listed ps l n ++ (get_or ps (l * max_events + n) 0 ∷ [])) i 0 ≡ get_or ps (l * max_events + i) 0
-      go earlier true t =
-          let k : i < n = ltb-true _ _ t in
-          get_or-append (listed ps l n) _ 0 i (rw (listed_length n) k) ∙ earlier k
-      go earlier false t =
-          let k : n ≤ i = ltb-false _ _ t in
-          let e : n ≡ i = omega arith in
-          rw (← e) (get_or_at (listed ps l n) _ [] 0 n (listed_length n))
-
-  -- those that are left at the i-th
-  pub listed_rest : (n i : ℕ) → i < n → drop i (listed ps l n) ≡ get_or ps (l * max_events + i) 0 ∷ drop (i + 1) (listed ps l n)
-  listed_rest n i h = drop-cons (listed ps l n) i 0 (rw (listed_length n) h) ∙ rw (listed_at n i h, add-one i)
-
-  pub listed_done : (n : ℕ) → drop n (listed ps l n) ≡ []
-  listed_done n = ap (λ (k : ℕ). drop k (listed ps l n)) (sym (listed_length n)) ∙ drop-length (listed ps l n)
-
-module _ (ws ps : List ℕ) (l : ℕ) where
-  pub none : listed_events ws ps l 0 ≡ []
-  unfolding listed_events listed
-  none = refl
-
-  pub one_more : (n : ℕ) → listed_events ws ps l (n + 1) ≡ listed_events ws ps l n ++ (shaped_at ws (get_or ps (l * max_events + n) 0) ∷ [])
-  unfolding listed_events listed
-  one_more n = rw (add-one n) (map-append (shaped_at ws) (listed ps l n) (get_or ps (l * max_events + n) 0 ∷ []))
-
-  pub count : (n : ℕ) → length (listed_events ws ps l n) ≡ n
+module _ (ws ps : List ℕ) where
+  pub one_more : (n : ℕ) → n < length ps → listed_events ws (take (n + 1) ps) ≡ listed_events ws (take n ps) ++ (shaped_at ws (get_or ps n 0) ∷ [])
   unfolding listed_events
-  count n = length-map (listed ps l n) (shaped_at ws) ∙ listed_length ps l n
+  one_more n h = rw (take_more ps n 0 h) (map-append (shaped_at ws) (take n ps) (get_or ps n 0 ∷ []))
+
+  parted : (n : ℕ) → listed_events ws ps ≡ listed_events ws (take n ps) ++ listed_events ws (drop n ps)
+  unfolding listed_events
+  parted n = ap (map (shaped_at ws)) (sym (take-append-drop n ps)) ∙ map-append (shaped_at ws) (take n ps) (drop n ps)
+
+  pub count : length (listed_events ws ps) ≡ length ps
+  unfolding listed_events
+  count = length-map ps (shaped_at ws)
+
+-- a loop's end, along places that are a reader's
+pub ended : (ws : List ℕ) {ps qs : List ℕ} (n : ℕ) → ps ≡ qs → length ps ≤ n → listed_events ws (take n ps) ≡ listed_events ws qs
+ended ws {ps} {qs} n e h = rw (take_all n ps h, e)
 
 -- ---- a component's state
 module _ {S : Type 0} (run : List Event → S → S) (step : Event → S → S) (run_none : (s : S) → run [] s ≡ s)
@@ -67,8 +43,8 @@ module _ {S : Type 0} (run : List Event → S → S) (step : Event → S → S) 
   pub loop : Loop run step
   loop =
       record {
-        begins = λ ws ps l s. ap (λ (es : List Event). run es s) (none ws ps l) ∙ run_none s;
-        goes_on = λ ws ps l n s. ap (λ (es : List Event). run es s) (one_more ws ps l n) ∙ run_last (listed_events ws ps l n) _ s;
+        begins = λ ws s. ap (λ (es : List Event). run es s) (none ws) ∙ run_none s;
+        goes_on = λ ws ps n s h. ap (λ (es : List Event). run es s) (one_more ws ps n h) ∙ run_last (listed_events ws (take n ps)) _ s;
       }
 
   pub own_law : (l : ℕ) → OwnLaw l run step
@@ -90,20 +66,16 @@ module _ (any : List Event → Bool) (any_none : any [] ≡ false) (any-first : 
   any_last [] e = rw any_none
   any_last (d ∷ es) e = any-first d (es ++ (e ∷ [])) ∙ rw (any_last es e, any-first d es) (or_assoc (any (d ∷ [])) (any es) (any (e ∷ [])))
 
-  any_more : (ws ps : List ℕ) (l n k : ℕ) → any (listed_events ws ps l n) ≡ true → any (listed_events ws ps l (n + k)) ≡ true
-  any_more ws ps l n zero h = simp unary_clauses h
-  any_more ws ps l n (suc k) h =
-      let e : n + suc k ≡ n + k + 1 = omega arith in
-      rw e (ap any (one_more ws ps l (n + k)) ∙ any_last (listed_events ws ps l (n + k)) _ ∙ rw (any_more ws ps l n k h))
+  any_more : (es ds : List Event) → any es ≡ true → any (es ++ ds) ≡ true
+  any_more es [] h = rw (append-nil es) h
+  any_more es (d ∷ ds) h = rw (← append_assoc es (d ∷ []) ds) (any_more (es ++ (d ∷ [])) ds (any_last es d ∙ rw h))
 
   pub any_loop : Any any
   any_loop =
       record {
-        begins = λ ws ps l. ap any (none ws ps l) ∙ any_none;
-        goes_on = λ ws ps l n. ap any (one_more ws ps l n) ∙ any_last (listed_events ws ps l n) _;
-        stays = λ ws ps l n m h t.
-            let e : m ≡ n + (m - n) = omega arith in
-            rw e (any_more ws ps l n (m - n) t);
+        begins = λ ws. ap any (none ws) ∙ any_none;
+        goes_on = λ ws ps n h. ap any (one_more ws ps n h) ∙ any_last (listed_events ws (take n ps)) _;
+        stays = λ ws ps n h. rw (parted ws ps n) (any_more (listed_events ws (take n ps)) (listed_events ws (drop n ps)) h);
       }
 
   pub own_any_law : (l : ℕ) → OwnAnyLaw l any
@@ -124,16 +96,3 @@ own_fewer l (e ∷ es) = go (own_fewer l es) (reads l e)
     go : length (own l es) ≤ length es → (b : Bool) → length (cond b (e ∷ own l es) (own l es)) ≤ length (e ∷ es)
     go h true = omega arith
     go h false = omega arith
-
--- ---- a place more in a list
-module _ (ps : List ℕ) (v : ℕ) where
-  pub listed_other : (j l n : ℕ) → ((i : ℕ) → i < n → l * max_events + i ≡ j → ⊥) → listed (set ps j v) l n ≡ listed ps l n
-  unfolding listed
-  listed_other j l zero h = refl
-  listed_other j l (suc n) h =
-      rw (listed_other j l n (λ i k. h i (omega arith)), get_or-set_other ps j (l * max_events + n) v 0 (h n (omega arith)))
-
-  pub listed_same : (l n : ℕ) → l * max_events + n < length ps → listed (set ps (l * max_events + n) v) l (n + 1) ≡ listed ps l n ++ (v ∷ [])
-  unfolding listed
-  listed_same l n h =
-      rw (add-one n, listed_other (l * max_events + n) l n (λ i k e. omega arith), get_or-set_same ps (l * max_events + n) v 0 h)

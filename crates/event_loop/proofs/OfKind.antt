@@ -1,4 +1,5 @@
 -- An event that is shaped is of its first word's kind, or `Other`; a key's place is one of egui's; variants by their kinds. Assumes nothing.
+use Rattle.std.specs.Prelude.{Option, None, Some}
 use mathlib.Core.Path.{◌≡◌, refl, sym, ◌∙◌, subst}
 use mathlib.Core.Bool.{Bool, true, false, cond, not}
 use mathlib.Core.List.{List, [], ◌∷◌, ◌++◌}
@@ -16,40 +17,39 @@ use Rattle.data.specs.Limits.{key_count, button_count, unit_count}
 use Rattle.data.specs.Numbers.{kind_number}
 use Rattle.data.specs.contracts.event.Event.{the_type}
 use Rattle.feed.specs.Types.{Event, Key, ModifiersChanged, PointerMoved, MouseMoved, Button, PointerGone, Zoom, Rotate, Touch, MouseWheel, WindowFocused, Other}
-use Rattle.feed.specs.declared.found.MaybeEvent.{MaybeEvent}
-use Rattle.feed.specs.declared.found.MaybeEvent.TheVariants.{None as no_event, Some as some_event}
+use Rattle.data.specs.declared.event.Event.{Event}
 use Rattle.feed.specs.Encode.{fields_ok}
 use Rattle.feed.specs.Split.{kind, low_bits, following}
 use Rattle.feed.specs.Shape.{clean, field_below, key_shape, modifiers_shape, moved_shape, motion_shape, button_shape, zoom_shape, rotate_shape, touch_shape, wheel_shape, focus_shape, shape_by_kind, shape}
 use Rattle.event_loop.specs.Shaped.{event_or_other, shaped_at}
-use Rattle.event_loop.specs.Lists.{lists, list_of, reads}
-use Rattle.feed.proofs.Lengths.{all_le, get_d_le}
+use Rattle.event_loop.specs.Lists.{reader_of, list_of, reads}
+use Rattle.event_loop.proofs.Rows.{number_small}
 use Rattle.event_loop.proofs.Walk.{at_past, at_short, at_whole}
 
 abbrev Of_kind : ℕ → Event → Type 0
 Of_kind k e = ((kind_number e ≡ k) ⊎ (e ≡ Other)) × T (fields_ok e)
 
 -- what is shaped is of kind k
-abbrev Of : ℕ → MaybeEvent → Type 0
-Of k m = (e : Event) → m ≡ some_event e → (kind_number e ≡ k) × T (fields_ok e)
+abbrev Of : ℕ → Option Event → Type 0
+Of k m = (e : Event) → m ≡ Some e → (kind_number e ≡ k) × T (fields_ok e)
 
-none_of : (k : ℕ) → Of k no_event
+none_of : (k : ℕ) → Of k None
 none_of k e h = let z : ◌≡◌ {A = ℕ} 0 1 = cc in absurd (omega arith)
 
-by_cond : (k : ℕ) (b : Bool) (x y : MaybeEvent) → (b ≡ true → Of k x) → Of k y → Of k (cond b x y)
+by_cond : (k : ℕ) (b : Bool) (x y : Option Event) → (b ≡ true → Of k x) → Of k y → Of k (cond b x y)
 by_cond k true x y f g = f refl
 by_cond k false x y f g = g
 
 -- an event under the tests of its low bits
-clean_of : (k limit low : ℕ) (m : MaybeEvent) → Of k m → Of k (clean limit low m)
+clean_of : (k limit low : ℕ) (m : Option Event) → Of k m → Of k (clean limit low m)
 unfolding clean
-clean_of k limit low m h = by_cond k (ltb low limit) m no_event (λ t. h) (none_of k)
+clean_of k limit low m h = by_cond k (ltb low limit) m None (λ t. h) (none_of k)
 
-below_of : (k limit field : ℕ) (m : MaybeEvent) → (ltb field limit ≡ true → Of k m) → Of k (field_below limit field m)
+below_of : (k limit field : ℕ) (m : Option Event) → (ltb field limit ≡ true → Of k m) → Of k (field_below limit field m)
 unfolding field_below
-below_of k limit field m h = by_cond k (ltb field limit) m no_event h (none_of k)
+below_of k limit field m h = by_cond k (ltb field limit) m None h (none_of k)
 
-some_of : (k n : ℕ) (e : Event) → eqb k n ≡ true → kind_number e ≡ n → T (fields_ok e) → Of k (some_event e)
+some_of : (k n : ℕ) (e : Event) → eqb k n ≡ true → kind_number e ≡ n → T (fields_ok e) → Of k (Some e)
 some_of k n e t h f d p =
     let same : e ≡ d = cc in
     let both : (kind_number e ≡ k) × T (fields_ok e) = (h ∙ sym (eqb-true k n t), f) in
@@ -73,10 +73,10 @@ by_kind k low ws =
     (by_cond k (eqb k other_kind) _ _ (λ t. clean_of k 1 low _ (some_of k other_kind _ t refl tt))
     (none_of k)))))))))))))
 
-or_other : (k : ℕ) (m : MaybeEvent) → Of k m → Of_kind k (event_or_other m)
+or_other : (k : ℕ) (m : Option Event) → Of k m → Of_kind k (event_or_other m)
 unfolding event_or_other fields_ok
-or_other k no_event h = (inr refl, tt)
-or_other k (some_event e) h =
+or_other k None h = (inr refl, tt)
+or_other k (Some e) h =
     let f = h e refl in
     (inl f.0, f.1)
 
@@ -104,11 +104,11 @@ module _ (ws : List ℕ) (at : ℕ) where
   fields = OfKind.1
 
 -- words that say an event: it is of their kind
-pub kind_of : (w : ℕ) (ws : List ℕ) (e : Event) → shape (w ∷ ws) ≡ some_event e → kind_number e ≡ kind w
+pub kind_of : (w : ℕ) (ws : List ℕ) (e : Event) → shape (w ∷ ws) ≡ Some e → kind_number e ≡ kind w
 unfolding shape
 kind_of w ws e h = go (ltb (length ws) (following w)) h
   where
-    go : (b : Bool) → cond b no_event (shape_by_kind (kind w) (low_bits w) ws) ≡ some_event e → kind_number e ≡ kind w
+    go : (b : Bool) → cond b None (shape_by_kind (kind w) (low_bits w) ws) ≡ Some e → kind_number e ≡ kind w
     go true h = (none_of (kind w) e h).0
     go false h = (by_kind (kind w) (low_bits w) ws e h).0
 
@@ -117,8 +117,7 @@ pub not_read : (l : ℕ) (e : Event) (k : ℕ) → reads l e ≡ false → list_
 not_read l e k h own same = eqb-false (list_of (kind_number e)) l h (rw same own)
 
 pub list_small : (k : ℕ) → list_of k ≤ 5
-unfolding all_le
-list_small k = get_d_le 5 lists k tt
+list_small k = omega (arith, number_small (reader_of k))
 
 -- ---- the variants stand in the order of the kinds, which begin at 1
 variant_kind : (e : Event) → kind_number e ≡ suc (tag_of the_type e)

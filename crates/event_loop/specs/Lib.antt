@@ -1,3 +1,4 @@
+pub mod Count
 pub mod Shaped
 pub mod Lists
 pub mod Loop

@@ -1,8 +1,11 @@
 -- The lists that reading a feed makes: the places of each component's events, so that its loop goes along its own events alone.
-use Rattle.std.specs.Prelude.{◌≡◌, Bool, cond, List, [], ◌∷◌, ◌++◌, map, ℕ, zero, suc, ◌+◌, ◌*◌, ◌<◌, eqb, get_or}
-use Rattle.data.specs.Limits.{max_events}
+use Rattle.std.specs.Prelude.{◌≡◌, Bool, cond, List, [], ◌∷◌, map, take, ℕ, ◌<◌, eqb, get_or}
 use Rattle.data.specs.Numbers.{kind_number}
 use Rattle.feed.specs.Types.{Event}
+use Rattle.event_loop.specs.declared.lists.Reader.{Reader}
+use Rattle.event_loop.specs.declared.lists.Reader.TheVariants.{Nobody, Pointer, Keys, Sums, Touches, Wheel}
+use Rattle.event_loop.specs.declared.lists.Lists.{Lists}
+use Rattle.event_loop.specs.Count.{list_count}
 use Rattle.event_loop.specs.Shaped.{shaped_at, shaped_events}
 
 -- the components' lists; list 0 is of the events that none reads
@@ -21,25 +24,33 @@ touch_list = 4
 abbrev pub wheel_list : ℕ
 wheel_list = 5
 
-abbrev pub list_count : ℕ
-list_count = 6
+-- the number of a reader's list
+abbrev pub number : Reader → ℕ
+number Nobody = 0
+number Pointer = pointer_list
+number Keys = keys_list
+number Sums = sums_list
+number Touches = touch_list
+number Wheel = wheel_list
+
+-- who reads each kind
+abbrev pub readers : List Reader
+readers = Nobody ∷ Keys ∷ Keys ∷ Pointer ∷ Pointer ∷ Pointer ∷ Pointer ∷ Sums ∷ Sums ∷ Touches ∷ Wheel ∷ Keys ∷ Nobody ∷ Nobody ∷ Nobody ∷ Nobody ∷ []
+
+abbrev pub reader_of : ℕ → Reader
+reader_of kind = get_or readers kind Nobody
 
 -- the list of each kind
-abbrev pub lists : List ℕ
-lists =
-    0 ∷ keys_list ∷ keys_list ∷ pointer_list ∷ pointer_list ∷ pointer_list ∷ pointer_list ∷ sums_list ∷ sums_list ∷ touch_list ∷ wheel_list ∷ keys_list ∷ 0 ∷ 0 ∷ 0 ∷ 0 ∷ []
-
 abbrev pub list_of : ℕ → ℕ
-list_of kind = get_or lists kind 0
+list_of kind = number (reader_of kind)
 
--- the first n places in list l: each list has `max_events` of the lent places
-unfoldable pub listed : List ℕ → ℕ → ℕ → List ℕ
-listed ps l zero = []
-listed ps l (suc n) = listed ps l n ++ (get_or ps (l * max_events + n) 0 ∷ [])
+-- the places in list l
+unfoldable pub listed : Lists → ℕ → List ℕ
+listed s l = take (get_or s.counts l 0) (get_or s.places l [])
 
--- the events at them
-unfoldable pub listed_events : List ℕ → List ℕ → ℕ → ℕ → List Event
-listed_events ws ps l n = map (shaped_at ws) (listed ps l n)
+-- the events at some places
+unfoldable pub listed_events : List ℕ → List ℕ → List Event
+listed_events ws ps = map (shaped_at ws) ps
 
 -- is the event of a kind of list l?
 abbrev pub reads : ℕ → Event → Bool
@@ -50,6 +61,6 @@ unfoldable pub own : ℕ → List Event → List Event
 own l [] = []
 own l (e ∷ es) = cond (reads l e) (e ∷ own l es) (own l es)
 
--- the lists hold each component's events; `counts` has the length of each list
-abbrev pub Listed : List ℕ → List ℕ → List ℕ → Type 0
-Listed ws ps counts = (l : ℕ) → l < list_count → listed_events ws ps l (get_or counts l 0) ≡ own l (shaped_events ws)
+-- the lists hold each component's events
+abbrev pub Listed : List ℕ → Lists → Type 0
+Listed ws s = (l : ℕ) → l < list_count → listed_events ws (listed s l) ≡ own l (shaped_events ws)

@@ -1,16 +1,15 @@
 -- The events of a feed by their shapes alone, whatever their floats. Of a feed that a pass takes these are its events.
-use Rattle.std.specs.Prelude.{ℕ, List, map, drop}
+use Rattle.std.specs.Prelude.{ℕ, List, map, drop, Option, None, Some}
 use Rattle.feed.specs.Types.{Event, Other}
-use Rattle.feed.specs.declared.found.MaybeEvent.{MaybeEvent}
-use Rattle.feed.specs.declared.found.MaybeEvent.TheVariants.{None as no_event, Some as some_event}
+use Rattle.data.specs.declared.event.Event.{Event}
 use Rattle.feed.specs.Split.{Piece, pieces, pieces_from}
 use Rattle.feed.specs.Shape.{shape}
 use Rattle.feed.specs.Decode.{piece_at}
 
 -- words that are no event stand for one that no component reads
-unfoldable pub event_or_other : MaybeEvent → Event
-event_or_other no_event = Other
-event_or_other (some_event e) = e
+unfoldable pub event_or_other : Option Event → Event
+event_or_other None = Other
+event_or_other (Some e) = e
 
 unfoldable pub shaped : List ℕ → Event
 shaped ws = event_or_other (shape ws)

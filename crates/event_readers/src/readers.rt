@@ -6,18 +6,17 @@ ghost use Rattle.event_loop.specs.Shaped.{event_or_other, shaped_at};
 
 use data::event::Event;
 use data::kinds::KIND_UNIT;
-use feed::found::MaybeEvent;
 use feed_shape::shape::{
     bare, button_shape, focus_shape, key_shape, modifiers_shape, motion_shape, moved_shape,
     rotate_shape, touch_shape, wheel_shape, zoom_shape,
 };
 
-fn event_or_other(e: MaybeEvent) -> Event
+fn event_or_other(e: Option<Event>) -> Event
     ensures { result ≡ event_or_other e }
 {
     match e {
-        MaybeEvent::None => Event::Other,
-        MaybeEvent::Some(event) => event,
+        None => Event::Other,
+        Some(event) => event,
     }
 }
 

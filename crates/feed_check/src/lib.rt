@@ -1,5 +1,5 @@
-// Whether the words at a place are an event of the domain, and whose list it goes to: what `event_at` answers, without the event.
-// `low` is the first word's low 28 bits, `next` the place after the last word.
+// Whether the words at a place are an event of the domain, and who reads it: what `event_at` answers, without the event.
+// `low` is the first word's low 28 bits. An event has its reader, and `next`, the place after its last word.
 #![tactic(auto)]
 
 ghost use Rattle.std.specs.Prelude.{◌≡◌, true, ◌&&◌, suc, ◌+◌, ◌/◌, ◌%◌, ◌<◌, ltb, get_or, length, drop};
@@ -7,7 +7,8 @@ ghost use Rattle.data.specs.Limits.{coordinate_ok, zoom_ok, radians_ok, pos_ok, 
 ghost use Rattle.feed.specs.Split.{kind, low_bits, following};
 ghost use Rattle.feed.specs.Shape.{float_of, pos_of, force_of, shape_by_kind};
 ghost use Rattle.feed.specs.Decode.{check_floats, found_at};
-ghost use Rattle.event_loop.specs.Lists.{sums_list, touch_list, list_of};
+ghost use Rattle.event_loop.specs.Lists.{reader_of};
+ghost use Rattle.event_loop.specs.declared.lists.Reader.TheVariants.{Sums, Touches};
 ghost use Rattle.feed_check.specs.Verdict.{verdict_of, verdict_at, judged};
 
 use data::kinds::{
@@ -16,19 +17,10 @@ use data::kinds::{
 };
 use data::limits::{BUTTON_COUNT, KEY_COUNT, UNIT_COUNT};
 use domain::{force_ok, radians_ok, zoom_ok};
-use event_loop::{KEYS, POINTER, SUMS, TOUCHES, UNREAD, WHEEL};
+use event_loop::lists::Reader;
 use feed::fields::float_of;
+use feed::found::FeedError;
 use feed::split::following;
-
-#[derive(Clone, Copy)]
-pub enum Verdict {
-    // the list, and the place after the last word
-    Good(u8, usize),
-    // refusal 1
-    Malformed,
-    // refusal 2
-    OutsideDomain,
-}
 
 // An f32's pattern has the sign in its highest bit.
 const SIGN: u32 = 0x8000_0000;
@@ -42,94 +34,100 @@ fn coordinate_word_ok(w: u32) -> bool
     w % SIGN <= MAX_COORDINATE_BITS
 }
 
-fn in_domain(ok: bool, list: u8, next: usize) -> Verdict
-    ensures { result ≡ judged true ok list next }
+fn in_domain(ok: bool, reader: Reader, next: usize) -> Result<(Reader, usize), FeedError>
+    ensures { result ≡ judged true ok reader next }
 {
     if ok {
-        return Verdict::Good(list, next);
+        return Ok((reader, next));
     }
-    Verdict::OutsideDomain
+    Err(FeedError::OutsideDomain)
 }
 
 // No float to test.
-fn bare(clean: bool, list: u8, next: usize) -> Verdict
-    ensures { result ≡ judged clean true list next }
+fn bare(clean: bool, reader: Reader, next: usize) -> Result<(Reader, usize), FeedError>
+    ensures { result ≡ judged clean true reader next }
 {
     if clean {
-        return Verdict::Good(list, next);
+        return Ok((reader, next));
     }
-    Verdict::Malformed
+    Err(FeedError::Malformed)
 }
 
 // The two words after `at` are coordinates.
-fn placed(feed: &[u32], at: usize, clean: bool, list: u8, next: usize) -> Verdict
+fn placed(
+    feed: &[u32],
+    at: usize,
+    clean: bool,
+    reader: Reader,
+    next: usize,
+) -> Result<(Reader, usize), FeedError>
     requires { at + 2 < length feed.now }
-    ensures { result ≡ judged clean (pos_ok (pos_of (get_or feed.now (at + 1) 0) (get_or feed.now (at + 2) 0))) list next }
+    ensures { result ≡ judged clean (pos_ok (pos_of (get_or feed.now (at + 1) 0) (get_or feed.now (at + 2) 0))) reader next }
 {
     if clean {
         if coordinate_word_ok(feed[at + 1]) {
-            return in_domain(coordinate_word_ok(feed[at + 2]), list, next);
+            return in_domain(coordinate_word_ok(feed[at + 2]), reader, next);
         }
-        return Verdict::OutsideDomain;
+        return Err(FeedError::OutsideDomain);
     }
-    Verdict::Malformed
+    Err(FeedError::Malformed)
 }
 
-fn zoom(low: u32, x: u32, next: usize) -> Verdict
-    ensures { result ≡ judged (ltb low 1) (zoom_ok (float_of x)) sums_list next }
+fn zoom(low: u32, x: u32, next: usize) -> Result<(Reader, usize), FeedError>
+    ensures { result ≡ judged (ltb low 1) (zoom_ok (float_of x)) Sums next }
 {
     if low < 1 {
-        return in_domain(zoom_ok(float_of(x)), SUMS, next);
+        return in_domain(zoom_ok(float_of(x)), Reader::Sums, next);
     }
-    Verdict::Malformed
+    Err(FeedError::Malformed)
 }
 
-fn rotate(low: u32, x: u32, next: usize) -> Verdict
-    ensures { result ≡ judged (ltb low 1) (radians_ok (float_of x)) sums_list next }
+fn rotate(low: u32, x: u32, next: usize) -> Result<(Reader, usize), FeedError>
+    ensures { result ≡ judged (ltb low 1) (radians_ok (float_of x)) Sums next }
 {
     if low < 1 {
-        return in_domain(radians_ok(float_of(x)), SUMS, next);
+        return in_domain(radians_ok(float_of(x)), Reader::Sums, next);
     }
-    Verdict::Malformed
+    Err(FeedError::Malformed)
 }
 
 // A device's and a touch's id, which may be any, the position, and the force where bit 2 says so.
-fn touch(feed: &[u32], at: usize, low: u32, next: usize) -> Verdict
+fn touch(feed: &[u32], at: usize, low: u32, next: usize) -> Result<(Reader, usize), FeedError>
     requires { at + 6 + low / 4 % 2 < length feed.now }
-    ensures { result ≡ judged (ltb low 8) (pos_ok (pos_of (get_or feed.now (at + 5) 0) (get_or feed.now (at + 6) 0)) && maybe_force_ok (force_of (low / 4 % 2) (get_or feed.now (at + 7) 0))) touch_list next }
+    ensures { result ≡ judged (ltb low 8) (pos_ok (pos_of (get_or feed.now (at + 5) 0) (get_or feed.now (at + 6) 0)) && maybe_force_ok (force_of (low / 4 % 2) (get_or feed.now (at + 7) 0))) Touches next }
 {
     if low < 4 {
-        return placed(feed, at + 4, true, TOUCHES, next);
+        return placed(feed, at + 4, true, Reader::Touches, next);
     }
     if low < 8 {
         if force_ok(float_of(feed[at + 7])) {
-            return placed(feed, at + 4, true, TOUCHES, next);
+            return placed(feed, at + 4, true, Reader::Touches, next);
         }
-        return Verdict::OutsideDomain;
+        return Err(FeedError::OutsideDomain);
     }
-    Verdict::Malformed
+    Err(FeedError::Malformed)
 }
 
 // The event at `at`, whose words are all there.
-fn by_kind(feed: &[u32], at: usize, head: u32, next: usize) -> Verdict
+fn by_kind(feed: &[u32], at: usize, head: u32, next: usize) -> Result<(Reader, usize), FeedError>
     requires { at + following head < length feed.now }
-    ensures { result ≡ verdict_of (list_of (kind head)) (found_at (check_floats (shape_by_kind (kind head) (low_bits head) (drop (suc at) feed.now))) next) }
+    ensures { result ≡ verdict_of (reader_of (kind head)) (found_at (check_floats (shape_by_kind (kind head) (low_bits head) (drop (suc at) feed.now))) next) }
 {
     let low = head % KIND_UNIT;
     match head / KIND_UNIT {
-        0 => Verdict::Malformed,
-        KEY_KIND => bare((low < 512) & (low % 256 < KEY_COUNT), KEYS, next),
-        MODIFIERS_KIND => bare(low < 32, KEYS, next),
-        MOVED_KIND => placed(feed, at, low < 1, POINTER, next),
-        MOTION_KIND => placed(feed, at, low < 1, POINTER, next),
+        0 => Err(FeedError::Malformed),
+        KEY_KIND => bare((low < 512) & (low % 256 < KEY_COUNT), Reader::Keys, next),
+        MODIFIERS_KIND => bare(low < 32, Reader::Keys, next),
+        MOVED_KIND => placed(feed, at, low < 1, Reader::Pointer, next),
+        MOTION_KIND => placed(feed, at, low < 1, Reader::Pointer, next),
         BUTTON_KIND => placed(
             feed,
             at,
             (low < 512) & (low / 32 % 8 < BUTTON_COUNT),
-            POINTER,
+            Reader::Pointer,
             next,
         ),
-        GONE_KIND => bare(low < 1, POINTER, next),
+        GONE_KIND => bare(low < 1, Reader::Pointer, next),
         ZOOM_KIND => zoom(low, feed[at + 1], next),
         ROTATE_KIND => rotate(low, feed[at + 1], next),
         TOUCH_KIND => touch(feed, at, low, next),
@@ -137,19 +135,19 @@ fn by_kind(feed: &[u32], at: usize, head: u32, next: usize) -> Verdict
             feed,
             at,
             (low < 2048) & (low / 32 % 4 < UNIT_COUNT),
-            WHEEL,
+            Reader::Wheel,
             next,
         ),
-        FOCUS_KIND => bare(low < 2, KEYS, next),
-        OTHER_KIND => bare(low < 1, UNREAD, next),
-        13..=15 => Verdict::Malformed,
+        FOCUS_KIND => bare(low < 2, Reader::Keys, next),
+        OTHER_KIND => bare(low < 1, Reader::Nobody, next),
+        13..=15 => Err(FeedError::Malformed),
         // four bits: there is no more
-        _ => Verdict::Malformed,
+        _ => Err(FeedError::Malformed),
     }
 }
 
 // The event whose first word is at `at`. Past the end there is none: cut short.
-pub fn verdict_at(feed: &[u32], at: usize) -> Verdict
+pub fn verdict_at(feed: &[u32], at: usize) -> Result<(Reader, usize), FeedError>
     ensures { result ≡ verdict_at feed.now at }
 {
     if at < feed.len() {
@@ -158,7 +156,7 @@ pub fn verdict_at(feed: &[u32], at: usize) -> Verdict
         if n < feed.len() - at {
             return by_kind(feed, at, head, at + (n + 1));
         }
-        return Verdict::Malformed;
+        return Err(FeedError::Malformed);
     }
-    Verdict::Malformed
+    Err(FeedError::Malformed)
 }

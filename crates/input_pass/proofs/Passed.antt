@@ -1,83 +1,79 @@
 -- A pass refused or taken, as its parts tell. Assumes nothing.
+use Rattle.std.specs.Prelude.{Option, None, Some, Result, ⊤}
 use mathlib.Core.Path.{◌≡◌, refl, sym, ap, ◌∙◌}
 use mathlib.Core.List.{List, map}
-use mathlib.Core.Option
-use mathlib.Core.Option.{Option, none, some}
+use Rattle.std.specs.Option.{option_map}
 use Prim.Native.Nat.{ℕ}
 use native.Mathlib.Omega.{arith}
-use lib.ListN.{get_or}
 use lib.Ieee.{Float}
 use Rattle.data.specs.Limits.{max_events}
 use Rattle.data.specs.Numbers.{pass_row}
 use Rattle.feed.specs.Decode.{items}
 use Rattle.feed.specs.Feed.{events_of}
-use Rattle.model.specs.Types.{PassRefusal, MaybePos2}
+use Rattle.model.specs.Types.{PassRefusal, Pos2}
 use Rattle.model.specs.Touch.{TouchState, InOrder, touch_events, touch_pass, end_touches}
 use Rattle.model.specs.Pass.{Panel, Interaction, or_else, own_refusal, time_of, time_or, fresh, pass_events, begin_pass, pass_refusal, pass_by, pass}
 use Rattle.model.specs.Pass as Pass
 use Rattle.event_loop.specs.Shaped.{shaped_events}
+use Rattle.event_loop.specs.declared.lists.Lists.{Lists}
 use Rattle.event_loop.specs.Lists.{touch_list, listed, listed_events, Listed}
 use Rattle.touch_state.specs.View.{view}
 use Rattle.touch_state.specs.declared.devices.Devices.{Devices}
 use Rattle.survey.specs.Survey.{option, fits_events, fits_survey, crowd_then}
-use Rattle.survey.specs.declared.reading.Reading.{Reading}
 use Rattle.survey.proofs.Places.{survey_is, none_refused, devices_are}
 use Rattle.survey.proofs.Formed.{survey_law, events_law, end_law}
 use Rattle.survey.proofs.Accepted.{accepted}
 use Rattle.touch_ends.proofs.Ended.{ended_own}
 use Rattle.input_state.specs.declared.input.PassInput.{PassInput}
 use Rattle.input_state.specs.declared.state.InputState.{InputState}
-use Rattle.input_state.specs.View.{Lent, panel, time_given, input, begin_by, Storage, Ready, Acted}
+use Rattle.input_state.specs.View.{Lent, panel, input, begin_by, Storage, Ready, Acted}
 use Rattle.input_pass.specs.Begun.{outcome, refusal_of, Looked, Begun}
 use Rattle.input_pass.specs.declared.begin.Begun.{Begun as Answer}
 
-pub some_none : {X : Type 0} {r : PassRefusal} → some r ≡ none → X
+pub some_none : {X : Type 0} {r : PassRefusal} → Some r ≡ None → X
 some_none e = let z : ◌≡◌ {A = ℕ} 0 1 = cc in absurd (omega arith)
 
 -- the list of the touch events holds all that the devices' end reads
-ended_all : (ws ps counts : List ℕ) → Listed ws ps counts → (time : Float) (p : MaybePos2) (vs : List TouchState) →
-    map (end_touches time p (listed_events ws ps touch_list (get_or counts touch_list 0))) vs ≡ map (end_touches time p (shaped_events ws)) vs
-ended_all ws ps counts ls time p vs = rw (ls touch_list (omega arith)) (ended_own time p (shaped_events ws) vs)
+ended_all : (ws : List ℕ) (s : Lists) → Listed ws s → (time : Float) (p : Option Pos2) (vs : List TouchState) →
+    map (end_touches time p (listed_events ws (listed s touch_list))) vs ≡ map (end_touches time p (shaped_events ws)) vs
+ended_all ws s ls time p vs = rw (ls touch_list (omega arith)) (ended_own time p (shaped_events ws) vs)
 
 -- ---- before the events: its own numbers, what reading tells, and the touch events
-module _ (i : PassInput) (ws ps : List ℕ) (old : Float) (r : Reading) (vs : List TouchState) (looked : Looked i ws ps old r) where
-  abbrev touches : ℕ
-  touches = get_or r.counts touch_list 0
-
+module _ (i : PassInput) (ws : List ℕ) (s : Lists) (old : Float) (r : Result ⊤ PassRefusal) (vs : List TouchState) (looked : Looked i ws s old r) where
   -- the devices after the touch events, as their list tells
   abbrev held : List TouchState
-  held = fits_events (listed_events ws ps touch_list touches) vs
+  held = fits_events (listed_events ws (listed s touch_list)) vs
 
   pub record Surveys (refusal : Option PassRefusal) : Type 0 where
     pub first : refusal ≡ refusal_of i ws old vs
-    pub devices : refusal_of i ws old vs ≡ none → held ≡ fits_events (shaped_events ws) vs
-    pub ready : refusal_of i ws old vs ≡ none → Ready ws ps r.counts
+    pub devices : refusal_of i ws old vs ≡ None → held ≡ fits_events (shaped_events ws) vs
+    pub ready : refusal_of i ws old vs ≡ None → Ready ws s
 
-  pub surveys : (refusal : Option PassRefusal) → refusal ≡ crowd_then ws (listed ps touch_list touches) (λ us. option r.refusal) vs → Surveys refusal
-  unfolding refusal_of or_else crowd_then listed
+  pub surveys : (refusal : Option PassRefusal) → refusal ≡ crowd_then ws (listed s touch_list) (λ us. option r) vs → Surveys refusal
+  unfolding refusal_of or_else crowd_then
   surveys refusal is = go (own_refusal (input ws i) old) refl
     where
       go : (o : Option PassRefusal) → own_refusal (input ws i) old ≡ o → Surveys refusal
-      go (some q) e =
+      go (Some q) e =
           let own = looked.own q e in
-          let none_counted : refusal ≡ some q = is ∙ rw own.1 own.0 in
+          let none_counted : refusal ≡ Some q = is ∙ rw own.1 own.0 in
           record { first = none_counted ∙ rw e; devices = λ z. some_none (rw e at z); ready = λ z. some_none (rw e at z) }
-      go none e =
+      go None e =
           let read = looked.read e in
-          let same : refusal ≡ fits_survey max_events (items ws) vs = is ∙ survey_is ws ps r vs read in
+          let same : refusal ≡ fits_survey max_events (items ws) vs = is ∙ survey_is ws s r vs read in
           record {
             first = same ∙ rw e;
-            devices = λ z. devices_are ws ps r vs read (rw e at z);
-            ready = λ z. record { lists = read.lists (none_refused ws ps r vs read (rw e at z)); few = (accepted ws max_events vs (rw e at z)).1 };
+            devices = λ z. devices_are ws s r vs read (rw e at z);
+            ready = λ z. record { lists = read.lists (none_refused ws s r vs read (rw e at z)); few = (accepted ws max_events vs (rw e at z)).1 };
           }
 
-none_later : (a b : Option PassRefusal) → or_else a b ≡ none → b ≡ none
+none_later : (a b : Option PassRefusal) → or_else a b ≡ None → b ≡ None
 unfolding or_else
-none_later none b h = h
-none_later (some r) b h = some_none h
+none_later None b h = h
+none_later (Some r) b h = some_none h
 
 -- a pass that is taken, of what `act` leaves
-module _ (i : PassInput) (ws : List ℕ) (l l' : Lent) (s s' : InputState) (ds : Devices) (z : refusal_of i ws s.clock.time (view ds) ≡ none)
+module _ (i : PassInput) (ws : List ℕ) (l l' : Lent) (s s' : InputState) (ds : Devices) (z : refusal_of i ws s.clock.time (view ds) ≡ None)
     (act : Acted i ws l s l' s') (n : Interaction) (t : ℕ) where
   -- its events are those of the feed
   all_events : shaped_events ws ≡ pass_events (input ws i)
@@ -86,7 +82,7 @@ module _ (i : PassInput) (ws : List ℕ) (l l' : Lent) (s s' : InputState) (ds :
 
   pub taken_is : (ds' : Devices) (held : List TouchState) (time : Float) →
       held ≡ fits_events (shaped_events ws) (view ds) →
-      time ≡ time_or (time_given i.time) i.predicted_dt s.clock.time →
+      time ≡ time_or i.time i.predicted_dt s.clock.time →
       view ds' ≡ map (end_touches time s.pointer.place.interact_pos (shaped_events ws)) held →
       panel l' s' (view ds') n t ≡ begin_by (pass_events (input ws i)) (fits_events (pass_events (input ws i)) (view ds)) (panel l s (view ds) n t) (input ws i)
   unfolding time_of
@@ -116,31 +112,31 @@ module _ (i : PassInput) (ws : List ℕ) (l l' : Lent) (s : InputState) (ds : De
     unfolding refusal_of pass_refusal
     same_refusal = rw (survey_law max_events (items ws) (view ds) o)
 
-    refused_whole : (x : PassRefusal) → first ≡ some x → outcome (option r.refusal) (now n t) ≡ pass old (input ws i)
+    refused_whole : (x : PassRefusal) → first ≡ Some x → outcome (option r.refusal) (now n t) ≡ pass old (input ws i)
     unfolding pass pass_by outcome
     refused_whole x h = rw (q, ← same_refusal, h)
 
-    survey_none : first ≡ none → fits_survey max_events (items ws) (view ds) ≡ none
+    survey_none : first ≡ None → fits_survey max_events (items ws) (view ds) ≡ None
     unfolding refusal_of
     survey_none h = none_later (own_refusal (input ws i) s.clock.time) _ h
 
-    taken_whole : first ≡ none → now n t ≡ begin_by (pass_events (input ws i)) (fits_events (pass_events (input ws i)) (view ds)) old (input ws i) →
+    taken_whole : first ≡ None → now n t ≡ begin_by (pass_events (input ws i)) (fits_events (pass_events (input ws i)) (view ds)) old (input ws i) →
         outcome (option r.refusal) (now n t) ≡ pass old (input ws i)
     unfolding pass pass_by outcome pass_events
     taken_whole h e =
         let v = (events_law max_events (items ws) (view ds) o (survey_none h)).0 in
         rw (q, ← same_refusal, h, e, v) (ap Pass.taken (begin_is old (input ws i)))
 
-  some_not_none : (x : PassRefusal) → first ≡ some x → first ≡ none → ⊥
+  some_not_none : (x : PassRefusal) → first ≡ Some x → first ≡ None → ⊥
   some_not_none x h z = some_none (sym h ∙ z)
 
   -- a pass that is refused
-  pub refused_pass : (x : PassRefusal) → option r.refusal ≡ first → option r.refusal ≡ some x → r.state ≡ s → r.devices ≡ ds → l' ≡ l → Begun i ws l s ds l' r
+  pub refused_pass : (x : PassRefusal) → option r.refusal ≡ first → option r.refusal ≡ Some x → r.state ≡ s → r.devices ≡ ds → l' ≡ l → Begun i ws l s ds l' r
   refused_pass x q y es ed el =
-      let h : first ≡ some x = sym q ∙ y in
+      let h : first ≡ Some x = sym q ∙ y in
       record {
         refusal = q;
-        answer = ap (Option.map pass_row) q;
+        answer = ap (option_map pass_row) q;
         refused = λ z. (es, ed, el);
         taken = λ z. absurd (some_not_none x h z);
         storage = λ z. absurd (some_not_none x h z);
@@ -149,21 +145,21 @@ module _ (i : PassInput) (ws : List ℕ) (l l' : Lent) (s : InputState) (ds : De
       }
 
   -- a pass that is taken
-  pub taken_pass : (ps counts : List ℕ) (held : List TouchState) (time : Float) → option r.refusal ≡ first → option r.refusal ≡ none →
-      (first ≡ none → held ≡ fits_events (shaped_events ws) (view ds)) →
-      (first ≡ none → Ready ws ps counts) →
-      time ≡ time_or (time_given i.time) i.predicted_dt s.clock.time →
-      view r.devices ≡ map (end_touches time s.pointer.place.interact_pos (listed_events ws ps touch_list (get_or counts touch_list 0))) held →
+  pub taken_pass : (ls : Lists) (held : List TouchState) (time : Float) → option r.refusal ≡ first → option r.refusal ≡ None →
+      (first ≡ None → held ≡ fits_events (shaped_events ws) (view ds)) →
+      (first ≡ None → Ready ws ls) →
+      time ≡ time_or i.time i.predicted_dt s.clock.time →
+      view r.devices ≡ map (end_touches time s.pointer.place.interact_pos (listed_events ws (listed ls touch_list))) held →
       Acted i ws l s l' r.state → Begun i ws l s ds l' r
   unfolding pass_events
-  taken_pass ps counts held time q y e ls tm m act =
-      let h : first ≡ none = sym q ∙ y in
-      let k = m ∙ ended_all ws ps counts (ls h).lists time s.pointer.place.interact_pos held in
+  taken_pass ls held time q y e ready tm m act =
+      let h : first ≡ None = sym q ∙ y in
+      let k = m ∙ ended_all ws ls (ready h).lists time s.pointer.place.interact_pos held in
       let same : (n : Interaction) (t : ℕ) → now n t ≡ begin_by (events_of (items ws)) (fits_events (events_of (items ws)) (view ds)) (panel l s (view ds) n t) (input ws i) =
       λ n t. taken_is i ws l l' s r.state ds h act n t r.devices held time (e h) tm k in
       record {
         refusal = q;
-        answer = ap (Option.map pass_row) q;
+        answer = ap (option_map pass_row) q;
         refused = λ z. absurd (z h);
         taken = λ z. same;
         storage = λ z. storage_is i ws l l' s r.state ds h act;

@@ -1,6 +1,6 @@
 -- What a pass promises.
-use Rattle.std.specs.Prelude.{ℕ, ◌≡◌, List, get_or, Float}
-use Rattle.std.proofs.Math.Option.{Option, none, some, map}
+use Rattle.std.specs.Prelude.{ℕ, ◌≡◌, List, [], Float, Option, None, Some, Result, ⊤}
+use Rattle.std.specs.Option.{option_map}
 use Rattle.data.specs.Limits.{max_events}
 use Rattle.data.specs.Numbers.{pass_row}
 use Rattle.feed.specs.Decode.{items}
@@ -8,10 +8,10 @@ use Rattle.model.specs.Types.{PassRefusal}
 use Rattle.model.specs.Touch.{TouchState, InOrder}
 use Rattle.model.specs.Pass.{Panel, Interaction, or_else, own_refusal, pass_events, pass}
 use Rattle.model.specs.Pass as Pass
-use Rattle.event_loop.specs.Lists.{touch_list}
+use Rattle.event_loop.specs.declared.lists.Lists.{Lists}
+use Rattle.event_loop.specs.Lists.{touch_list, listed}
 use Rattle.touch_state.specs.View.{view}
 use Rattle.touch_state.specs.declared.devices.Devices.{Devices}
-use Rattle.survey.specs.declared.reading.Reading.{Reading}
 use Rattle.survey.specs.Survey.{option, fits_events, fits_survey, Read}
 use Rattle.input_state.specs.declared.input.PassInput.{PassInput}
 use Rattle.input_state.specs.declared.state.InputState.{InputState}
@@ -23,14 +23,14 @@ unfoldable pub refusal_of : PassInput → List ℕ → Float → List TouchState
 refusal_of i ws old vs = or_else (own_refusal (input ws i) old) (fits_survey max_events (items ws) vs)
 
 -- what is looked at before the touch events: a refusal of its own numbers, and then no event is counted, or what reading tells
-pub record Looked (i : PassInput) (ws ps : List ℕ) (old : Float) (r : Reading) : Type 0 where
-  pub own : (q : PassRefusal) → own_refusal (input ws i) old ≡ some q → (option r.refusal ≡ some q) × (get_or r.counts touch_list 0 ≡ 0)
-  pub read : own_refusal (input ws i) old ≡ none → Read ws ps r
+pub record Looked (i : PassInput) (ws : List ℕ) (s : Lists) (old : Float) (r : Result ⊤ PassRefusal) : Type 0 where
+  pub own : (q : PassRefusal) → own_refusal (input ws i) old ≡ Some q → (option r ≡ Some q) × (listed s touch_list ≡ [])
+  pub read : own_refusal (input ws i) old ≡ None → Read ws s r
 
 -- the outcome of a pass in the model's terms
 unfoldable pub outcome : Option PassRefusal → Panel → Pass.Passed
-outcome none p = Pass.taken p
-outcome (some q) p = Pass.refused q
+outcome None p = Pass.taken p
+outcome (Some q) p = Pass.refused q
 
 -- A pass of any state: refused, then all is as before; taken, then the state is the model's `begin_pass` of the feed's events, on the devices that the arrays hold.
 -- Of devices in order, as every pass leaves them, it is the model's `pass`, for any interaction and tally beside it.
@@ -38,15 +38,15 @@ pub record Begun (i : PassInput) (ws : List ℕ) (l : Lent) (s : InputState) (ds
   -- the refusal of 01's table, or none
   pub refusal : option r.refusal ≡ refusal_of i ws s.clock.time (view ds)
   -- what 01's row of it returns: "number, word index", or the number alone
-  pub answer : map pass_row (option r.refusal) ≡ map pass_row (refusal_of i ws s.clock.time (view ds))
+  pub answer : option_map pass_row (option r.refusal) ≡ option_map pass_row (refusal_of i ws s.clock.time (view ds))
   -- refused: "all as before"
-  pub refused : (refusal_of i ws s.clock.time (view ds) ≡ none → ⊥) → (r.state ≡ s) × (r.devices ≡ ds) × (l' ≡ l)
+  pub refused : (refusal_of i ws s.clock.time (view ds) ≡ None → ⊥) → (r.state ≡ s) × (r.devices ≡ ds) × (l' ≡ l)
   -- taken: the model's `begin_pass` of the feed's events
-  pub taken : refusal_of i ws s.clock.time (view ds) ≡ none → (n : Interaction) (t : ℕ) →
+  pub taken : refusal_of i ws s.clock.time (view ds) ≡ None → (n : Interaction) (t : ℕ) →
       panel l' r.state (view r.devices) n t
       ≡ begin_by (pass_events (input ws i)) (fits_events (pass_events (input ws i)) (view ds)) (panel l s (view ds) n t) (input ws i)
   -- and "every place of lent storage"
-  pub storage : refusal_of i ws s.clock.time (view ds) ≡ none → (n : Interaction) (t : ℕ) →
+  pub storage : refusal_of i ws s.clock.time (view ds) ≡ None → (n : Interaction) (t : ℕ) →
       Storage (pass_events (input ws i))
       (begin_by (pass_events (input ws i)) (fits_events (pass_events (input ws i)) (view ds)) (panel l s (view ds) n t) (input ws i)) l s l'
   -- of devices in order, refused or taken: the model's `pass`

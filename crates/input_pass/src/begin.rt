@@ -3,13 +3,14 @@ ghost use Rattle.input_state.specs.View.{lent};
 ghost use Rattle.input_pass.specs.Begun.{Looked};
 ghost use Rattle.input_pass.specs.Begun.{Begun as BegunAs};
 
+use data::refusal::PassRefusal;
 use emath_history::history::{MAX_LEN, PARTS};
-use event_loop::{LIST_COUNT, LISTED, TOUCHES};
+use event_loop::lists::{Lists, Reader};
 use input_state::input::{PassInput, own_refusal, time_of};
 use input_state::state::{InputState, act};
 use key_state::keys::PRESSES;
 use pointer_events::{CODES, PLACES};
-use survey::reading::{MaybePassRefusal, Reading, read};
+use survey::reading::read;
 use touch_ends::pass::touch_pass;
 use touch_state::devices::Devices;
 
@@ -18,20 +19,18 @@ use touch_state::devices::Devices;
 pub struct Begun {
     pub state: InputState,
     pub devices: Devices,
-    pub refusal: MaybePassRefusal,
+    pub refusal: Result<(), PassRefusal>,
 }
 
 // "2 for its own numbers, 3, then event by event 4, 1, 2". Where its own numbers are refused no event is counted.
-fn look(old: f64, i: PassInput, feed: &[u32], lists: &mut [u16; LISTED]) -> Reading
+fn look(old: f64, i: PassInput, feed: &[u32], lists: &mut Lists) -> Result<(), PassRefusal>
     ensures { Looked i feed.now lists.new old result }
 {
+    lists.clear();
     let own = own_refusal(i, old);
     match own {
-        MaybePassRefusal::None => read(feed, lists),
-        MaybePassRefusal::Some(q) => Reading {
-            refusal: MaybePassRefusal::Some(q),
-            counts: [0; LIST_COUNT],
-        },
+        Ok(()) => read(feed, lists),
+        Err(q) => Err(q),
     }
 }
 
@@ -58,28 +57,24 @@ pub fn begin_pass(
     let pos = place.interact_pos;
     let given = i.time;
     let time = time_of(given, i.predicted_dt, clock.time);
-    let mut lists = [0u16; LISTED];
-    let looked = look(clock.time, i, feed, &mut lists);
-    let counts = looked.counts;
-    let touches = counts[TOUCHES as usize];
-    let later = looked.refusal;
-    let passed = touch_pass(ds, feed, &lists, touches, later, time, pos);
+    let mut lists = Lists::new();
+    let later = look(clock.time, i, feed, &mut lists);
+    let touches = lists.places(Reader::Touches);
+    let passed = touch_pass(ds, feed, touches, later, time, pos);
     let refusal = passed.refusal;
     match refusal {
-        MaybePassRefusal::Some(q) => Begun {
+        Err(q) => Begun {
             state: s,
             devices: ds,
-            refusal: MaybePassRefusal::Some(q),
+            refusal: Err(q),
         },
-        MaybePassRefusal::None => {
-            let state = act(
-                s, times, positions, codes, places, presses, i, feed, &lists, counts,
-            );
+        Ok(()) => {
+            let state = act(s, times, positions, codes, places, presses, i, feed, &lists);
             let devices = passed.devices;
             Begun {
                 state,
                 devices,
-                refusal: MaybePassRefusal::None,
+                refusal: Ok(()),
             }
         }
     }

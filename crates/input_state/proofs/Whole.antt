@@ -1,22 +1,22 @@
 -- The parts of a taken pass, and a fresh state, put together. Assumes nothing.
+use Rattle.std.specs.Prelude.{Option, None}
 use mathlib.Core.Path.{◌≡◌, ◌∙◌}
 use mathlib.Core.Bool.{Bool, false, not, ◌&&◌}
 use mathlib.Core.List.{List, [], map}
-use Prim.Native.Nat.{ℕ, ◌≤◌, ◌<◌}
+use Prim.Native.Nat.{ℕ}
 use native.Mathlib.Omega.{arith}
-use lib.ListN.{get_or, length}
 use lib.Ieee.{Float}
-use Rattle.data.specs.Limits.{max_events, key_count}
+use Rattle.data.specs.Limits.{key_count}
 use Rattle.model.specs.Numbers.{+0, one}
-use Rattle.model.specs.Types.{Rect, InputOptions, MaybeF64, no_time, WheelState, Event}
+use Rattle.model.specs.Types.{Rect, InputOptions, WheelState, Event}
 use Rattle.model.specs.Pointer.{Place, start_place, place_events, place_pass, Press, press_pass, is_decidedly_dragging, move_time}
 use Rattle.model.specs.Touch.{TouchState, end_touches}
 use Rattle.model.specs.Wheel.{wheel_default, wheel_pass}
 use Rattle.model.specs.Pass.{Panel, time_of, rect_or, clock_pass, screen_pass, is_empty, key_events, keys_pass, sums_of, decidedly_dragging, fresh, fresh_place, fresh_press}
 use Rattle.model.specs.Pass as Pass
 use Rattle.event_loop.specs.Shaped.{shaped_events}
-use Rattle.event_loop.specs.Lists.{pointer_list, keys_list, sums_list, wheel_list, list_count, listed_events, Listed}
-use Rattle.event_loop.proofs.Loops.{count, own_fewer}
+use Rattle.event_loop.specs.declared.lists.Lists.{Lists}
+use Rattle.event_loop.specs.Lists.{pointer_list, keys_list, sums_list, wheel_list, listed, listed_events, Listed}
 use Rattle.pointer_place.specs.declared.Place.{Place as PlaceHeld}
 use Rattle.pointer_place.specs.View.{place}
 use Rattle.pointer_state.specs.declared.press.Press.{Press as PressHeld}
@@ -40,7 +40,7 @@ pub fresh_is : (c : Pass.Clock) (s : Pass.Screen) (q : Place) (r : Press) (w : W
       place = q;
       press = r;
       started_decidedly_dragging = false;
-      last_move_time = no_time;
+      last_move_time = None;
       touch_states = [];
       wheel = w;
       keys = k;
@@ -51,7 +51,7 @@ pub fresh_is : (c : Pass.Clock) (s : Pass.Screen) (q : Place) (r : Press) (w : W
 unfolding fresh
 fresh_is c s q r w k m e1 e2 e3 e4 e5 e6 e7 = rw (e1, e2, e3, e4, e5, e6, e7)
 
-pub acted : (es : List Event) (vs : List TouchState) (p : Panel) (i : Pass.PassInput) (c : Pass.Clock) (s : Pass.Screen) (q : Place) (r : Press) (b : Bool) (l : MaybeF64)
+pub acted : (es : List Event) (vs : List TouchState) (p : Panel) (i : Pass.PassInput) (c : Pass.Clock) (s : Pass.Screen) (q : Place) (r : Press) (b : Bool) (l : Option Float)
     (w : WheelState) (k : Pass.Keys) (m : Pass.Sums) →
     c ≡ clock_pass i (time_of i p.clock.time) p.clock →
     s ≡ screen_pass i p.screen →
@@ -100,17 +100,12 @@ stored es vs p i l l' s q r place_is press_is placed pressed presses =
     }
 
 -- ---- the lists hold all that each part reads
-module _ (ws ps counts : List ℕ) (ls : Listed ws ps counts) where
+module _ (ws : List ℕ) (s : Lists) (ls : Listed ws s) where
   abbrev es : List Event
   es = shaped_events ws
 
   abbrev events : ℕ → List Event
-  events l = listed_events ws ps l (get_or counts l 0)
-
-  pub few : (l : ℕ) → l < list_count → length es ≤ max_events → get_or counts l 0 ≤ max_events
-  few l h n =
-      let small : length (events l) ≤ max_events = rw (ls l h) (let f = own_fewer l es in omega arith) in
-      rw (count ws ps l (get_or counts l 0)) at small
+  events l = listed_events ws (listed s l)
 
   pub place_all : {time : Float} {ts qs ts' qs' : List Float} {p r : PlaceHeld} →
       PlacePassed time (events pointer_list) ts qs p ts' qs' r → PlacePassed time es ts qs p ts' qs' r

@@ -1,15 +1,15 @@
 -- What the structs of src/ and the lent arrays mean: the model's records.
 use Rattle.std.specs.Prelude.{ℕ, ◌≤◌, ◌≡◌, not, ◌&&◌, List, [], map, length, Float}
-use Rattle.std.proofs.Math.Option.{Option, none, some}
 use Rattle.std.proofs.lemmas.List.Edits.{sets}
 use Rattle.data.specs.Limits.{max_events, key_count}
-use Rattle.model.specs.Types.{Rect, InputOptions, MaybeF64, no_time, some_time, Event}
+use Rattle.model.specs.Types.{InputOptions, Event}
 use Rattle.model.specs.Pointer.{place_pass, press_pass, is_decidedly_dragging, move_time}
 use Rattle.model.specs.Touch.{TouchState, end_touches}
 use Rattle.model.specs.Wheel.{wheel_pass}
 use Rattle.model.specs.Pass.{Panel, Interaction, time_of, rect_or, clock_pass, screen_pass, keys_pass, sums_of, decidedly_dragging, fresh, pass}
 use Rattle.model.specs.Pass as Pass
 use Rattle.event_loop.specs.Shaped.{shaped_events}
+use Rattle.event_loop.specs.declared.lists.Lists.{Lists}
 use Rattle.event_loop.specs.Lists.{Listed}
 use Rattle.pointer_place.specs.View.{place, times_after, positions_after}
 use Rattle.pointer_events.specs.Events.{codes_of, positions_of}
@@ -17,8 +17,6 @@ use Rattle.pointer_state.specs.View.{press}
 use Rattle.place_loop.specs.Passed.{sample_place, PlacePassed}
 use Rattle.press_loop.specs.Passed.{PressPassed}
 use Rattle.key_state.specs.View.{presses_of, keys, numbers_of}
-use Rattle.input_state.specs.declared.input.MaybeRect.{MaybeRect}
-use Rattle.input_state.specs.declared.input.MaybeRect.TheVariants.{None as no_rect, Some as some_rect}
 use Rattle.input_state.specs.declared.input.PassInput.{PassInput}
 use Rattle.input_state.specs.declared.clock.Clock.{Clock}
 use Rattle.input_state.specs.declared.screen.Screen.{Screen}
@@ -26,20 +24,11 @@ use Rattle.input_state.specs.declared.sums.Sums.{Sums}
 use Rattle.input_state.specs.declared.pointer.Pointer.{Pointer}
 use Rattle.input_state.specs.declared.state.InputState.{InputState}
 
--- ---- what a pass is given
-abbrev pub time_given : MaybeF64 → Option Float
-time_given no_time = none
-time_given (some_time t) = some t
-
-abbrev pub rect_given : MaybeRect → Option Rect
-rect_given no_rect = none
-rect_given (some_rect r) = some r
-
 abbrev pub input : List ℕ → PassInput → Pass.PassInput
 input ws i =
     record {
-      time = time_given i.time;
-      screen_rect = rect_given i.screen_rect;
+      time = i.time;
+      screen_rect = i.screen_rect;
       predicted_dt = i.predicted_dt;
       smoothing_factor = i.smoothing_factor;
       pixels_per_point = i.pixels_per_point;
@@ -148,9 +137,9 @@ pub record Storage (es : List Event) (p : Panel) (l : Lent) (s : InputState) (l'
   pub presses : l'.presses ≡ numbers_of p.keys.presses key_count
 
 -- What `act` asks, and reading the feed tells.
-pub record Ready (ws ps counts : List ℕ) : Type 0 where
+pub record Ready (ws : List ℕ) (ls : Lists) : Type 0 where
   -- the lists hold the places of the feed's events
-  pub lists : Listed ws ps counts
+  pub lists : Listed ws ls
   -- "At most 64 events"
   pub few : length (shaped_events ws) ≤ max_events
 

@@ -1,13 +1,10 @@
 // The pointer in a pass.
-ghost use Rattle.std.specs.Prelude.{◌≤◌};
-ghost use Rattle.data.specs.Limits.{max_events};
-ghost use Rattle.event_loop.specs.Lists.{listed_events, pointer_list};
+ghost use Rattle.event_loop.specs.Lists.{listed, listed_events, pointer_list};
 ghost use Rattle.input_state.specs.View.{PointerPassed};
 
 use data::options::InputOptions;
-use data::pointer::MaybeF64;
 use emath_history::history::{MAX_LEN, PARTS};
-use event_loop::LISTED;
+use event_loop::lists::{Lists, Reader};
 use place_loop::place_pass;
 use pointer_clicks::{is_decidedly_dragging, last_move_time, started_decidedly_dragging};
 use pointer_events::{CODES, PLACES};
@@ -21,10 +18,10 @@ pub struct Pointer {
     pub press: Press,
     pub started_decidedly_dragging: bool,
     // none before any movement
-    pub last_move_time: MaybeF64,
+    pub last_move_time: Option<f64>,
 }
 
-// Of the first `count` events in the pointer's list. `before` and `old` are the pointer's time and the options before the pass.
+// Of the events in the pointer's list. `before` and `old` are the pointer's time and the options before the pass.
 pub fn pointer_pass(
     p: Pointer,
     times: &mut [f64; MAX_LEN],
@@ -36,12 +33,10 @@ pub fn pointer_pass(
     options: InputOptions,
     time: f64,
     feed: &[u32],
-    lists: &[u16; LISTED],
-    count: u8,
+    lists: &Lists,
 ) -> Pointer
-    requires { count ≤ max_events }
     ensures { PointerPassed
-        old before options time (listed_events feed.now lists.now pointer_list count)
+        old before options time (listed_events feed.now (listed lists.now pointer_list))
         times.old positions.old codes.old places.old p
         times.new positions.new codes.new places.new result }
 {
@@ -52,8 +47,9 @@ pub fn pointer_pass(
     let old_last = p.last_move_time;
     let moved = old_past.has_moved_too_much_for_a_click;
     let was = is_decidedly_dragging(old_held, codes, old, before, moved);
-    let place = place_pass(old_place, times, positions, time, feed, lists, count);
-    let press = press_pass(old_press, codes, places, options, time, feed, lists, count);
+    let events = lists.places(Reader::Pointer);
+    let place = place_pass(old_place, times, positions, time, feed, events);
+    let press = press_pass(old_press, codes, places, options, time, feed, lists);
     let held = press.held;
     let past = press.past;
     let spoilt = past.has_moved_too_much_for_a_click;

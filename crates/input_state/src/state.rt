@@ -7,9 +7,8 @@ use crate::pointer::{Pointer, pointer_pass};
 use crate::screen::{Screen, fresh_screen, screen_pass};
 use crate::sums::{Sums, fresh_sums, sums_of};
 use data::mouse_wheel::WheelState;
-use data::pointer::MaybeF64;
 use emath_history::history::{MAX_LEN, PARTS};
-use event_loop::{KEYS, LIST_COUNT, LISTED, POINTER, SUMS, WHEEL};
+use event_loop::lists::{Lists, Reader};
 use key_state::keys::{Keys, PRESSES, keys_pass};
 use pointer_events::{CODES, PLACES};
 use pointer_place::Place;
@@ -38,7 +37,7 @@ pub fn fresh() -> InputState
         place,
         press,
         started_decidedly_dragging: false,
-        last_move_time: MaybeF64::None,
+        last_move_time: None,
     };
     let wheel = wheel_state::default();
     let keys = key_state::keys::fresh();
@@ -63,10 +62,9 @@ pub fn act(
     presses: &mut [u8; PRESSES],
     i: PassInput,
     feed: &[u32],
-    lists: &[u16; LISTED],
-    counts: [u8; LIST_COUNT],
+    lists: &Lists,
 ) -> InputState
-    requires { Ready feed.now lists.now counts }
+    requires { Ready feed.now lists.now }
     ensures { Acted
         i feed.now
         (lent times.old positions.old codes.old places.old presses.old) s
@@ -98,8 +96,8 @@ pub fn act(
         time,
         feed,
         lists,
-        counts[POINTER as usize],
     );
+    let scrolls = lists.places(Reader::Wheel);
     let wheel = wheel_pass(
         old_wheel,
         rect,
@@ -107,11 +105,11 @@ pub fn act(
         time,
         i.smoothing_factor,
         feed,
-        lists,
-        counts[WHEEL as usize],
+        scrolls,
     );
-    let keys = keys_pass(old_keys, presses, feed, lists, counts[KEYS as usize]);
-    let sums = sums_of(options, feed, lists, counts[SUMS as usize], wheel);
+    let keys = keys_pass(old_keys, presses, feed, lists);
+    let zooms = lists.places(Reader::Sums);
+    let sums = sums_of(options, feed, zooms, wheel);
     InputState {
         clock,
         screen,

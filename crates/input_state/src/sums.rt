@@ -1,13 +1,12 @@
 // Zoom, rotation and scrolling of the pass.
 ghost use Rattle.std.specs.Prelude.{◌≡◌};
 ghost use Rattle.model.specs.Pass.{fresh, sums_of};
-ghost use Rattle.event_loop.specs.Lists.{listed_events, sums_list};
+ghost use Rattle.event_loop.specs.Lists.{listed_events};
 ghost use Rattle.input_state.specs.View.{sums};
 
 use data::mouse_wheel::WheelState;
 use data::options::InputOptions;
 use emath::vec2::Vec2;
-use event_loop::LISTED;
 use zoom_and_rotation::{rotation_of, zoom_of};
 
 // Zoom is the factor's product, and an exponent that the host takes the exponential of.
@@ -32,17 +31,11 @@ pub fn fresh_sums() -> Sums
 }
 
 // With the zoom modifier the wheel zooms, without it it scrolls.
-pub fn sums_of(
-    options: InputOptions,
-    feed: &[u32],
-    lists: &[u16; LISTED],
-    count: u8,
-    w: WheelState,
-) -> Sums
-    ensures { sums result ≡ sums_of options (listed_events feed.now lists.now sums_list count) w }
+pub fn sums_of(options: InputOptions, feed: &[u32], places: &[u16], w: WheelState) -> Sums
+    ensures { sums result ≡ sums_of options (listed_events feed.now places.now) w }
 {
-    let factor = zoom_of(feed, lists, count);
-    let radians = rotation_of(feed, lists, count);
+    let factor = zoom_of(feed, places);
+    let radians = rotation_of(feed, places);
     let smooth = w.smooth_wheel_delta;
     let modifiers = w.modifiers;
     let pattern = options.zoom_modifier;

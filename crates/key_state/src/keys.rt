@@ -1,10 +1,10 @@
 // The keys that are down, the modifiers, and the presses of the pass. The caller lends a place for each key's presses.
-ghost use Rattle.std.specs.Prelude.{◌≡◌, List, ℕ, ◌≤◌, ◌<◌, ltb, get_or, set, length};
-ghost use Rattle.data.specs.Limits.{max_events, key_count};
+ghost use Rattle.std.specs.Prelude.{◌≡◌, List, ℕ, ◌<◌, ltb, get_or, set, length};
+ghost use Rattle.data.specs.Limits.{key_count};
 ghost use Rattle.model.specs.Types.{Key, WindowFocused};
 ghost use Rattle.model.specs.Pass.{key_event, fresh};
 ghost use Rattle.event_loop.specs.Shaped.{shaped_at};
-ghost use Rattle.event_loop.specs.Lists.{listed_events, keys_list};
+ghost use Rattle.event_loop.specs.Lists.{listed, listed_events, keys_list};
 ghost use Rattle.key_state.specs.View.{presses_of, one_more, keys, Room, Stepped, Passed};
 ghost use Rattle.key_state.specs.declared.keys.Keys.{Keys};
 
@@ -13,7 +13,8 @@ use data::event::Event;
 use data::kinds::{FOCUS_KIND, KEY_KIND, MODIFIERS_KIND};
 use data::limits::KEY_COUNT;
 use data::modifiers::Modifiers;
-use event_loop::{KEYS, LISTED, kind_at, listed};
+use event_loop::kind_at;
+use event_loop::lists::{Lists, Reader};
 use event_readers::readers::{focus_at, modifiers_at};
 
 // A place for each key's presses.
@@ -114,27 +115,18 @@ fn key_at(k: Keys, presses: &mut [u8; PRESSES], feed: &[u32], at: usize) -> Keys
     k
 }
 
-// The keys' part of a pass, of the first `count` events in their list, which has no more than a pass may have.
-pub fn keys_pass(
-    k: Keys,
-    presses: &mut [u8; PRESSES],
-    feed: &[u32],
-    lists: &[u16; LISTED],
-    count: u8,
-) -> Keys
-    requires { count ≤ max_events }
+// The keys' part of a pass, of the events in their list.
+pub fn keys_pass(k: Keys, presses: &mut [u8; PRESSES], feed: &[u32], lists: &Lists) -> Keys
     ensures { Passed
-        feed.now (listed_events feed.now lists.now keys_list count)
+        feed.now (listed_events feed.now (listed lists.now keys_list))
         presses.old k presses.new result }
 {
     *presses = [0; PRESSES];
     let mut s = k;
     s.feed_empty = feed.len() == 0;
-    let mut i: u8 = 0;
-    while i < count {
-        let at = listed(lists, KEYS, i);
-        s = key_at(s, presses, feed, at);
-        i += 1;
+    let places = lists.places(Reader::Keys);
+    for at in places {
+        s = key_at(s, presses, feed, *at as usize);
     }
     s
 }

@@ -1,4 +1,5 @@
 -- Events of the kinds that are not read leave it as it is; and its loop along its list. Assumes nothing.
+use Rattle.std.specs.Prelude.{Option}
 use mathlib.Core.Path.{◌≡◌, refl, ap, ◌∙◌}
 use mathlib.Core.Bool.{Bool, false, ◌||◌}
 use mathlib.Core.List.{List, [], ◌∷◌}
@@ -12,7 +13,7 @@ use Rattle.emath_history.specs.Ring.{view, free}
 use Rattle.emath_history.specs.Ring as Ring
 use Rattle.emath_history.proofs.Samples.{view_count}
 use Rattle.data.specs.Numbers.{kind_number}
-use Rattle.model.specs.Types.{MaybePos2}
+use Rattle.model.specs.Types.{Pos2}
 use Rattle.model.specs.Types.{Event, Key, ModifiersChanged, PointerMoved, MouseMoved, Button, PointerGone, Zoom, Rotate, Touch, MouseWheel, WindowFocused, Other}
 use Rattle.model.specs.Pointer.{Place, start_place, place_event, place_events, place_pass, clear_history_after, end_place, finish_place}
 use Rattle.pointer_place.specs.declared.Place.{Place as PlaceHeld}
@@ -94,7 +95,7 @@ unfolding place_pass
 place_pass_own time es p = rw (gone_own es, place_own es (start_place p))
 
 -- the end of a pass keeps the position
-latest_kept : (time : Float) (old : MaybePos2) (gone : Bool) (p : Place) → (end_place time old gone p).latest_pos ≡ p.latest_pos
+latest_kept : (time : Float) (old : Option Pos2) (gone : Bool) (p : Place) → (end_place time old gone p).latest_pos ≡ p.latest_pos
 unfolding end_place finish_place
 latest_kept time old gone p = refl
 

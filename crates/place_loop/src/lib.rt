@@ -4,14 +4,14 @@
 ghost use Rattle.std.specs.Prelude.{◌≡◌, [], ◌∷◌};
 ghost use Rattle.model.specs.Pointer.{place_event, place_events, clear_history_after};
 ghost use Rattle.event_loop.specs.Shaped.{shaped_at};
-ghost use Rattle.event_loop.specs.Lists.{listed_events, pointer_list};
+ghost use Rattle.event_loop.specs.Lists.{listed_events};
 ghost use Rattle.pointer_place.specs.View.{Placed};
 ghost use Rattle.place_loop.specs.Passed.{PlacePassed};
 
 use data::event::Event;
 use data::kinds::{BUTTON_KIND, GONE_KIND, MOTION_KIND, MOVED_KIND};
 use emath_history::history::{MAX_LEN, PARTS};
-use event_loop::{LISTED, POINTER, kind_at, listed};
+use event_loop::kind_at;
 use event_readers::readers::{button_at, motion_at, moved_at};
 use pointer_place::{
     Place, button_place, end_place, gone_place, motion_place, moved_place, start_place,
@@ -50,15 +50,12 @@ fn place_at(p: Place, feed: &[u32], at: usize) -> Place
     }
 }
 
-fn place_events(p: Place, feed: &[u32], lists: &[u16; LISTED], count: u8) -> Place
-    ensures { Placed (place_events (listed_events feed.now lists.now pointer_list count)) p result }
+fn place_events(p: Place, feed: &[u32], places: &[u16]) -> Place
+    ensures { Placed (place_events (listed_events feed.now places.now)) p result }
 {
     let mut s = p;
-    let mut i: u8 = 0;
-    while i < count {
-        let at = listed(lists, POINTER, i);
-        s = place_at(s, feed, at);
-        i += 1;
+    for at in places {
+        s = place_at(s, feed, *at as usize);
     }
     s
 }
@@ -76,37 +73,33 @@ fn gone_at(feed: &[u32], at: usize) -> bool
     false
 }
 
-fn gone(feed: &[u32], lists: &[u16; LISTED], count: u8) -> bool
-    ensures { result ≡ clear_history_after (listed_events feed.now lists.now pointer_list count) }
+fn gone(feed: &[u32], places: &[u16]) -> bool
+    ensures { result ≡ clear_history_after (listed_events feed.now places.now) }
 {
-    let mut i: u8 = 0;
-    while i < count {
-        let at = listed(lists, POINTER, i);
-        if gone_at(feed, at) {
+    for at in places {
+        if gone_at(feed, *at as usize) {
             return true;
         }
-        i += 1;
     }
     false
 }
 
-// The pointer's place after a pass, of the first `count` events in the pointer's list.
+// The pointer's place after a pass, of the events at some places.
 pub fn place_pass(
     p: Place,
     times: &mut [f64; MAX_LEN],
     positions: &mut [f32; PARTS],
     time: f64,
     feed: &[u32],
-    lists: &[u16; LISTED],
-    count: u8,
+    places: &[u16],
 ) -> Place
     ensures { PlacePassed
-        time (listed_events feed.now lists.now pointer_list count)
+        time (listed_events feed.now places.now)
         times.old positions.old p times.new positions.new result }
 {
     let old = p.latest_pos;
     let started = start_place(p);
-    let moved = place_events(started, feed, lists, count);
-    let is_gone = gone(feed, lists, count);
+    let moved = place_events(started, feed, places);
+    let is_gone = gone(feed, places);
     end_place(moved, times, positions, time, old, is_gone)
 }

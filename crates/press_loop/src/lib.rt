@@ -1,17 +1,16 @@
 // Buttons, presses and clicks of a pass's events: their loop along the feed.
 #![tactic(auto)]
 
-ghost use Rattle.std.specs.Prelude.{◌≤◌};
-ghost use Rattle.data.specs.Limits.{max_events};
 ghost use Rattle.event_loop.specs.Shaped.{shaped_at};
-ghost use Rattle.event_loop.specs.Lists.{listed_events, pointer_list};
+ghost use Rattle.event_loop.specs.Lists.{listed, listed_events, pointer_list};
 ghost use Rattle.pointer_state.specs.View.{Stepped};
 ghost use Rattle.press_loop.specs.Passed.{PressPassed};
 
 use data::event::Event;
 use data::kinds::{BUTTON_KIND, MOVED_KIND};
 use data::options::InputOptions;
-use event_loop::{LISTED, POINTER, kind_at, listed};
+use event_loop::kind_at;
+use event_loop::lists::{Lists, Reader};
 use event_readers::readers::{button_at, moved_at};
 use pointer_clicks::clear_events;
 use pointer_events::{CODES, PLACES};
@@ -51,7 +50,7 @@ fn press_at(
     s
 }
 
-// The presses' part of a pass, of the first `count` events in the pointer's list, which has no more than a pass may have.
+// The presses' part of a pass, of the events in the pointer's list.
 pub fn press_pass(
     s: Press,
     codes: &mut [u32; CODES],
@@ -59,23 +58,19 @@ pub fn press_pass(
     options: InputOptions,
     time: f64,
     feed: &[u32],
-    lists: &[u16; LISTED],
-    count: u8,
+    lists: &Lists,
 ) -> Press
-    requires { count ≤ max_events }
     ensures { PressPassed
-        options time (listed_events feed.now lists.now pointer_list count)
+        options time (listed_events feed.now (listed lists.now pointer_list))
         codes.old positions.old s codes.new positions.new result }
 {
     let old = s.held;
     let past = s.past;
     let held = clear_events(old);
     let mut t = Press { held, past };
-    let mut i: u8 = 0;
-    while i < count {
-        let at = listed(lists, POINTER, i);
-        t = press_at(t, codes, positions, options, time, feed, at);
-        i += 1;
+    let events = lists.places(Reader::Pointer);
+    for at in events {
+        t = press_at(t, codes, positions, options, time, feed, *at as usize);
     }
     t
 }

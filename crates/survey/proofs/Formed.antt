@@ -1,8 +1,8 @@
 -- Devices in order: what the survey takes fits. Assumes nothing.
+use Rattle.std.specs.Prelude.{None, Some}
 use mathlib.Core.Path.{◌≡◌, refl, sym, ap, ◌∙◌}
 use mathlib.Core.Bool.{Bool, true, false, cond}
 use mathlib.Core.List.{List, [], ◌∷◌}
-use mathlib.Core.Option.{none, some}
 use Prim.Native.Nat.{zero, suc}
 use Rattle.feed.specs.Decode.{Decoded, good, malformed, outside_domain}
 use Rattle.feed.specs.Feed.{then_events, events_of}
@@ -54,7 +54,7 @@ survey_law (suc left) (i ∷ is) vs o = go i.what (λ us q. survey_law left is u
     go (good e) later = by (crowded e vs) refl
       where
         by : (b : Bool) → crowded e vs ≡ b →
-            or_else (cond b (some (NoPlace i.index)) none) (fits_survey left is (fits_event e vs)) ≡ or_else (cond b (some (NoPlace i.index)) none) (survey left is (touch_event e vs))
+            or_else (cond b (Some (NoPlace i.index)) None) (fits_survey left is (fits_event e vs)) ≡ or_else (cond b (Some (NoPlace i.index)) None) (survey left is (touch_event e vs))
         by true t = refl
         by false t = later (fits_event e vs) (event_keeps e vs o t) ∙ rw (event_is e vs o t)
     go malformed later = refl
@@ -66,12 +66,12 @@ events_law left [] vs o h = (refl, o)
 events_law zero (i ∷ is) vs o h = none_some (sym h)
 events_law (suc left) (i ∷ is) vs o h = go i.what h (λ us q k. events_law left is us q k)
   where
-    go : (d : Decoded) → or_else (item_refusal i.index d vs) (fits_survey left is (fits_item d vs)) ≡ none →
-        ((us : List TouchState) → InOrder us → fits_survey left is us ≡ none → (fits_events (events_of is) us ≡ touch_events (events_of is) us) × InOrder (fits_events (events_of is) us)) →
+    go : (d : Decoded) → or_else (item_refusal i.index d vs) (fits_survey left is (fits_item d vs)) ≡ None →
+        ((us : List TouchState) → InOrder us → fits_survey left is us ≡ None → (fits_events (events_of is) us ≡ touch_events (events_of is) us) × InOrder (fits_events (events_of is) us)) →
         (fits_events (then_events d (events_of is)) vs ≡ touch_events (then_events d (events_of is)) vs) × InOrder (fits_events (then_events d (events_of is)) vs)
     go (good e) h later = by (crowded e vs) refl h
       where
-        by : (b : Bool) → crowded e vs ≡ b → or_else (cond b (some (NoPlace i.index)) none) (fits_survey left is (fits_event e vs)) ≡ none →
+        by : (b : Bool) → crowded e vs ≡ b → or_else (cond b (Some (NoPlace i.index)) None) (fits_survey left is (fits_event e vs)) ≡ None →
             (fits_events (events_of is) (fits_event e vs) ≡ touch_events (events_of is) (touch_event e vs)) × InOrder (fits_events (events_of is) (fits_event e vs))
         by true t h = none_some (sym h)
         by false t h =

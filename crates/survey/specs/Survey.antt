@@ -1,7 +1,6 @@
 -- The survey of a feed on the devices that the arrays hold: the model's `survey`, where what does not fit is left out.
 -- Of devices in order these are the model's own (specs/Laws.antt).
-use Rattle.std.specs.Prelude.{ℕ, zero, suc, ◌≡◌, cond, List, [], ◌∷◌, get_or}
-use Rattle.std.proofs.Math.Option.{Option, none, some}
+use Rattle.std.specs.Prelude.{ℕ, zero, suc, ◌≡◌, cond, List, [], ◌∷◌, Option, None, Some, Ok, Err, Result, ⊤}
 use Rattle.data.specs.Limits.{max_events}
 use Rattle.feed.specs.Decode.{Decoded, good, malformed, outside_domain, Item, items}
 use Rattle.feed.specs.Feed.{feed_refusal}
@@ -11,15 +10,14 @@ use Rattle.model.specs.Touch.{TouchState}
 use Rattle.model.specs.Pass.{or_else, crowded, item_refusal}
 use Rattle.touch_state.specs.View.{fits_touch}
 use Rattle.event_loop.specs.Shaped.{shaped_at}
+use Rattle.event_loop.specs.declared.lists.Lists.{Lists}
 use Rattle.event_loop.specs.Lists.{touch_list, listed, Listed}
-use Rattle.survey.specs.declared.reading.MaybePassRefusal.{MaybePassRefusal}
-use Rattle.survey.specs.declared.reading.MaybePassRefusal.TheVariants.{None as no_refusal, Some as some_refusal}
-use Rattle.survey.specs.declared.reading.Reading.{Reading}
+use Rattle.data.specs.declared.refusal.PassRefusal.{PassRefusal}
 
 -- the answer as an Option
-unfoldable pub option : MaybePassRefusal → Option PassRefusal
-option no_refusal = none
-option (some_refusal r) = some r
+unfoldable pub option : Result ⊤ PassRefusal → Option PassRefusal
+option (Ok tt) = None
+option (Err r) = Some r
 
 -- `touch_event`, of what fits
 unfoldable pub fits_event : Event → List TouchState → List TouchState
@@ -47,18 +45,18 @@ fits_item outside_domain vs = vs
 
 -- 01: "then event by event 4, 1, 2, 5". `left` is how many events may still come
 unfoldable pub fits_survey : ℕ → List Item → List TouchState → Option PassRefusal
-fits_survey left [] vs = none
-fits_survey zero (i ∷ is) vs = some (TooManyEvents i.index)
+fits_survey left [] vs = None
+fits_survey zero (i ∷ is) vs = Some (TooManyEvents i.index)
 fits_survey (suc left) (i ∷ is) vs = or_else (item_refusal i.index i.what vs) (fits_survey left is (fits_item i.what vs))
 
 -- the events at some places, one after the other: the first that finds no place is refused, and `after` them comes the rest
 unfoldable pub crowd_then : List ℕ → List ℕ → (List TouchState → Option PassRefusal) → List TouchState → Option PassRefusal
 crowd_then ws [] after vs = after vs
-crowd_then ws (p ∷ ps) after vs = cond (crowded (shaped_at ws p) vs) (some (NoPlace p)) (crowd_then ws ps after (fits_event (shaped_at ws p) vs))
+crowd_then ws (p ∷ ps) after vs = cond (crowded (shaped_at ws p) vs) (Some (NoPlace p)) (crowd_then ws ps after (fits_event (shaped_at ws p) vs))
 
 -- What reading tells: 4, 1, 2; of a feed that is not refused, the lists; and the survey is decided by the touch events in their list.
-pub record Read (ws ps : List ℕ) (r : Reading) : Type 0 where
-  pub refusal : option r.refusal ≡ feed_refusal ws
-  pub lists : feed_refusal ws ≡ none → Listed ws ps r.counts
+pub record Read (ws : List ℕ) (s : Lists) (r : Result ⊤ PassRefusal) : Type 0 where
+  pub refusal : option r ≡ feed_refusal ws
+  pub lists : feed_refusal ws ≡ None → Listed ws s
   pub crowd : (vs : List TouchState) →
-      fits_survey max_events (items ws) vs ≡ crowd_then ws (listed ps touch_list (get_or r.counts touch_list 0)) (λ us. feed_refusal ws) vs
+      fits_survey max_events (items ws) vs ≡ crowd_then ws (listed s touch_list) (λ us. feed_refusal ws) vs

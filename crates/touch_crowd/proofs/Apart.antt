@@ -1,8 +1,8 @@
 -- The device of the last touch event, kept apart from the others. Assumes nothing.
+use Rattle.std.specs.Prelude.{Some}
 use mathlib.Core.Path.{◌≡◌, refl, sym, ap, ◌∙◌}
 use mathlib.Core.Bool.{Bool, true, false, not, cond, ◌||◌}
 use mathlib.Core.List.{List}
-use mathlib.Core.Option.{some}
 use Prim.Native.Nat.{ℕ, ◌≤◌, ◌<◌}
 use native.Mathlib.Omega.{arith}
 use borrow.Author.Tests.{ltb-true, ltb-false, eqb-true, eqb-false}
@@ -87,17 +87,17 @@ module _ (d : ℕ) (held : Devices) (k : ℕ) (device : Device) (turn : Turn d h
   there h = let l = turn.room in get_or-set_same held.places k device device (omega arith)
 
   pub crowded_by : (ph : TouchPhase) (i : ℕ) →
-      cond (ltb k max_devices) (no_place ph i 0 (some (device_view device))) (no_place ph i (length (view held)) (find_device d (view held)))
+      cond (ltb k max_devices) (no_place ph i 0 (Some (device_view device))) (no_place ph i (length (view held)) (find_device d (view held)))
       ≡ no_place ph i (length (view all)) (find_device d (view all))
   unfolding no_place
   crowded_by ph i = go (ltb k max_devices) refl
     where
       go : (b : Bool) → ltb k max_devices ≡ b →
-          cond b (no_place ph i 0 (some (device_view device))) (no_place ph i (length (view held)) (find_device d (view held)))
+          cond b (no_place ph i 0 (Some (device_view device))) (no_place ph i (length (view held)) (find_device d (view held)))
           ≡ no_place ph i (length (view all)) (find_device d (view all))
       go true q =
           let h : k < max_devices = ltb-true k max_devices q in
-          let found : find_device d (view all) ≡ some (device_view device) = known_found d k all.count all.places device turn.at h ∙ rw (there h) in
+          let found : find_device d (view all) ≡ Some (device_view device) = known_found d k all.count all.places device turn.at h ∙ rw (there h) in
           rw found
       go false q = rw (none_apart held k device turn.room (ltb-false k max_devices q))
 

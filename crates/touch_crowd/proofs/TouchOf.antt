@@ -1,4 +1,5 @@
 -- An event by the parts of a touch event. Assumes nothing.
+use Rattle.std.specs.Prelude.{Option, None, Some}
 use mathlib.Core.Path.{◌≡◌, refl, ap}
 use mathlib.Core.List.{List}
 use Prim.Native.Nat.{ℕ}
@@ -13,17 +14,15 @@ use Rattle.touch_state.specs.View.{fits_touch}
 use Rattle.survey.specs.Survey.{fits_event}
 use Rattle.touch_crowd.specs.Touch.{touch_of}
 use Rattle.touch_crowd.specs.declared.touch.TouchEvent.{TouchEvent}
-use Rattle.touch_crowd.specs.declared.touch.MaybeTouchEvent.{MaybeTouchEvent}
-use Rattle.touch_crowd.specs.declared.touch.MaybeTouchEvent.TheVariants.{None as no_touch, Some as some_touch}
 
 no : {P : Type 0} → ◌≡◌ {A = ℕ} 0 1 → P
 no z = absurd (omega arith)
 
-or_this : TouchEvent → MaybeTouchEvent → TouchEvent
-or_this t no_touch = t
-or_this t (some_touch u) = u
+or_this : TouchEvent → Option TouchEvent → TouchEvent
+or_this t None = t
+or_this t (Some u) = u
 
-pub touch_is : (e : Event) (t : TouchEvent) → touch_of e ≡ some_touch t → e ≡ Touch t.device_id t.touch.id t.phase t.touch.pos t.touch.force
+pub touch_is : (e : Event) (t : TouchEvent) → touch_of e ≡ Some t → e ≡ Touch t.device_id t.touch.id t.phase t.touch.pos t.touch.force
 unfolding touch_of or_this
 touch_is (Key k b) t h = no (cc)
 touch_is (ModifiersChanged m) t h = no (cc)
@@ -38,7 +37,7 @@ touch_is (MouseWheel u v ph s m) t h = no (cc)
 touch_is (WindowFocused b) t h = no (cc)
 touch_is Other t h = no (cc)
 
-pub no_touch_of : (e : Event) → (kind_number e ≡ touch_kind → ⊥) → touch_of e ≡ no_touch
+pub no_touch_of : (e : Event) → (kind_number e ≡ touch_kind → ⊥) → touch_of e ≡ None
 unfolding touch_of
 no_touch_of (Key k b) h = refl
 no_touch_of (ModifiersChanged m) h = refl
@@ -53,7 +52,7 @@ no_touch_of (MouseWheel u v ph s m) h = refl
 no_touch_of (WindowFocused b) h = refl
 no_touch_of Other h = refl
 
-pub not_9 : (e : Event) → touch_of e ≡ no_touch → kind_number e ≡ touch_kind → ⊥
+pub not_9 : (e : Event) → touch_of e ≡ None → kind_number e ≡ touch_kind → ⊥
 unfolding touch_of
 not_9 (Key k b) h q = absurd (omega arith)
 not_9 (ModifiersChanged m) h q = absurd (omega arith)
@@ -69,7 +68,7 @@ not_9 (WindowFocused b) h q = absurd (omega arith)
 not_9 Other h q = absurd (omega arith)
 
 -- ---- the event at a place by its parts
-module _ (e : Event) (t : TouchEvent) (is : touch_of e ≡ some_touch t) where
+module _ (e : Event) (t : TouchEvent) (is : touch_of e ≡ Some t) where
   pub crowded_is : (vs : List TouchState) → no_place t.phase t.touch.id (length vs) (find_device t.device_id vs) ≡ crowded e vs
   unfolding crowded
   crowded_is vs = rw (touch_is e t is)

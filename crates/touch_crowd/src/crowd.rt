@@ -1,6 +1,5 @@
 // Touch events against the devices and touches that are held.
-ghost use Rattle.std.specs.Prelude.{◌≡◌, cond, ltb, length};
-ghost use Rattle.std.proofs.Math.Option.{some};
+ghost use Rattle.std.specs.Prelude.{◌≡◌, cond, ltb, length, Some};
 ghost use Rattle.data.specs.Limits.{max_devices};
 ghost use Rattle.model.specs.Touch.{no_place, find_device};
 ghost use Rattle.touch_device.specs.View.{device_view};
@@ -8,19 +7,17 @@ ghost use Rattle.touch_state.specs.View.{view};
 ghost use Rattle.survey.specs.Survey.{option};
 ghost use Rattle.touch_crowd.specs.Crowded.{Crowded};
 
-use crate::touch::{MaybeTouchEvent, touch_event_at};
+use crate::touch::{TouchEvent, touch_event_at};
 use data::limits::MAX_DEVICES;
 use data::refusal::PassRefusal;
 use data::touch::TouchPhase;
-use event_loop::{LISTED, TOUCHES, listed};
-use survey::reading::MaybePassRefusal;
 use touch_device::Device;
 use touch_state::devices::{Devices, add, known_at, no_place};
 
 // The first refusal, and where there is none the devices after the touch events.
 #[derive(Clone, Copy)]
 pub struct Surveyed {
-    pub refusal: MaybePassRefusal,
+    pub refusal: Result<(), PassRefusal>,
     pub devices: Devices,
 }
 
@@ -33,7 +30,7 @@ fn is_crowded(
     phase: TouchPhase,
     id: u64,
 ) -> bool
-    ensures { result ≡ cond (ltb k max_devices) (no_place phase id 0 (some (device_view device))) (no_place phase id (length (view held)) (find_device device_id (view held))) }
+    ensures { result ≡ cond (ltb k max_devices) (no_place phase id 0 (Some (device_view device))) (no_place phase id (length (view held)) (find_device device_id (view held))) }
 {
     if k < MAX_DEVICES {
         return touch_device::is_full(device, phase, id);
@@ -41,27 +38,20 @@ fn is_crowded(
     no_place(held, device_id, phase, id)
 }
 
-// The touch events in their list, of which there are `count`; `later` is what is refused after them.
+// The touch events at their places; `later` is what is refused after them.
 // `device` is the one of the last event, at place k; it is put back when another's turn comes. MAX_DEVICES is no place.
-pub fn crowd(
-    ds: Devices,
-    feed: &[u32],
-    lists: &[u16; LISTED],
-    count: u8,
-    later: MaybePassRefusal,
-) -> Surveyed
-    ensures { Crowded feed.now lists.now count (option later) (view ds) result }
+pub fn crowd(ds: Devices, feed: &[u32], places: &[u16], later: Result<(), PassRefusal>) -> Surveyed
+    ensures { Crowded feed.now places.now (option later) (view ds) result }
 {
     let mut held = ds;
     let mut k: usize = MAX_DEVICES;
     let mut device = touch_device::new(0);
-    let mut i: u8 = 0;
-    while i < count {
-        let at = listed(lists, TOUCHES, i);
+    for place in places {
+        let at = *place as usize;
         let found = touch_event_at(feed, at);
         match found {
-            MaybeTouchEvent::None => {}
-            MaybeTouchEvent::Some(e) => {
+            None => {}
+            Some(e) => {
                 let phase = e.phase;
                 let touch = e.touch;
                 if (k == MAX_DEVICES) | (device.id != e.device_id) {
@@ -75,7 +65,7 @@ pub fn crowd(
                 }
                 if is_crowded(held, k, device, e.device_id, phase, touch.id) {
                     return Surveyed {
-                        refusal: MaybePassRefusal::Some(PassRefusal::NoPlace(at)),
+                        refusal: Err(PassRefusal::NoPlace(at)),
                         devices: held,
                     };
                 }
@@ -86,7 +76,6 @@ pub fn crowd(
                 }
             }
         }
-        i += 1;
     }
     if k < MAX_DEVICES {
         held.places[k] = device;

@@ -16,28 +16,21 @@ pub struct TouchEvent {
     pub touch: ActiveTouch,
 }
 
-// Option<TouchEvent>
-#[derive(Clone, Copy)]
-pub enum MaybeTouchEvent {
-    None,
-    Some(TouchEvent),
-}
-
 // Touch events are read.
-pub fn touch_event_at(feed: &[u32], at: usize) -> MaybeTouchEvent
+pub fn touch_event_at(feed: &[u32], at: usize) -> Option<TouchEvent>
     ensures { result ≡ touch_of (shaped_at feed.now at) }
 {
     if kind_at(feed, at) == TOUCH_KIND {
         let e = touch_at(feed, at);
         let Event::Touch(device_id, id, phase, pos, force) = e else {
-            return MaybeTouchEvent::None;
+            return None;
         };
         let touch = ActiveTouch { id, pos, force };
-        return MaybeTouchEvent::Some(TouchEvent {
+        return Some(TouchEvent {
             device_id,
             phase,
             touch,
         });
     }
-    MaybeTouchEvent::None
+    None
 }

@@ -1,4 +1,5 @@
 -- Which devices a feed adds touches to or removes them from, event by event; and the end of a pass, device by device. Assumes nothing.
+use Rattle.std.specs.Prelude.{Option}
 use mathlib.Core.Path.{◌≡◌, refl, ap₂}
 use mathlib.Core.Bool.{Bool, true, false, ◌&&◌, ◌||◌}
 use mathlib.Core.List.{List, [], ◌∷◌, ◌++◌, map, map-append, append-nil}
@@ -11,7 +12,7 @@ use lib.Seq.{append_snoc, take-suc-set, take-set-lt, drop-set-lt}
 use lib.Ieee.{Float}
 use Rattle.data.specs.Kinds.{touch_kind}
 use Rattle.data.specs.Numbers.{kind_number}
-use Rattle.model.specs.Types.{MaybePos2, Event, Key, ModifiersChanged, PointerMoved, MouseMoved, Button, PointerGone, Zoom, Rotate, Touch, MouseWheel, WindowFocused, Other}
+use Rattle.model.specs.Types.{Pos2, Event, Key, ModifiersChanged, PointerMoved, MouseMoved, Button, PointerGone, Zoom, Rotate, Touch, MouseWheel, WindowFocused, Other}
 use Rattle.model.specs.Touch.{TouchState, adds_or_removes, added_or_removed_touches, end_device, end_touches}
 use Rattle.touch_device.specs.declared.Device.{Device}
 use Rattle.touch_device.specs.View.{device_view}
@@ -70,7 +71,7 @@ module _ (d : ℕ) where
   adds_own es = own_any_law (added_or_removed_touches d) refl adds_first touch_list (λ e h. adds_idle e (not_read touch_list e touch_kind h refl)) es
 
 -- ---- the end of a pass, a turn at a time: those that are done, and the rest
-module _ (time : Float) (p : MaybePos2) (es : List Event) where
+module _ (time : Float) (p : Option Pos2) (es : List Event) where
   unfoldable pub ended : ℕ → List Device → ℕ → List TouchState
   ended n a i = map device_view (take i a) ++ map (end_touches time p es) (map device_view (drop i (take n a)))
 
@@ -99,7 +100,7 @@ module _ (time : Float) (p : MaybePos2) (es : List Event) where
       rw (e, done n n a (omega arith) l, append-nil)
 
 -- and of its touch events alone
-pub ended_own : (time : Float) (p : MaybePos2) (es : List Event) (vs : List TouchState) → map (end_touches time p (own touch_list es)) vs ≡ map (end_touches time p es) vs
+pub ended_own : (time : Float) (p : Option Pos2) (es : List Event) (vs : List TouchState) → map (end_touches time p (own touch_list es)) vs ≡ map (end_touches time p es) vs
 unfolding end_touches
 ended_own time p es [] = refl
 ended_own time p es (v ∷ vs) = ap₂ (λ (u : TouchState) (us : List TouchState). u ∷ us) (rw (adds_own v.device_id es)) (ended_own time p es vs)

@@ -5,11 +5,11 @@ ghost use Rattle.feed.specs.Split.{kind};
 ghost use Rattle.model.specs.Touch.{added_or_removed_touches, end_touches};
 ghost use Rattle.touch_state.specs.View.{view};
 ghost use Rattle.event_loop.specs.Shaped.{shaped_at};
-ghost use Rattle.event_loop.specs.Lists.{listed_events, touch_list};
+ghost use Rattle.event_loop.specs.Lists.{listed_events};
 
 use data::kinds::{KIND_UNIT, TOUCH_KIND};
-use emath::pos2::MaybePos2;
-use event_loop::{LISTED, TOUCHES, kind_at, listed};
+use emath::pos2::Pos2;
+use event_loop::kind_at;
 use feed::fields::{id_of, phase_of};
 use touch_device::adds_or_removes;
 use touch_state::devices::Devices;
@@ -43,16 +43,13 @@ fn adds_at(device_id: u64, feed: &[u32], at: usize) -> bool
     false
 }
 
-fn added_or_removed_touches(device_id: u64, feed: &[u32], lists: &[u16; LISTED], count: u8) -> bool
-    ensures { result ≡ added_or_removed_touches device_id (listed_events feed.now lists.now touch_list count) }
+fn added_or_removed_touches(device_id: u64, feed: &[u32], places: &[u16]) -> bool
+    ensures { result ≡ added_or_removed_touches device_id (listed_events feed.now places.now) }
 {
-    let mut i: u8 = 0;
-    while i < count {
-        let at = listed(lists, TOUCHES, i);
-        if adds_at(device_id, feed, at) {
+    for at in places {
+        if adds_at(device_id, feed, *at as usize) {
             return true;
         }
-        i += 1;
     }
     false
 }
@@ -62,24 +59,21 @@ fn added_or_removed_touches(device_id: u64, feed: &[u32], lists: &[u16; LISTED],
 pub fn end_devices(
     ds: Devices,
     feed: &[u32],
-    lists: &[u16; LISTED],
-    count: u8,
+    places: &[u16],
     time: f64,
-    pointer_pos: MaybePos2,
+    pointer_pos: Option<Pos2>,
 ) -> Devices
-    ensures { view result ≡ map (end_touches time pointer_pos (listed_events feed.now lists.now touch_list count)) (view ds) }
+    ensures { view result ≡ map (end_touches time pointer_pos (listed_events feed.now places.now)) (view ds) }
 {
     if ds.count == 0 {
         return ds;
     }
     let n = touch_state::devices::len(ds);
     let mut out = ds;
-    let mut i: usize = 0;
-    while i < n {
+    for i in 0..n {
         let d = out.places[i];
-        let added_or_removed = added_or_removed_touches(d.id, feed, lists, count);
+        let added_or_removed = added_or_removed_touches(d.id, feed, places);
         out.places[i] = touch_device::end_pass(d, time, pointer_pos, added_or_removed);
-        i += 1;
     }
     out
 }

@@ -4,14 +4,14 @@
 ghost use Rattle.std.specs.Prelude.{◌≡◌};
 ghost use Rattle.model.specs.Wheel.{wheel_event, wheel_events, wheel_pass};
 ghost use Rattle.event_loop.specs.Shaped.{shaped_at};
-ghost use Rattle.event_loop.specs.Lists.{listed_events, wheel_list};
+ghost use Rattle.event_loop.specs.Lists.{listed_events};
 
 use data::event::Event;
 use data::kinds::WHEEL_KIND;
 use data::mouse_wheel::WheelState;
 use data::options::InputOptions;
 use emath::rect::Rect;
-use event_loop::{LISTED, WHEEL, kind_at, listed};
+use event_loop::kind_at;
 
 // Wheel events are read, and the wheel is lent for its step.
 fn wheel_at(
@@ -50,22 +50,18 @@ fn wheel_events(
     options: InputOptions,
     time: f64,
     feed: &[u32],
-    lists: &[u16; LISTED],
-    count: u8,
+    places: &[u16],
 ) -> WheelState
-    ensures { result ≡ wheel_events viewport_rect options time (listed_events feed.now lists.now wheel_list count) w }
+    ensures { result ≡ wheel_events viewport_rect options time (listed_events feed.now places.now) w }
 {
     let mut v = w;
-    let mut i: u8 = 0;
-    while i < count {
-        let at = listed(lists, WHEEL, i);
-        v = wheel_at(v, viewport_rect, options, time, feed, at);
-        i += 1;
+    for at in places {
+        v = wheel_at(v, viewport_rect, options, time, feed, *at as usize);
     }
     v
 }
 
-// The wheel's part of a pass, of the first `count` events in its list; `factor` is the smoothing factor.
+// The wheel's part of a pass, of the events at some places; `factor` is the smoothing factor.
 pub fn wheel_pass(
     w: WheelState,
     viewport_rect: Rect,
@@ -73,12 +69,11 @@ pub fn wheel_pass(
     time: f64,
     factor: f32,
     feed: &[u32],
-    lists: &[u16; LISTED],
-    count: u8,
+    places: &[u16],
 ) -> WheelState
-    ensures { result ≡ wheel_pass viewport_rect options time factor (listed_events feed.now lists.now wheel_list count) w }
+    ensures { result ≡ wheel_pass viewport_rect options time factor (listed_events feed.now places.now) w }
 {
     let cleared = wheel_state::clear_smooth(w);
-    let scrolled = wheel_events(cleared, viewport_rect, options, time, feed, lists, count);
+    let scrolled = wheel_events(cleared, viewport_rect, options, time, feed, places);
     wheel_state::after_events(scrolled, time, factor)
 }

@@ -5,11 +5,11 @@ ghost use Rattle.std.specs.Prelude.{◌≡◌};
 ghost use Rattle.model.specs.Numbers.{+0, one};
 ghost use Rattle.model.specs.Pass.{zoom_event, zoom_of, rotation_event, rotation_of};
 ghost use Rattle.event_loop.specs.Shaped.{shaped_at};
-ghost use Rattle.event_loop.specs.Lists.{listed_events, sums_list};
+ghost use Rattle.event_loop.specs.Lists.{listed_events};
 
 use data::event::Event;
 use data::kinds::{ROTATE_KIND, ZOOM_KIND};
-use event_loop::{LISTED, SUMS, kind_at, listed};
+use event_loop::kind_at;
 
 // Zoom events are read.
 fn zoom_at(factor: f32, feed: &[u32], at: usize) -> f32
@@ -25,15 +25,13 @@ fn zoom_at(factor: f32, feed: &[u32], at: usize) -> f32
     factor
 }
 
-pub fn zoom_of(feed: &[u32], lists: &[u16; LISTED], count: u8) -> f32
-    ensures { result ≡ zoom_of (listed_events feed.now lists.now sums_list count) one }
+// Of the events at some places.
+pub fn zoom_of(feed: &[u32], places: &[u16]) -> f32
+    ensures { result ≡ zoom_of (listed_events feed.now places.now) one }
 {
     let mut factor: f32 = 1.0;
-    let mut i: u8 = 0;
-    while i < count {
-        let at = listed(lists, SUMS, i);
-        factor = zoom_at(factor, feed, at);
-        i += 1;
+    for at in places {
+        factor = zoom_at(factor, feed, *at as usize);
     }
     factor
 }
@@ -52,15 +50,12 @@ fn rotation_at(radians: f32, feed: &[u32], at: usize) -> f32
     radians
 }
 
-pub fn rotation_of(feed: &[u32], lists: &[u16; LISTED], count: u8) -> f32
-    ensures { result ≡ rotation_of (listed_events feed.now lists.now sums_list count) +0 }
+pub fn rotation_of(feed: &[u32], places: &[u16]) -> f32
+    ensures { result ≡ rotation_of (listed_events feed.now places.now) +0 }
 {
     let mut radians: f32 = 0.0;
-    let mut i: u8 = 0;
-    while i < count {
-        let at = listed(lists, SUMS, i);
-        radians = rotation_at(radians, feed, at);
-        i += 1;
+    for at in places {
+        radians = rotation_at(radians, feed, *at as usize);
     }
     radians
 }

@@ -1,25 +1,20 @@
-use mathlib.Core.Path.{◌≡◌, refl, sym, ◌∙◌}
+use mathlib.Core.Path.{refl, sym, ◌∙◌}
 use native.Mathlib.Omega.{arith}
+use Rattle.event_loop.proofs.Loops.{ended}
 use Rattle.place_loop.proofs.Loops.{place_loop}
 use Rattle.place_loop.proofs.place_events.Goals as goal
 
-pub loop-i-init : goal.loop-i-init
-loop-i-init c = (omega arith, record { result = λ times positions. sym (place_loop.begins _ _ _ _); start = refl })
+pub loop-at-init : goal.loop-at-init
+loop-at-init c = record { result = λ times positions. sym (place_loop.begins _ _); start = refl }
 
-pub loop-i-preserved : goal.loop-i-preserved
-loop-i-preserved c =
-    let l = c.loop-i in
+pub loop-at-preserved : goal.loop-at-preserved
+loop-at-preserved c =
     let step = c.place_at-s.ensures in
-    let so_far = l.invariant.1 in (
-      omega arith,
-      record {
-        result = λ times positions. step.result times positions ∙ rw (c.listed-at.ensures, so_far.result times positions) (sym (place_loop.goes_on _ _ _ _ _));
-        start = step.start ∙ so_far.start;
-      },
-    )
+    let so_far = c.loop-at.invariant in
+    record {
+      result = λ times positions. step.result times positions ∙ rw (so_far.result times positions) (sym (place_loop.goes_on _ _ _ _ (omega arith)));
+      start = step.start ∙ so_far.start;
+    }
 
 pub returns : goal.returns
-returns c =
-    let l = c.loop-i in
-    let e : l.i ≡ c.args.count = omega arith in
-    rw e at l.invariant.1
+returns c = rw (ended c.args.feed.now {ps = c.args.places.now} c.loop-at.at-index refl (omega arith)) at c.loop-at.invariant

@@ -1,18 +1,14 @@
-use mathlib.Core.Path.{◌≡◌, sym, ◌∙◌}
+use mathlib.Core.Path.{refl, sym, ◌∙◌}
 use native.Mathlib.Omega.{arith}
+use Rattle.event_loop.proofs.Loops.{ended}
 use Rattle.wheel_loop.proofs.Loops.{wheel_loop}
 use Rattle.wheel_loop.proofs.wheel_events.Goals as goal
 
-pub loop-i-init : goal.loop-i-init
-loop-i-init c = (omega arith, sym ((wheel_loop _ _ _).begins _ _ _ _))
+pub loop-at-init : goal.loop-at-init
+loop-at-init c = sym ((wheel_loop _ _ _).begins _ _)
 
-pub loop-i-preserved : goal.loop-i-preserved
-loop-i-preserved c =
-    let l = c.loop-i in
-    (omega arith, c.wheel_at-v.ensures ∙ rw (c.listed-at.ensures, l.invariant.1) (sym ((wheel_loop _ _ _).goes_on _ _ _ _ _)))
+pub loop-at-preserved : goal.loop-at-preserved
+loop-at-preserved c = c.wheel_at-v.ensures ∙ rw c.loop-at.invariant (sym ((wheel_loop _ _ _).goes_on _ _ _ _ (omega arith)))
 
 pub returns : goal.returns
-returns c =
-    let l = c.loop-i in
-    let e : l.i ≡ c.args.count = omega arith in
-    rw e at l.invariant.1
+returns c = rw (ended c.args.feed.now {ps = c.args.places.now} c.loop-at.at-index refl (omega arith)) at c.loop-at.invariant

@@ -6,21 +6,24 @@ use Rattle.input_pass.proofs.begin.begin_pass.Goals as goal
 pub act-state-requires : goal.act-state-requires
 unfolding option
 act-state-requires c =
-    let told = surveys _ _ _ _ _ _ c.look-looked.ensures _ c.touch_pass-passed.ensures.refusal in
-    told.ready (sym (rw c.in-None.is at told.first))
+    let passed = rw c.places-touches.ensures.listed at c.touch_pass-passed.ensures in
+    let told = surveys _ _ _ _ _ _ c.look-later.ensures _ passed.refusal in
+    told.ready (sym (rw c.in-Ok.is at told.first))
 
-pub returns-in-Some : goal.returns-in-Some
+pub returns-in-Err : goal.returns-in-Err
 unfolding option
-returns-in-Some c =
-    let looked = c.look-looked.ensures in
-    let told = surveys _ _ _ _ _ _ looked _ c.touch_pass-passed.ensures.refusal in
-    let q = rw c.in-Some.is at told.first in
+returns-in-Err c =
+    let passed = rw c.places-touches.ensures.listed at c.touch_pass-passed.ensures in
+    let looked = c.look-later.ensures in
+    let told = surveys _ _ _ _ _ _ looked _ passed.refusal in
+    let q = rw c.in-Err.is at told.first in
     refused_pass _ _ _ _ _ _ _ _ q refl refl refl refl
 
-pub returns-in-None : goal.returns-in-None
+pub returns-in-Ok : goal.returns-in-Ok
 unfolding option
-returns-in-None c =
-    let told = surveys _ _ _ _ _ _ c.look-looked.ensures _ c.touch_pass-passed.ensures.refusal in
-    let q = rw c.in-None.is at told.first in
-    taken_pass _ _ _ _ _ _ _ _ c.look-looked.result.counts _ _ q refl told.devices told.ready c.time_of-time.ensures
-    (c.touch_pass-passed.ensures.devices (rw c.in-None.is)) c.act-state.ensures
+returns-in-Ok c =
+    let passed = rw c.places-touches.ensures.listed at c.touch_pass-passed.ensures in
+    let told = surveys _ _ _ _ _ _ c.look-later.ensures _ passed.refusal in
+    let q = rw c.in-Ok.is at told.first in
+    taken_pass _ _ _ _ _ _ _ _ _ _ q refl told.devices told.ready c.time_of-time.ensures
+    (passed.devices (rw c.in-Ok.is)) c.act-state.ensures

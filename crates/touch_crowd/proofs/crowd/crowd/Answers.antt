@@ -1,11 +1,10 @@
-use Prim.Native.Nat.{◌+◌}
+use Rattle.std.specs.Prelude.{Some}
+use Prim.Native.Nat.{◌+◌, ◌≤◌, ◌<◌}
 use mathlib.Core.Path.{◌≡◌, refl, sym, ◌∙◌}
-use mathlib.Core.Option.{some}
 use native.Mathlib.Omega.{arith}
-use lib.ListN.{length}
+use lib.ListN.{get_or, length}
 use Rattle.touch_state.specs.View.{view}
 use Rattle.model.specs.Types.{NoPlace}
-use Rattle.event_loop.specs.Lists.{touch_list, listed}
 use Rattle.survey.specs.Survey.{option, crowd_then}
 use Rattle.survey.proofs.Places.{Holds, holds_first, holds_more, no_place_at, holds_last, none_some, not_crowded, fits_idle}
 use Rattle.touch_crowd.proofs.TouchOf.{crowded_is, fits_is, not_9}
@@ -13,10 +12,10 @@ use Rattle.touch_crowd.proofs.Apart.{current, Apart, Turn, apart_first, current_
 use Rattle.touch_crowd.proofs.crowd.crowd.Goals as goal
 use Rattle.touch_crowd.proofs.crowd.crowd.Goals.{in-None, in-Some+else-is_crowded+then-k-lt-MAX_DEVICES-3, in-Some+else-is_crowded+else-k-lt-MAX_DEVICES-3, then-k-device+then-k-lt-MAX_DEVICES-2, then-k-device+else-k-lt-MAX_DEVICES-2, else-k-device, then-k-lt-MAX_DEVICES, else-k-lt-MAX_DEVICES}
 
-pub loop-i-init : goal.loop-i-init
-loop-i-init c =
+pub loop-place-init : goal.loop-place-init
+loop-place-init c =
     let l : length c.args.ds.places ≡ 4 = c.well_formed.0.1.1.1.0.1.0.1 in
-    (omega arith, apart_first _ _ l, rw (none_apart c.args.ds 4 c.new-device.result l (omega arith)) (holds_first _ _ _ _ _))
+    (apart_first _ _ l, rw (none_apart c.args.ds 4 c.new-device.result l (omega arith)) (holds_first _ _ _ _))
 
 pub offset_bounds-held-k : goal.offset_bounds-held-k
 offset_bounds-held-k c = let k = c.if-k-lt-MAX_DEVICES.true in omega arith
@@ -39,118 +38,118 @@ bounds-held-k-then-k-lt-MAX_DEVICES-4 c = c.if-k-lt-MAX_DEVICES-4.true
 pub returns-then-k-lt-MAX_DEVICES-4 : goal.returns-then-k-lt-MAX_DEVICES-4
 returns-then-k-lt-MAX_DEVICES-4 c =
     let s = c.args in
-    let i = c.loop-i.invariant in
-    let n : c.loop-i.i ≡ s.count = omega arith in
-    let h = rw n at i.2 in
-    record { refusal = holds_last _ _ _ _ _ _ h; devices = λ z. h.1 }
+    let i = c.loop-place.invariant in
+    let past : length s.places.now ≤ c.loop-place.place-index = omega arith in
+    let h = holds_last s.feed.now s.places.now _ c.loop-place.place-index _ _ past i.1 in
+    record { refusal = h.0; devices = λ z. h.1 }
 
 pub returns-else-k-lt-MAX_DEVICES-4 : goal.returns-else-k-lt-MAX_DEVICES-4
 returns-else-k-lt-MAX_DEVICES-4 c =
     let s = c.args in
-    let i = c.loop-i.invariant in
-    let n : c.loop-i.i ≡ s.count = omega arith in
-    let h = rw n at i.2 in
-    record { refusal = holds_last _ _ _ _ _ _ h; devices = λ z. rw (none_apart c.loop-i.held c.loop-i.k c.loop-i.device i.1.room c.if-k-lt-MAX_DEVICES-4.false) at h.1 }
+    let i = c.loop-place.invariant in
+    let past : length s.places.now ≤ c.loop-place.place-index = omega arith in
+    let h = holds_last s.feed.now s.places.now _ c.loop-place.place-index _ _ past i.1 in
+    record { refusal = h.0; devices = λ z. rw (none_apart c.loop-place.held c.loop-place.k c.loop-place.device i.0.room c.if-k-lt-MAX_DEVICES-4.false) at h.1 }
 
 pub returns-then-is_crowded : goal.returns-then-is_crowded
 unfolding option
 returns-then-is_crowded c =
     let s = c.args in
-    let l = c.loop-i in
-    let room = current_room l.held l.k l.device l.invariant.1.room in
+    let l = c.loop-place in
+    let room = current_room l.held l.k l.device l.invariant.0.room in
     let j = c.if-k-device in
     let t : Turn c.in-Some.e.device_id j.held j.k j.device × (view (current j.held j.k j.device) ≡ view (current l.held l.k l.device)) =
     elim c.if-k-device.branch [
       | then-k-device+then-k-lt-MAX_DEVICES-2 v ↦
           let back : v.if-k-lt-MAX_DEVICES.held ≡ current l.held l.k l.device =
-          elim v.if-k-lt-MAX_DEVICES.branch [ then-k-lt-MAX_DEVICES b ↦ b.held-is | else-k-lt-MAX_DEVICES b ↦ b.held-is ∙ none_back l.held l.k l.device l.invariant.1.room b.if-k-lt-MAX_DEVICES.false ] in
+          elim v.if-k-lt-MAX_DEVICES.branch [ then-k-lt-MAX_DEVICES b ↦ b.held-is | else-k-lt-MAX_DEVICES b ↦ b.held-is ∙ none_back l.held l.k l.device l.invariant.0.room b.if-k-lt-MAX_DEVICES.false ] in
           rw (v.held-is, v.k-is, v.device-is) (turn_known _ _ v.if-k-lt-MAX_DEVICES.held v.known_at-k.result room back v.known_at-k.ensures _ v.if-k-lt-MAX_DEVICES-2.true)
       | then-k-device+else-k-lt-MAX_DEVICES-2 v ↦
           let back : v.if-k-lt-MAX_DEVICES.held ≡ current l.held l.k l.device =
-          elim v.if-k-lt-MAX_DEVICES.branch [ then-k-lt-MAX_DEVICES b ↦ b.held-is | else-k-lt-MAX_DEVICES b ↦ b.held-is ∙ none_back l.held l.k l.device l.invariant.1.room b.if-k-lt-MAX_DEVICES.false ] in
+          elim v.if-k-lt-MAX_DEVICES.branch [ then-k-lt-MAX_DEVICES b ↦ b.held-is | else-k-lt-MAX_DEVICES b ↦ b.held-is ∙ none_back l.held l.k l.device l.invariant.0.room b.if-k-lt-MAX_DEVICES.false ] in
           rw (v.held-is, v.k-is, v.device-is) (turn_unknown _ _ v.if-k-lt-MAX_DEVICES.held v.known_at-k.result room back v.known_at-k.ensures l.device v.if-k-lt-MAX_DEVICES-2.false)
-      | else-k-device v ↦ rw (v.held-is, v.k-is, v.device-is) (turn_stays _ l.held l.k l.device l.invariant.1 v.if-k-device.false, refl)
+      | else-k-device v ↦ rw (v.held-is, v.k-is, v.device-is) (turn_stays _ l.held l.k l.device l.invariant.0 v.if-k-device.false, refl)
     ] in
     let is = sym c.touch_event_at-found.ensures ∙ c.in-Some.is in
+    let here : l.place-index < length s.places.now = omega arith in
     let told = sym (c.is_crowded.ensures ∙ crowded_by _ _ _ _ t.0 _ _ ∙ crowded_is _ _ is _) in
-    let place = c.listed-at.ensures in
-    let full = rw place at (told ∙ c.if-is_crowded.true) in
-    let now : Holds s.feed.now s.lists.now s.count (option s.later) l.i (view s.ds) (view (current j.held j.k j.device)) = rw t.1 l.invariant.2 in
-    let r : some (NoPlace c.listed-at.result) ≡ crowd_then s.feed.now (listed s.lists.now touch_list s.count) (λ us. option s.later) (view s.ds) =
-    rw place (no_place_at _ _ _ _ _ c.loop-i-test.true _ _ now full) in
+    let full = (told ∙ c.if-is_crowded.true) in
+    let now : Holds s.feed.now s.places.now (option s.later) l.place-index (view s.ds) (view (current j.held j.k j.device)) = rw t.1 l.invariant.1 in
+    let r : Some (NoPlace (get_or s.places.now l.place-index 0)) ≡ crowd_then s.feed.now s.places.now (λ us. option s.later) (view s.ds) =
+    (no_place_at _ _ _ _ here _ _ now full) in
     record { refusal = r; devices = λ z. none_some (sym z) }
 
 pub add-held-requires : goal.add-held-requires
 add-held-requires c =
-    let l = c.loop-i in
-    let room = current_room l.held l.k l.device l.invariant.1.room in
+    let l = c.loop-place in
+    let room = current_room l.held l.k l.device l.invariant.0.room in
     let j = c.if-k-device in
     let t : Turn c.in-Some.e.device_id j.held j.k j.device × (view (current j.held j.k j.device) ≡ view (current l.held l.k l.device)) =
     elim c.if-k-device.branch [
       | then-k-device+then-k-lt-MAX_DEVICES-2 v ↦
           let back : v.if-k-lt-MAX_DEVICES.held ≡ current l.held l.k l.device =
-          elim v.if-k-lt-MAX_DEVICES.branch [ then-k-lt-MAX_DEVICES b ↦ b.held-is | else-k-lt-MAX_DEVICES b ↦ b.held-is ∙ none_back l.held l.k l.device l.invariant.1.room b.if-k-lt-MAX_DEVICES.false ] in
+          elim v.if-k-lt-MAX_DEVICES.branch [ then-k-lt-MAX_DEVICES b ↦ b.held-is | else-k-lt-MAX_DEVICES b ↦ b.held-is ∙ none_back l.held l.k l.device l.invariant.0.room b.if-k-lt-MAX_DEVICES.false ] in
           rw (v.held-is, v.k-is, v.device-is) (turn_known _ _ v.if-k-lt-MAX_DEVICES.held v.known_at-k.result room back v.known_at-k.ensures _ v.if-k-lt-MAX_DEVICES-2.true)
       | then-k-device+else-k-lt-MAX_DEVICES-2 v ↦
           let back : v.if-k-lt-MAX_DEVICES.held ≡ current l.held l.k l.device =
-          elim v.if-k-lt-MAX_DEVICES.branch [ then-k-lt-MAX_DEVICES b ↦ b.held-is | else-k-lt-MAX_DEVICES b ↦ b.held-is ∙ none_back l.held l.k l.device l.invariant.1.room b.if-k-lt-MAX_DEVICES.false ] in
+          elim v.if-k-lt-MAX_DEVICES.branch [ then-k-lt-MAX_DEVICES b ↦ b.held-is | else-k-lt-MAX_DEVICES b ↦ b.held-is ∙ none_back l.held l.k l.device l.invariant.0.room b.if-k-lt-MAX_DEVICES.false ] in
           rw (v.held-is, v.k-is, v.device-is) (turn_unknown _ _ v.if-k-lt-MAX_DEVICES.held v.known_at-k.result room back v.known_at-k.ensures l.device v.if-k-lt-MAX_DEVICES-2.false)
-      | else-k-device v ↦ rw (v.held-is, v.k-is, v.device-is) (turn_stays _ l.held l.k l.device l.invariant.1 v.if-k-device.false, refl)
+      | else-k-device v ↦ rw (v.held-is, v.k-is, v.device-is) (turn_stays _ l.held l.k l.device l.invariant.0 v.if-k-device.false, refl)
     ] in
     not_known _ _ _ _ t.0 c.if-k-lt-MAX_DEVICES-3.false
 
-pub loop-i-preserved : goal.loop-i-preserved
-loop-i-preserved c =
+pub loop-place-preserved : goal.loop-place-preserved
+loop-place-preserved c =
     let s = c.args in
-    let l = c.loop-i in
-    let room = current_room l.held l.k l.device l.invariant.1.room in
-    let place = c.listed-at.ensures in
-    let r : Apart c.match-found.held c.match-found.k c.match-found.device × Holds s.feed.now s.lists.now s.count (option s.later) (l.i + 1) (view s.ds) (view (current c.match-found.held c.match-found.k c.match-found.device)) =
+    let l = c.loop-place in
+    let room = current_room l.held l.k l.device l.invariant.0.room in
+    let here : l.place-index < length s.places.now = omega arith in
+    let r : Apart c.match-found.held c.match-found.k c.match-found.device × Holds s.feed.now s.places.now (option s.later) (l.place-index + 1) (view s.ds) (view (current c.match-found.held c.match-found.k c.match-found.device)) =
     elim c.match-found.branch [
       | in-None w ↦
-          let other = rw place at (not_9 _ (sym c.touch_event_at-found.ensures ∙ w.in-None.is)) in
+          let other = not_9 _ (sym c.touch_event_at-found.ensures ∙ w.in-None.is) in
           let all = view (current l.held l.k l.device) in
-          rw (w.held-is, w.k-is, w.device-is) (l.invariant.1, holds_more _ _ _ _ _ c.loop-i-test.true _ all l.invariant.2 (not_crowded _ all other) all (sym (fits_idle _ all other)))
+          rw (w.held-is, w.k-is, w.device-is) (l.invariant.0, holds_more _ _ _ _ here _ all l.invariant.1 (not_crowded _ all other) all (sym (fits_idle _ all other)))
       | in-Some+else-is_crowded+then-k-lt-MAX_DEVICES-3 w ↦
           let j = w.if-k-device in
           let t : Turn w.in-Some.e.device_id j.held j.k j.device × (view (current j.held j.k j.device) ≡ view (current l.held l.k l.device)) =
           elim w.if-k-device.branch [
             | then-k-device+then-k-lt-MAX_DEVICES-2 v ↦
                 let back : v.if-k-lt-MAX_DEVICES.held ≡ current l.held l.k l.device =
-                elim v.if-k-lt-MAX_DEVICES.branch [ then-k-lt-MAX_DEVICES b ↦ b.held-is | else-k-lt-MAX_DEVICES b ↦ b.held-is ∙ none_back l.held l.k l.device l.invariant.1.room b.if-k-lt-MAX_DEVICES.false ] in
+                elim v.if-k-lt-MAX_DEVICES.branch [ then-k-lt-MAX_DEVICES b ↦ b.held-is | else-k-lt-MAX_DEVICES b ↦ b.held-is ∙ none_back l.held l.k l.device l.invariant.0.room b.if-k-lt-MAX_DEVICES.false ] in
                 rw (v.held-is, v.k-is, v.device-is) (turn_known _ _ v.if-k-lt-MAX_DEVICES.held v.known_at-k.result room back v.known_at-k.ensures _ v.if-k-lt-MAX_DEVICES-2.true)
             | then-k-device+else-k-lt-MAX_DEVICES-2 v ↦
                 let back : v.if-k-lt-MAX_DEVICES.held ≡ current l.held l.k l.device =
-                elim v.if-k-lt-MAX_DEVICES.branch [ then-k-lt-MAX_DEVICES b ↦ b.held-is | else-k-lt-MAX_DEVICES b ↦ b.held-is ∙ none_back l.held l.k l.device l.invariant.1.room b.if-k-lt-MAX_DEVICES.false ] in
+                elim v.if-k-lt-MAX_DEVICES.branch [ then-k-lt-MAX_DEVICES b ↦ b.held-is | else-k-lt-MAX_DEVICES b ↦ b.held-is ∙ none_back l.held l.k l.device l.invariant.0.room b.if-k-lt-MAX_DEVICES.false ] in
                 rw (v.held-is, v.k-is, v.device-is) (turn_unknown _ _ v.if-k-lt-MAX_DEVICES.held v.known_at-k.result room back v.known_at-k.ensures l.device v.if-k-lt-MAX_DEVICES-2.false)
-            | else-k-device v ↦ rw (v.held-is, v.k-is, v.device-is) (turn_stays _ l.held l.k l.device l.invariant.1 v.if-k-device.false, refl)
+            | else-k-device v ↦ rw (v.held-is, v.k-is, v.device-is) (turn_stays _ l.held l.k l.device l.invariant.0 v.if-k-device.false, refl)
           ] in
           let is = sym c.touch_event_at-found.ensures ∙ w.in-Some.is in
           let told = sym (w.is_crowded.ensures ∙ crowded_by _ _ _ _ t.0 _ _ ∙ crowded_is _ _ is _) in
-          let free = rw place at (told ∙ w.if-is_crowded.false) in
-          let now : Holds s.feed.now s.lists.now s.count (option s.later) l.i (view s.ds) (view (current j.held j.k j.device)) = rw t.1 l.invariant.2 in
+          let free = (told ∙ w.if-is_crowded.false) in
+          let now : Holds s.feed.now s.places.now (option s.later) l.place-index (view s.ds) (view (current j.held j.k j.device)) = rw t.1 l.invariant.1 in
           let u = touched _ _ _ _ t.0 _ _ w.on_touch-device.result w.if-k-lt-MAX_DEVICES-3.true w.on_touch-device.ensures in
-          rw (w.held-is, w.k-is, w.device-is) (u.0, holds_more _ _ _ _ _ c.loop-i-test.true _ _ now free _ (rw place at (u.1 ∙ fits_is _ _ is _)))
+          rw (w.held-is, w.k-is, w.device-is) (u.0, holds_more _ _ _ _ here _ _ now free _ ((u.1 ∙ fits_is _ _ is _)))
       | in-Some+else-is_crowded+else-k-lt-MAX_DEVICES-3 w ↦
           let j = w.if-k-device in
           let t : Turn w.in-Some.e.device_id j.held j.k j.device × (view (current j.held j.k j.device) ≡ view (current l.held l.k l.device)) =
           elim w.if-k-device.branch [
             | then-k-device+then-k-lt-MAX_DEVICES-2 v ↦
                 let back : v.if-k-lt-MAX_DEVICES.held ≡ current l.held l.k l.device =
-                elim v.if-k-lt-MAX_DEVICES.branch [ then-k-lt-MAX_DEVICES b ↦ b.held-is | else-k-lt-MAX_DEVICES b ↦ b.held-is ∙ none_back l.held l.k l.device l.invariant.1.room b.if-k-lt-MAX_DEVICES.false ] in
+                elim v.if-k-lt-MAX_DEVICES.branch [ then-k-lt-MAX_DEVICES b ↦ b.held-is | else-k-lt-MAX_DEVICES b ↦ b.held-is ∙ none_back l.held l.k l.device l.invariant.0.room b.if-k-lt-MAX_DEVICES.false ] in
                 rw (v.held-is, v.k-is, v.device-is) (turn_known _ _ v.if-k-lt-MAX_DEVICES.held v.known_at-k.result room back v.known_at-k.ensures _ v.if-k-lt-MAX_DEVICES-2.true)
             | then-k-device+else-k-lt-MAX_DEVICES-2 v ↦
                 let back : v.if-k-lt-MAX_DEVICES.held ≡ current l.held l.k l.device =
-                elim v.if-k-lt-MAX_DEVICES.branch [ then-k-lt-MAX_DEVICES b ↦ b.held-is | else-k-lt-MAX_DEVICES b ↦ b.held-is ∙ none_back l.held l.k l.device l.invariant.1.room b.if-k-lt-MAX_DEVICES.false ] in
+                elim v.if-k-lt-MAX_DEVICES.branch [ then-k-lt-MAX_DEVICES b ↦ b.held-is | else-k-lt-MAX_DEVICES b ↦ b.held-is ∙ none_back l.held l.k l.device l.invariant.0.room b.if-k-lt-MAX_DEVICES.false ] in
                 rw (v.held-is, v.k-is, v.device-is) (turn_unknown _ _ v.if-k-lt-MAX_DEVICES.held v.known_at-k.result room back v.known_at-k.ensures l.device v.if-k-lt-MAX_DEVICES-2.false)
-            | else-k-device v ↦ rw (v.held-is, v.k-is, v.device-is) (turn_stays _ l.held l.k l.device l.invariant.1 v.if-k-device.false, refl)
+            | else-k-device v ↦ rw (v.held-is, v.k-is, v.device-is) (turn_stays _ l.held l.k l.device l.invariant.0 v.if-k-device.false, refl)
           ] in
           let is = sym c.touch_event_at-found.ensures ∙ w.in-Some.is in
           let told = sym (w.is_crowded.ensures ∙ crowded_by _ _ _ _ t.0 _ _ ∙ crowded_is _ _ is _) in
-          let free = rw place at (told ∙ w.if-is_crowded.false) in
-          let now : Holds s.feed.now s.lists.now s.count (option s.later) l.i (view s.ds) (view (current j.held j.k j.device)) = rw t.1 l.invariant.2 in
+          let free = (told ∙ w.if-is_crowded.false) in
+          let now : Holds s.feed.now s.places.now (option s.later) l.place-index (view s.ds) (view (current j.held j.k j.device)) = rw t.1 l.invariant.1 in
           let full : length w.add-held.result.places ≡ 4 = w.add-held.type_inv.1.1.1.0.1.0.1 in
           let u = added _ _ _ _ t.0 _ _ w.add-held.result w.if-k-lt-MAX_DEVICES-3.false full w.add-held.ensures in
-          rw (w.held-is, w.k-is, w.device-is) (u.0, holds_more _ _ _ _ _ c.loop-i-test.true _ _ now free _ (rw place at (u.1 ∙ fits_is _ _ is _)))
+          rw (w.held-is, w.k-is, w.device-is) (u.0, holds_more _ _ _ _ here _ _ now free _ ((u.1 ∙ fits_is _ _ is _)))
     ] in
-    (omega arith, r.0, r.1)
+    r

@@ -1,4 +1,5 @@
 use mathlib.Core.Path.{◌≡◌, ◌∙◌, refl}
+use Prim.Native.Nat.{◌<◌}
 use native.Mathlib.Omega.{arith}
 use lib.ListN.{length, take, length-take, length-set}
 use Rattle.touches.proofs.Places.{first_of, first_le}
@@ -9,13 +10,13 @@ pub loop-i-init : goal.loop-i-init
 loop-i-init c =
     let ds = c.args.ds in
     let l : length ds.places ≡ 4 = c.well_formed.0.1.1.1.0.1.0.1 in
-    (omega arith, rw c.len-n.ensures (first_le ds.count ds.places), l, refl, refl)
+    (rw c.len-n.ensures (first_le ds.count ds.places), l, refl, refl)
 
 pub loop-i-preserved : goal.loop-i-preserved
 loop-i-preserved c =
     let v = c.loop-i.invariant in
-    let h = c.loop-i-test.true in
-    (omega arith, rw length-set v.1, rw length-set v.2, v.3, ended_step _ _ _ _ _ _ _ _ c.added_or_removed_touches-added_or_removed.result h v.1 c.added_or_removed_touches-added_or_removed.ensures c.end_pass.ensures ∙ v.4)
+    let h : c.loop-i.i < c.len-n.result = omega arith in
+    (rw length-set v.0, rw length-set v.1, v.2, ended_step _ _ _ _ _ _ _ _ c.added_or_removed_touches-added_or_removed.result h v.0 c.added_or_removed_touches-added_or_removed.ensures c.end_pass.ensures ∙ v.3)
 
 pub returns : goal.returns
 returns c =
@@ -25,4 +26,4 @@ returns c =
     let v = c.loop-i.invariant in
     let l : length ds.places ≡ 4 = c.well_formed.0.1.1.1.0.1.0.1 in
     let n : len.result ≡ length (take ds.count out.places) = omega (arith, len.ensures, length-take ds.count ds.places, length-take ds.count out.places) in
-    rw (v.3, ← first_of len.result ds.count out.places n, ← first_of len.result ds.count ds.places len.ensures) (ended_end _ _ _ _ _ _ v.0 c.loop-i-test.false v.1 ∙ (v.4 ∙ ended_start _ _ _ _ _))
+    rw (v.2, ← first_of len.result ds.count out.places n, ← first_of len.result ds.count ds.places len.ensures) (ended_end _ _ _ len.result c.loop-i.i _ (omega arith) (omega arith) v.0 ∙ (v.3 ∙ ended_start _ _ _ _ _))
