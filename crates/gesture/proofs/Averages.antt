@@ -1,4 +1,5 @@
 -- The model's cases by the number of fingers, as the code tells them apart. Assumes nothing.
+use Rattle.std.specs.Prelude.{None, Some}
 use mathlib.Core.Path.{◌≡◌, refl}
 use mathlib.Core.List.{List, [], ◌∷◌}
 use Prim.Native.Nat.{ℕ, ◌≤◌, ◌<◌}
@@ -8,7 +9,7 @@ use lib.Seq.{get_or-take}
 use lib.Ieee.{Float, binary32, sub, mul}
 use Rattle.emath.specs.Vec.{abs, vec_zero, pos_sub}
 use Rattle.model.specs.Numbers.{+0}
-use Rattle.model.specs.Types.{Pos2, ActiveTouch, PinchType, Proportional, DynGestureState, no_state, some_state}
+use Rattle.model.specs.Types.{Pos2, ActiveTouch, PinchType, Proportional, DynGestureState}
 use Rattle.model.specs.Touch.{classify, classify_by, calc_dynamic_state, averages, center, recip, sum_distance, sum_abs_distance2, sum_force}
 
 -- the pinch of the touches t and u
@@ -29,7 +30,7 @@ not_two (t ∷ []) n = refl
 not_two (t ∷ u ∷ []) n = absurd (n refl)
 not_two (t ∷ u ∷ v ∷ vs) n = refl
 
-pub few : (us : List ActiveTouch) → length us < 2 → calc_dynamic_state us ≡ no_state
+pub few : (us : List ActiveTouch) → length us < 2 → calc_dynamic_state us ≡ None
 unfolding calc_dynamic_state
 few [] h = refl
 few (t ∷ []) h = refl
@@ -47,7 +48,7 @@ around c r t us =
     }
 
 pub many : (us : List ActiveTouch) (z : ActiveTouch) → 2 ≤ length us
-    → calc_dynamic_state us ≡ some_state (around (center (recip (length us)) us) (recip (length us)) (get_or us 0 z) us)
+    → calc_dynamic_state us ≡ Some (around (center (recip (length us)) us) (recip (length us)) (get_or us 0 z) us)
 unfolding calc_dynamic_state around averages
 many [] z h = absurd (omega arith)
 many (t ∷ []) z h = absurd (omega arith)
@@ -60,5 +61,5 @@ pub two_at : (c : ℕ) (a : List ActiveTouch) (z : ActiveTouch) → length (take
 two_at c a z e = rw (two (take c a) z e, at_of c 0 a z (omega arith), at_of c 1 a z (omega arith))
 
 pub many_at : (c : ℕ) (a : List ActiveTouch) (z : ActiveTouch) → 2 ≤ length (take c a)
-    → some_state (around (center (recip (length (take c a))) (take c a)) (recip (length (take c a))) (get_or a 0 z) (take c a)) ≡ calc_dynamic_state (take c a)
+    → Some (around (center (recip (length (take c a))) (take c a)) (recip (length (take c a))) (get_or a 0 z) (take c a)) ≡ calc_dynamic_state (take c a)
 many_at c a z h = rw (many (take c a) z h, at_of c 0 a z (omega arith))

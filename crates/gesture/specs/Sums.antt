@@ -1,8 +1,8 @@
 -- The sums over the touches of `calc_dynamic_state`, in the model's terms, and the two steps of a gesture.
-use Rattle.std.specs.Prelude.{List}
+use Rattle.std.specs.Prelude.{List, None, Some}
 use Rattle.emath.specs.Vec.{vec_zero, pos_zero}
 use Rattle.model.specs.Numbers.{+0}
-use Rattle.model.specs.Types.{Pos2, ActiveTouch, DynGestureState, no_state, some_state, GestureState}
+use Rattle.model.specs.Types.{Pos2, ActiveTouch, DynGestureState, GestureState}
 use Rattle.model.specs.Touch.{sum_force, sum_pos, sum_distance, sum_abs_distance2}
 use Rattle.gesture.specs.declared.Sums.{Sums}
 use Rattle.gesture.specs.declared.Spreads.{Spreads}
@@ -18,9 +18,9 @@ spreads_of c us = record { distance = sum_distance c +0 us; abs_distance2 = sum_
 -- an ongoing gesture with new averages
 unfoldable pub gone_on : GestureState → DynGestureState → GestureState
 gone_on g a =
-    record { start_time = g.start_time; start_pointer_pos = g.start_pointer_pos; pinch_type = g.pinch_type; previous = some_state g.current; current = a }
+    record { start_time = g.start_time; start_pointer_pos = g.start_pointer_pos; pinch_type = g.pinch_type; previous = Some g.current; current = a }
 
 -- a gesture without its previous averages
 unfoldable pub forgotten : GestureState → GestureState
 forgotten g =
-    record { start_time = g.start_time; start_pointer_pos = g.start_pointer_pos; pinch_type = g.pinch_type; previous = no_state; current = g.current }
+    record { start_time = g.start_time; start_pointer_pos = g.start_pointer_pos; pinch_type = g.pinch_type; previous = None; current = g.current }

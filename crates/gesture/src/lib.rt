@@ -1,27 +1,22 @@
 // The averages of the touches, and the gesture that is made of them.
 #![tactic(auto)]
 
-ghost use Rattle.std.specs.Prelude.{◌≡◌, ◌≤◌};
+ghost use Rattle.std.specs.Prelude.{◌≡◌, ◌≤◌, None, Some};
 ghost use Rattle.data.specs.Limits.{max_touches};
 ghost use Rattle.model.specs.Touch.{force_or_zero, recip, calc_dynamic_state, classify, classify_by, update_gesture, forget_previous_if};
 ghost use Rattle.touches.specs.Touches.{list};
 ghost use Rattle.gesture.specs.Sums.{sums_of, spreads_of, gone_on, forgotten};
 
-use data::touch::{
-    DynGestureState, GestureState, MaybeDynGestureState, MaybeF32, MaybeGestureState, PinchType,
-};
-use emath::pos2::{MaybePos2, Pos2};
+use data::touch::{DynGestureState, GestureState, PinchType};
+use emath::pos2::Pos2;
 use emath::vec2::Vec2;
 use touches::Touches;
 
-// force.unwrap_or(0.0)
-fn force_or_zero(force: MaybeF32) -> f32
+#[tactic(auto, unfolding(model::specs::Touch::force_or_zero))]
+fn force_or_zero(force: Option<f32>) -> f32
     ensures { result ≡ force_or_zero force }
 {
-    match force {
-        MaybeF32::None => 0.0,
-        MaybeF32::Some(x) => x,
-    }
+    force.unwrap_or(0.0)
 }
 
 // The sums of the forces and of the positions.
@@ -45,21 +40,15 @@ fn sum(ts: Touches) -> Sums
     let a = ts.places;
     let mut force: f32 = 0.0;
     let mut pos = Pos2::zero();
-    let mut i: usize = 0;
-    while i < n {
+    for i in 0..n {
         let t = a[i];
-        let p = t.pos;
-        let f = t.force;
-        force = force + force_or_zero(f);
-        let x = pos.x + p.x;
-        let y = pos.y + p.y;
-        pos = Pos2 { x: x, y: y };
-        i += 1;
+        force = force + force_or_zero(t.force);
+        pos = Pos2 {
+            x: pos.x + t.pos.x,
+            y: pos.y + t.pos.y,
+        };
     }
-    Sums {
-        force: force,
-        pos: pos,
-    }
+    Sums { force, pos }
 }
 
 fn spread(ts: Touches, center: Pos2) -> Spreads
@@ -69,22 +58,20 @@ fn spread(ts: Touches, center: Pos2) -> Spreads
     let a = ts.places;
     let mut distance: f32 = 0.0;
     let mut abs_distance2 = Vec2::zero();
-    let mut i: usize = 0;
-    while i < n {
-        let t = a[i];
-        let p = t.pos;
+    for i in 0..n {
+        let p = a[i].pos;
         distance = distance + center.distance(p);
-        let away = center.sub(p).abs();
-        abs_distance2 = abs_distance2.add(away);
-        i += 1;
+        let away = (center - p).abs();
+        abs_distance2 = abs_distance2 + away;
     }
     Spreads {
-        distance: distance,
-        abs_distance2: abs_distance2,
+        distance,
+        abs_distance2,
     }
 }
 
 // 1 / n, rounded
+#[tactic(auto, unfolding(model::specs::Touch::recip, model::specs::Numbers::one))]
 fn recip(n: usize) -> f32
     requires { n ≤ max_touches }
     ensures { result ≡ recip n }
@@ -93,39 +80,35 @@ fn recip(n: usize) -> f32
 }
 
 // None if less than two fingers.
-pub fn calc_dynamic_state(ts: Touches) -> MaybeDynGestureState
+pub fn calc_dynamic_state(ts: Touches) -> Option<DynGestureState>
     ensures { result ≡ calc_dynamic_state (list ts) }
 {
     let n = touches::len(ts);
     if n < 2 {
-        return MaybeDynGestureState::None;
+        return None;
     }
     let r = recip(n);
     let total = sum(ts);
-    let pos = total.pos;
     let center = Pos2 {
-        x: pos.x * r,
-        y: pos.y * r,
+        x: total.pos.x * r,
+        y: total.pos.y * r,
     };
     let away = spread(ts, center);
-    let axes = away.abs_distance2;
-    let abs_distance2 = Vec2 {
-        x: axes.x * r,
-        y: axes.y * r,
-    };
-    let a = ts.places;
-    let first = a[0];
-    let start = first.pos;
-    let heading = center.sub(start);
-    MaybeDynGestureState::Some(DynGestureState {
+    let start = ts.places[0].pos;
+    let heading = center - start;
+    Some(DynGestureState {
         avg_distance: away.distance * r,
-        avg_abs_distance2: abs_distance2,
+        avg_abs_distance2: Vec2 {
+            x: away.abs_distance2.x * r,
+            y: away.abs_distance2.y * r,
+        },
         avg_pos: center,
         avg_force: total.force * r,
-        heading: heading,
+        heading,
     })
 }
 
+#[tactic(auto, unfolding(model::specs::Touch::classify_by, model::specs::Numbers::three))]
 fn classify_by(dx: f32, dy: f32) -> PinchType
     ensures { result ≡ classify_by dx dy }
 {
@@ -144,11 +127,8 @@ pub fn classify(ts: Touches) -> PinchType
 {
     let n = touches::len(ts);
     if n == 2 {
-        let a = ts.places;
-        let first = a[0];
-        let second = a[1];
-        let t0 = first.pos;
-        let t1 = second.pos;
+        let t0 = ts.places[0].pos;
+        let t1 = ts.places[1].pos;
         let dx = emath::vec2::abs(t0.x - t1.x);
         let dy = emath::vec2::abs(t0.y - t1.y);
         return classify_by(dx, dy);
@@ -156,76 +136,71 @@ pub fn classify(ts: Touches) -> PinchType
     PinchType::Proportional
 }
 
+#[tactic(auto, unfolding(model::specs::Touch::update_gesture))]
 fn start_gesture(
     time: f64,
     pinch_type: PinchType,
     current: DynGestureState,
-    pointer_pos: MaybePos2,
-) -> MaybeGestureState
-    ensures { result ≡ update_gesture time pinch_type (MaybeDynGestureState.Some current) pointer_pos MaybeGestureState.None }
+    pointer_pos: Option<Pos2>,
+) -> Option<GestureState>
+    ensures { result ≡ update_gesture time pinch_type (Some current) pointer_pos None }
 {
-    match pointer_pos {
-        MaybePos2::None => MaybeGestureState::None,
-        MaybePos2::Some(pos) => MaybeGestureState::Some(GestureState {
-            start_time: time,
-            start_pointer_pos: pos,
-            pinch_type: pinch_type,
-            previous: MaybeDynGestureState::None,
-            current: current,
-        }),
-    }
+    let pos = pointer_pos?;
+    Some(GestureState {
+        start_time: time,
+        start_pointer_pos: pos,
+        pinch_type,
+        previous: None,
+        current,
+    })
 }
 
+#[tactic(auto, unfolding(crate::specs::Sums::gone_on))]
 fn go_on(gesture: GestureState, averages: DynGestureState) -> GestureState
     ensures { result ≡ gone_on gesture averages }
 {
-    let old = gesture.current;
     GestureState {
-        previous: MaybeDynGestureState::Some(old),
+        previous: Some(gesture.current),
         current: averages,
         ..gesture
     }
 }
 
 // A gesture goes on, starts where the pointer has a position, or ends with less than two fingers.
+#[tactic(auto, unfolding(model::specs::Touch::update_gesture, crate::specs::Sums::gone_on))]
 pub fn update_gesture(
     time: f64,
     pinch_type: PinchType,
-    averages: MaybeDynGestureState,
-    pointer_pos: MaybePos2,
-    gesture: MaybeGestureState,
-) -> MaybeGestureState
+    averages: Option<DynGestureState>,
+    pointer_pos: Option<Pos2>,
+    gesture: Option<GestureState>,
+) -> Option<GestureState>
     ensures { result ≡ update_gesture time pinch_type averages pointer_pos gesture }
 {
-    match averages {
-        MaybeDynGestureState::None => MaybeGestureState::None,
-        MaybeDynGestureState::Some(current) => match gesture {
-            MaybeGestureState::None => start_gesture(time, pinch_type, current, pointer_pos),
-            MaybeGestureState::Some(g) => MaybeGestureState::Some(go_on(g, current)),
-        },
+    let current = averages?;
+    match gesture {
+        None => start_gesture(time, pinch_type, current, pointer_pos),
+        Some(g) => Some(go_on(g, current)),
     }
 }
 
+#[tactic(auto, unfolding(crate::specs::Sums::forgotten))]
 fn forget_previous(gesture: GestureState) -> GestureState
     ensures { result ≡ forgotten gesture }
 {
     GestureState {
-        previous: MaybeDynGestureState::None,
+        previous: None,
         ..gesture
     }
 }
 
 // Adding or removing fingers makes the averages jump: there is no change to tell of then.
-pub fn forget_previous_if(forget: bool, gesture: MaybeGestureState) -> MaybeGestureState
+#[tactic(auto, unfolding(model::specs::Touch::forget_previous_if, crate::specs::Sums::forgotten))]
+pub fn forget_previous_if(forget: bool, gesture: Option<GestureState>) -> Option<GestureState>
     ensures { result ≡ forget_previous_if forget gesture }
 {
     match gesture {
-        MaybeGestureState::None => MaybeGestureState::None,
-        MaybeGestureState::Some(g) => {
-            if forget {
-                return MaybeGestureState::Some(forget_previous(g));
-            }
-            MaybeGestureState::Some(g)
-        }
+        Some(g) if forget => Some(forget_previous(g)),
+        _ => gesture,
     }
 }

@@ -10,7 +10,6 @@ ghost use Rattle.input_questions.specs.Answers.{OfWaiting};
 
 use data::mouse_wheel::WheelState;
 use data::options::InputOptions;
-use data::pointer::MaybeF64;
 use emath::vec2::Vec2;
 use pointer_clicks::{Held, is_decidedly_dragging};
 use pointer_events::{CODES, counted};
@@ -27,7 +26,7 @@ fn pointer_wants_repaint(delta: Vec2, h: Held) -> bool
         return true;
     }
     let zero = Vec2::zero();
-    delta.ne(zero)
+    delta != zero
 }
 
 // Is there scroll left to smooth that can be seen?
@@ -40,17 +39,17 @@ fn wheel_wants_repaint(w: WheelState) -> bool
 }
 
 // How long until a press turns into a context menu.
-fn until_menu(options: InputOptions, time: f64, start: MaybeF64) -> MaybeF64
+fn until_menu(options: InputOptions, time: f64, start: Option<f64>) -> Option<f64>
     ensures { result ≡ until_menu options time start }
 {
     match start {
-        MaybeF64::None => MaybeF64::None,
-        MaybeF64::Some(t) => {
+        None => None,
+        Some(t) => {
             let duration = time - t;
             if duration < options.max_click_duration {
-                return MaybeF64::Some(options.max_click_duration - duration);
+                return Some(options.max_click_duration - duration);
             }
-            MaybeF64::None
+            None
         }
     }
 }
@@ -66,7 +65,7 @@ pub fn wants_repaint_after(
     options: InputOptions,
     time: f64,
     pointer_time: f64,
-) -> MaybeF64
+) -> Option<f64>
     ensures { OfWaiting ask.wants_repaint_after p s codes.now w feed_empty ds options time pointer_time (maybe_seconds result) }
 {
     let h = s.held;
@@ -74,11 +73,11 @@ pub fn wants_repaint_after(
     let delta = p.delta;
     let start = h.press_start_time;
     if pointer_wants_repaint(delta, h) | wheel_wants_repaint(w) | !feed_empty {
-        return MaybeF64::Some(0.0);
+        return Some(0.0);
     }
     let moved = past.has_moved_too_much_for_a_click;
     if any_touches(ds) & !is_decidedly_dragging(h, codes, options, pointer_time, moved) {
         return until_menu(options, time, start);
     }
-    MaybeF64::None
+    None
 }

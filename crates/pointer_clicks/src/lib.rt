@@ -12,8 +12,8 @@ use data::bits::bit_number;
 use data::limits::BUTTON_COUNT;
 use data::modifiers::Modifiers;
 use data::options::InputOptions;
-use data::pointer::{ButtonsDown, Click, MaybeClick, MaybeF64, PointerButton};
-use emath::pos2::{MaybePos2, Pos2};
+use data::pointer::{ButtonsDown, Click, PointerButton};
+use emath::pos2::Pos2;
 use emath::vec2::Vec2;
 use pointer_events::{CODES, Sought, any};
 
@@ -21,68 +21,50 @@ use pointer_events::{CODES, Sought, any};
 #[derive(Clone, Copy)]
 pub struct Held {
     pub down: ButtonsDown,
-    pub press_origin: MaybePos2,
-    pub press_start_time: MaybeF64,
+    pub press_origin: Option<Pos2>,
+    pub press_start_time: Option<f64>,
     pub event_count: usize,
 }
 
 #[derive(Clone, Copy)]
 pub struct ClickPast {
     pub has_moved_too_much_for_a_click: bool,
-    pub last_click_pos: MaybePos2,
+    pub last_click_pos: Option<Pos2>,
     pub last_click_time: f64,
     pub last_last_click_time: f64,
 }
 
 // How many buttons are down after one that was down or up is set. A number that no operation gave can be wrong; it doesn't wrap.
+#[tactic(auto, unfolding(model::specs::Pointer::recount))]
 fn recount(count: u8, was: bool, pressed: bool) -> u8
     ensures { result ≡ recount was pressed count }
 {
-    if pressed {
-        if !was {
-            if (count as u32) < BUTTON_COUNT {
-                return count + 1;
-            }
-        }
-        return count;
+    match (was, pressed) {
+        (false, true) if (count as u32) < BUTTON_COUNT => count + 1,
+        (true, false) => count.saturating_sub(1),
+        _ => count,
     }
-    if was {
-        if 0 < count {
-            return count - 1;
-        }
-    }
-    count
 }
 
+#[tactic(auto, unfolding(model::specs::Pointer::set_down, model::specs::Pointer::button_down))]
 pub fn set_down(down: ButtonsDown, button: PointerButton, pressed: bool) -> ButtonsDown
     ensures { result ≡ set_down button pressed down }
 {
-    let mut d = down;
-    d.count = recount(down.count, button_down(down, button), pressed);
+    let mut d = ButtonsDown {
+        count: recount(down.count, button_down(down, button), pressed),
+        ..down
+    };
     match button {
-        PointerButton::Primary => {
-            d.primary = pressed;
-            d
-        }
-        PointerButton::Secondary => {
-            d.secondary = pressed;
-            d
-        }
-        PointerButton::Middle => {
-            d.middle = pressed;
-            d
-        }
-        PointerButton::Extra1 => {
-            d.extra1 = pressed;
-            d
-        }
-        PointerButton::Extra2 => {
-            d.extra2 = pressed;
-            d
-        }
+        PointerButton::Primary => d.primary = pressed,
+        PointerButton::Secondary => d.secondary = pressed,
+        PointerButton::Middle => d.middle = pressed,
+        PointerButton::Extra1 => d.extra1 = pressed,
+        PointerButton::Extra2 => d.extra2 = pressed,
     }
+    d
 }
 
+#[tactic(auto, unfolding(model::specs::Pointer::button_down))]
 pub fn button_down(down: ButtonsDown, button: PointerButton) -> bool
     ensures { result ≡ button_down button down }
 {
@@ -95,6 +77,7 @@ pub fn button_down(down: ButtonsDown, button: PointerButton) -> bool
     }
 }
 
+#[tactic(auto, unfolding(model::specs::Pointer::any_down))]
 pub fn any_down(down: ButtonsDown) -> bool
     ensures { result ≡ any_down down }
 {
@@ -102,6 +85,7 @@ pub fn any_down(down: ButtonsDown) -> bool
 }
 
 // Five flags with their number.
+#[tactic(auto, unfolding(model::specs::Pointer::buttons))]
 pub fn buttons(
     primary: bool,
     secondary: bool,
@@ -124,12 +108,13 @@ pub fn buttons(
 }
 
 // Is the press older than max_click_duration.
-pub fn press_too_long(options: InputOptions, time: f64, start: MaybeF64) -> bool
+#[tactic(auto, unfolding(model::specs::Pointer::press_too_long))]
+pub fn press_too_long(options: InputOptions, time: f64, start: Option<f64>) -> bool
     ensures { result ≡ press_too_long options time start }
 {
     match start {
-        MaybeF64::None => false,
-        MaybeF64::Some(t) => time - t > options.max_click_duration,
+        None => false,
+        Some(t) => time - t > options.max_click_duration,
     }
 }
 
@@ -145,12 +130,10 @@ pub fn could_any_button_be_click(
     if moved {
         return false;
     }
-    let start = h.press_start_time;
-    if press_too_long(options, time, start) {
+    if press_too_long(options, time, h.press_start_time) {
         return false;
     }
-    let down = h.down;
-    if any_down(down) {
+    if any_down(h.down) {
         return true;
     }
     any(codes, h.event_count, Sought::Release)
@@ -175,31 +158,31 @@ pub fn is_decidedly_dragging(
     if any(codes, n, Sought::Click) {
         return false;
     }
-    let down = h.down;
-    if any_down(down) {
+    if any_down(h.down) {
         return true;
     }
     any(codes, n, Sought::Release)
 }
 
 // Close enough to the last click, if there was one, for a double click.
-fn near(options: InputOptions, pos: Pos2, last: MaybePos2) -> bool
+#[tactic(auto, unfolding(model::specs::Pointer::near))]
+fn near(options: InputOptions, pos: Pos2, last: Option<Pos2>) -> bool
     ensures { result ≡ near options pos last }
 {
     let limit = options.max_click_dist * options.max_click_dist;
     match last {
-        MaybePos2::None => 0.0 < limit,
-        MaybePos2::Some(p) => p.distance_sq(pos) < limit,
+        None => 0.0 < limit,
+        Some(p) => p.distance_sq(pos) < limit,
     }
 }
 
+#[tactic(auto, unfolding(model::specs::Pointer::click_count, model::specs::Pointer::count_of))]
 fn click_count(p: ClickPast, options: InputOptions, time: f64, pos: Pos2) -> u32
     ensures { result ≡ click_count options time pos (past p) }
 {
     let delay = options.max_double_click_delay;
     if time - p.last_click_time < delay {
-        let last = p.last_click_pos;
-        if near(options, pos, last) {
+        if near(options, pos, p.last_click_pos) {
             if p.last_click_time - p.last_last_click_time < delay {
                 return 3;
             }
@@ -236,25 +219,24 @@ fn is_longer(v: Vec2, dist: f32) -> bool
 }
 
 // A move that is too far from the press for a click.
-fn too_far(options: InputOptions, pos: Pos2, origin: MaybePos2) -> bool
+#[tactic(auto, unfolding(model::specs::Pointer::too_far, emath::specs::Vec::distance))]
+fn too_far(options: InputOptions, pos: Pos2, origin: Option<Pos2>) -> bool
     ensures { result ≡ too_far options pos origin }
 {
     match origin {
-        MaybePos2::None => false,
-        MaybePos2::Some(p) => is_longer(p.sub(pos), options.max_click_dist),
+        None => false,
+        Some(p) => is_longer(p - pos, options.max_click_dist),
     }
 }
 
 // Of a click that is spoilt already no distance is taken.
-pub fn moved_too_much(moved: bool, options: InputOptions, pos: Pos2, origin: MaybePos2) -> bool
+pub fn moved_too_much(moved: bool, options: InputOptions, pos: Pos2, origin: Option<Pos2>) -> bool
     ensures { result ≡ (moved || too_far options pos origin) }
 {
-    if moved {
-        return true;
-    }
-    too_far(options, pos, origin)
+    moved || too_far(options, pos, origin)
 }
 
+#[tactic(auto, unfolding(model::specs::Pointer::click_of))]
 pub fn click_of(
     clicked: bool,
     options: InputOptions,
@@ -262,30 +244,29 @@ pub fn click_of(
     pos: Pos2,
     modifiers: Modifiers,
     p: ClickPast,
-) -> MaybeClick
+) -> Option<Click>
     ensures { result ≡ click_of clicked options time pos modifiers (past p) }
 {
-    if clicked {
-        let count = click_count(p, options, time, pos);
-        let click = Click {
-            pos,
-            count,
-            modifiers,
-        };
-        return MaybeClick::Some(click);
+    if !clicked {
+        return None;
     }
-    MaybeClick::None
+    Some(Click {
+        pos,
+        count: click_count(p, options, time, pos),
+        modifiers,
+    })
 }
 
+#[tactic(auto, unfolding(model::specs::Pointer::remember_click))]
 pub fn remember_click(clicked: bool, time: f64, pos: Pos2, p: ClickPast) -> ClickPast
     ensures { past result ≡ remember_click clicked time pos (past p) }
 {
     if clicked {
         return ClickPast {
-            has_moved_too_much_for_a_click: p.has_moved_too_much_for_a_click,
-            last_click_pos: MaybePos2::Some(pos),
+            last_click_pos: Some(pos),
             last_click_time: time,
             last_last_click_time: p.last_click_time,
+            ..p
         };
     }
     p
@@ -312,21 +293,22 @@ pub fn last_move_time(
     codes: &[u32; CODES],
     velocity: Vec2,
     time: f64,
-    old: MaybeF64,
-) -> MaybeF64
+    old: Option<f64>,
+) -> Option<f64>
     ensures { (positions : List Float) → result ≡ move_time time (held codes.now positions h).pointer_events velocity old }
 {
     let zero = Vec2::zero();
-    if velocity.ne(zero) {
-        return MaybeF64::Some(time);
+    if velocity != zero {
+        return Some(time);
     }
     if any(codes, h.event_count, Sought::Move) {
-        return MaybeF64::Some(time);
+        return Some(time);
     }
     old
 }
 
 // pointer_events.clear()
+#[tactic(auto, unfolding(model::specs::Pointer::clear_events, pointer_events::specs::Events::events, pointer_events::specs::Events::events_from))]
 pub fn clear_events(h: Held) -> Held
     ensures { (codes : List ℕ) (positions : List Float) → held codes positions result ≡ clear_events (held codes positions h) }
 {

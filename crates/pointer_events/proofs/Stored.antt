@@ -1,4 +1,5 @@
 -- Laws of the events in the lent arrays: an event is read back as it was written, one more, one read, one looked for. Assumes nothing.
+use Rattle.std.specs.Prelude.{None, Some}
 use Prim.Native.Nat.{ℕ, zero, suc, ◌+◌, ◌-◌, ◌*◌, ◌≤◌, ◌<◌}
 use native.Mathlib.Omega.{arith}
 use mathlib.Core.Path.{◌≡◌, refl, ap, ◌∙◌}
@@ -13,9 +14,9 @@ use Rattle.emath_history.specs.Ring.{position_at, set_position}
 use Rattle.data.specs.Limits.{max_events}
 use Rattle.data.specs.Modifiers.{modifiers_number}
 use Rattle.feed.proofs.RoundTrip.{button_back, modifiers_back}
-use Rattle.model.specs.Types.{no_click, some_click, PointerEvent, Moved, Pressed, Released}
+use Rattle.model.specs.Types.{PointerEvent, Moved, Pressed, Released}
 use Rattle.model.specs.Pointer.{any}
-use Rattle.pointer_events.specs.Types.{Entry, no_event, some_event}
+use Rattle.pointer_events.specs.Types.{Entry}
 use Rattle.pointer_events.specs.Events.{click_of, event_of, entry_of, entry_at, events_from, counted, events, event_or_none, codes_with, codes_of, positions_of, Pushed}
 
 -- ---- an event is read back as it was written
@@ -23,8 +24,8 @@ pub event_back : (e : PointerEvent) → event_of (entry_of e) ≡ e
 unfolding event_of entry_of click_of
 event_back (Moved v) = refl
 event_back (Pressed v b) = rw (button_back b)
-event_back (Released no_click b) = rw (button_back b)
-event_back (Released (some_click k) b) = rw (button_back b, modifiers_back k.modifiers (modifiers_number k.modifiers) 0 (omega arith))
+event_back (Released None b) = rw (button_back b)
+event_back (Released (Some k) b) = rw (button_back b, modifiers_back k.modifiers (modifiers_number k.modifiers) 0 (omega arith))
 
 -- ---- how many, one more
 pub from_length : (cs : List ℕ) (ps : List Float) (i n : ℕ) → length (events_from cs ps i n) ≡ n
@@ -235,24 +236,24 @@ positions_after ps₀ es fs h k e g =
     rw (e, k, h, g, positions_append es fs, sets_append ps₀ 0 (positions_of es) (positions_of fs), end)
 
 -- ---- one read
-read : (cs : List ℕ) (ps : List Float) (j n i : ℕ) → i < n → some_event (event_of (entry_at cs ps (j + i))) ≡ event_or_none (events_from cs ps j n) i
+read : (cs : List ℕ) (ps : List Float) (j n i : ℕ) → i < n → Some (event_of (entry_at cs ps (j + i))) ≡ event_or_none (events_from cs ps j n) i
 unfolding events_from event_or_none
 read cs ps j zero i h = absurd (omega arith)
 read cs ps j (suc n) zero h = rw (add-zero j)
 read cs ps j (suc n) (suc i) h = rw (shift j i) (read cs ps (suc j) n i (omega arith))
 
-read_past : (cs : List ℕ) (ps : List Float) (j n i : ℕ) → n ≤ i → no_event ≡ event_or_none (events_from cs ps j n) i
+read_past : (cs : List ℕ) (ps : List Float) (j n i : ℕ) → n ≤ i → None ≡ event_or_none (events_from cs ps j n) i
 unfolding events_from event_or_none
 read_past cs ps j zero i h = refl
 read_past cs ps j (suc n) zero h = absurd (omega arith)
 read_past cs ps j (suc n) (suc i) h = read_past cs ps (suc j) n i (omega arith)
 
 module _ (cs : List ℕ) (ps : List Float) (n i : ℕ) where
-  pub read_event : i < counted n → some_event (event_of (entry_at cs ps i)) ≡ event_or_none (events cs ps n) i
+  pub read_event : i < counted n → Some (event_of (entry_at cs ps i)) ≡ event_or_none (events cs ps n) i
   unfolding events
   read_event h = let z : 0 + i ≡ i = omega arith in rw z at (read cs ps 0 (counted n) i h)
 
-  pub read_none : counted n ≤ i → no_event ≡ event_or_none (events cs ps n) i
+  pub read_none : counted n ≤ i → None ≡ event_or_none (events cs ps n) i
   unfolding events
   read_none h = read_past cs ps 0 (counted n) i h
 

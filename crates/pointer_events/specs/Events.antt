@@ -1,16 +1,16 @@
 -- The pass's pointer events as the lent arrays hold them: event i has its four numbers in `codes` from place 4 i on, and its position in `positions`
 -- from place 2 i on. Any numbers there mean some event.
-use Rattle.std.specs.Prelude.{ℕ, zero, suc, ◌+◌, ◌*◌, min, ◌≡◌, Bool, cond, List, [], ◌∷◌, ◌++◌, eqb, ltb, get_or, set, take, Float}
+use Rattle.std.specs.Prelude.{ℕ, zero, suc, ◌+◌, ◌*◌, min, ◌≡◌, Bool, cond, List, [], ◌∷◌, ◌++◌, eqb, ltb, get_or, set, take, Float, Option, None, Some}
 use Rattle.emath.specs.Vec.{pos_zero}
 use Rattle.emath_history.specs.Ring.{position_at, set_position}
 use Rattle.data.specs.Limits.{max_events}
 use Rattle.data.specs.Numbers.{button_number}
 use Rattle.data.specs.Modifiers.{modifiers_number, modifiers_of}
 use Rattle.feed.specs.Shape.{button_of}
-use Rattle.model.specs.Types.{Click, no_click, some_click, PointerEvent, Moved, Pressed, Released}
+use Rattle.model.specs.Types.{Click, PointerEvent, Moved, Pressed, Released}
 use Rattle.model.specs.Pointer.{is_press, is_release, is_click, is_move}
 use Rattle.model.specs.Questions.{presses_button, releases_button, clicks_button, clicks_button_times}
-use Rattle.pointer_events.specs.Types.{Entry, MaybePointerEvent, no_event, some_event, Sought}
+use Rattle.pointer_events.specs.Types.{Entry, PointerEvent, Sought}
 use Rattle.pointer_events.specs.Types.sought as sought
 
 unfoldable pub click_of : Entry → Click
@@ -21,13 +21,13 @@ unfoldable pub event_of : Entry → PointerEvent
 event_of x =
     cond (eqb x.kind 0) (Moved x.pos)
     (cond (eqb x.kind 1) (Pressed x.pos (button_of x.button))
-    (cond (eqb x.kind 2) (Released no_click (button_of x.button)) (Released (some_click (click_of x)) (button_of x.button))))
+    (cond (eqb x.kind 2) (Released None (button_of x.button)) (Released (Some (click_of x)) (button_of x.button))))
 
 unfoldable pub entry_of : PointerEvent → Entry
 entry_of (Moved v) = record { kind = 0; button = 0; count = 0; flags = 0; pos = v }
 entry_of (Pressed v b) = record { kind = 1; button = button_number b; count = 0; flags = 0; pos = v }
-entry_of (Released no_click b) = record { kind = 2; button = button_number b; count = 0; flags = 0; pos = pos_zero }
-entry_of (Released (some_click k) b) = record { kind = 3; button = button_number b; count = k.count; flags = modifiers_number k.modifiers; pos = k.pos }
+entry_of (Released None b) = record { kind = 2; button = button_number b; count = 0; flags = 0; pos = pos_zero }
+entry_of (Released (Some k) b) = record { kind = 3; button = button_number b; count = k.count; flags = modifiers_number k.modifiers; pos = k.pos }
 
 unfoldable pub entry_at : List ℕ → List Float → ℕ → Entry
 entry_at codes positions i =
@@ -52,9 +52,9 @@ unfoldable pub events : List ℕ → List Float → ℕ → List PointerEvent
 events codes positions n = events_from codes positions 0 (counted n)
 
 -- event i of a list, if it has one
-unfoldable pub event_or_none : List PointerEvent → ℕ → MaybePointerEvent
-event_or_none [] i = no_event
-event_or_none (e ∷ es) zero = some_event e
+unfoldable pub event_or_none : List PointerEvent → ℕ → Option PointerEvent
+event_or_none [] i = None
+event_or_none (e ∷ es) zero = Some e
 event_or_none (e ∷ es) (suc i) = event_or_none es i
 
 -- what each `Sought` looks for

@@ -1,11 +1,11 @@
 // The pass's pointer events, in order. The caller lends the places for `MAX_EVENTS` of them: specs/Events.antt says what stands where.
 #![tactic(auto)]
 
-ghost use Rattle.std.specs.Prelude.{◌≡◌, List, ◌+◌, ◌*◌, ◌<◌, length, Float};
+ghost use Rattle.std.specs.Prelude.{◌≡◌, List, ◌+◌, ◌*◌, ◌<◌, length, Float, None, Some};
 ghost use Rattle.emath_history.specs.Ring.{set_position};
 ghost use Rattle.data.specs.Limits.{max_events};
 ghost use Rattle.feed.specs.Shape.{button_of};
-ghost use Rattle.model.specs.Types.{Pos2, Click, Moved, Pressed, Released, no_click, some_click};
+ghost use Rattle.model.specs.Types.{Pos2, Click, Moved, Pressed, Released};
 ghost use Rattle.model.specs.Pointer.{any};
 ghost use Rattle.model.specs.Questions.{same_button};
 ghost use Rattle.pointer_events.specs.Types.{Entry};
@@ -13,7 +13,7 @@ ghost use Rattle.pointer_events.specs.Events.{event_of, entry_of, entry_at, even
 
 use data::limits::MAX_EVENTS;
 use data::modifiers::Modifiers;
-use data::pointer::{Click, MaybeClick, PointerButton, PointerEvent};
+use data::pointer::{Click, PointerButton, PointerEvent};
 use emath::pos2::Pos2;
 
 // Four codes and two parts of a position for each event.
@@ -33,13 +33,6 @@ pub struct Entry {
     pub pos: Pos2,
 }
 
-// Option<PointerEvent>
-#[derive(Clone, Copy)]
-pub enum MaybePointerEvent {
-    None,
-    Some(PointerEvent),
-}
-
 // What a question looks for among the events.
 #[derive(Clone, Copy)]
 pub enum Sought {
@@ -57,12 +50,10 @@ pub enum Sought {
 pub fn counted(count: usize) -> usize
     ensures { result ≡ counted count }
 {
-    if count < MAX_EVENTS {
-        return count;
-    }
-    MAX_EVENTS
+    count.min(MAX_EVENTS)
 }
 
+#[tactic(auto, unfolding(feed::specs::Shape::button_of))]
 fn button_of(n: u32) -> PointerButton
     ensures { result ≡ button_of n }
 {
@@ -75,53 +66,49 @@ fn button_of(n: u32) -> PointerButton
     }
 }
 
+#[tactic(auto, unfolding(crate::specs::Events::event_of, crate::specs::Events::click_of))]
 pub fn event_of(x: Entry) -> PointerEvent
     ensures { result ≡ event_of x }
 {
-    let kind = x.kind;
-    let pos = x.pos;
     let button = button_of(x.button);
-    let modifiers = Modifiers::of(x.flags);
-    match kind {
-        0 => PointerEvent::Moved(pos),
-        1 => PointerEvent::Pressed(pos, button),
-        2 => PointerEvent::Released(MaybeClick::None, button),
+    match x.kind {
+        0 => PointerEvent::Moved(x.pos),
+        1 => PointerEvent::Pressed(x.pos, button),
+        2 => PointerEvent::Released(None, button),
         _ => {
             let click = Click {
-                pos,
+                pos: x.pos,
                 count: x.count,
-                modifiers,
+                modifiers: Modifiers::of(x.flags),
             };
-            PointerEvent::Released(MaybeClick::Some(click), button)
+            PointerEvent::Released(Some(click), button)
         }
     }
 }
 
-fn released_entry(click: MaybeClick, button: PointerButton) -> Entry
+#[tactic(auto, unfolding(crate::specs::Events::entry_of))]
+fn released_entry(click: Option<Click>, button: PointerButton) -> Entry
     ensures { result ≡ entry_of (Released click button) }
 {
     match click {
-        MaybeClick::None => Entry {
+        None => Entry {
             kind: 2,
             button: button.number(),
             count: 0,
             flags: 0,
             pos: Pos2::zero(),
         },
-        MaybeClick::Some(k) => {
-            let pos = k.pos;
-            let modifiers = k.modifiers;
-            Entry {
-                kind: 3,
-                button: button.number(),
-                count: k.count,
-                flags: modifiers.number(),
-                pos,
-            }
-        }
+        Some(k) => Entry {
+            kind: 3,
+            button: button.number(),
+            count: k.count,
+            flags: k.modifiers.number(),
+            pos: k.pos,
+        },
     }
 }
 
+#[tactic(auto, unfolding(crate::specs::Events::entry_of))]
 pub fn entry_of(e: PointerEvent) -> Entry
     ensures { result ≡ entry_of e }
 {
@@ -144,37 +131,37 @@ pub fn entry_of(e: PointerEvent) -> Entry
     }
 }
 
+#[tactic(auto, unfolding(crate::specs::Events::entry_at, emath_history::specs::Ring::position_at))]
 pub fn entry_at(codes: &[u32; CODES], positions: &[f32; PLACES], i: usize) -> Entry
     requires { i < max_events }
     ensures { result ≡ entry_at codes.now positions.now i }
 {
-    let pos = Pos2 {
-        x: positions[i * 2],
-        y: positions[i * 2 + 1],
-    };
     Entry {
         kind: codes[i * 4],
         button: codes[i * 4 + 1],
         count: codes[i * 4 + 2],
         flags: codes[i * 4 + 3],
-        pos,
+        pos: Pos2 {
+            x: positions[i * 2],
+            y: positions[i * 2 + 1],
+        },
     }
 }
 
 // Event `i` of `count`.
+#[tactic(auto, using(crate::proofs::Stored::read_event, crate::proofs::Stored::read_none))]
 pub fn event_at(
     codes: &[u32; CODES],
     positions: &[f32; PLACES],
     count: usize,
     i: usize,
-) -> MaybePointerEvent
+) -> Option<PointerEvent>
     ensures { result ≡ event_or_none (events codes.now positions.now count) i }
 {
     if i < counted(count) {
-        let x = entry_at(codes, positions, i);
-        return MaybePointerEvent::Some(event_of(x));
+        return Some(event_of(entry_at(codes, positions, i)));
     }
-    MaybePointerEvent::None
+    None
 }
 
 fn set_codes(codes: &mut [u32], i: usize, x: Entry)
@@ -206,86 +193,63 @@ pub fn push(
 {
     if count < MAX_EVENTS {
         let x = entry_of(e);
-        let pos = x.pos;
         set_codes(codes, count, x);
-        set_position(positions, count, pos);
+        set_position(positions, count, x.pos);
         return count + 1;
     }
     count
 }
 
+#[tactic(auto, unfolding(model::specs::Questions::same_button))]
 fn same_button(button: PointerButton, n: u32) -> bool
     ensures { result ≡ same_button button (button_of n) }
 {
-    let other = button_of(n);
-    button.number() == other.number()
+    button.number() == button_of(n).number()
 }
 
+#[tactic(auto, unfolding(crate::specs::Events::asks, model::specs::Pointer::is_press, model::specs::Pointer::is_release, model::specs::Pointer::is_click, model::specs::Pointer::is_move, model::specs::Questions::presses_button, model::specs::Questions::releases_button, model::specs::Questions::clicks_button, model::specs::Questions::clicks_button_times))]
 fn move_is(sought: Sought) -> bool
     ensures { (pos : Pos2) → result ≡ asks sought (Moved pos) }
 {
-    match sought {
-        Sought::Press => false,
-        Sought::Release => false,
-        Sought::Click => false,
-        Sought::PressOf(_) => false,
-        Sought::ReleaseOf(_) => false,
-        Sought::ClickOf(_) => false,
-        Sought::ClicksOf(_, _) => false,
-        Sought::Move => true,
-    }
+    matches!(sought, Sought::Move)
 }
 
+#[tactic(auto, unfolding(crate::specs::Events::asks, model::specs::Pointer::is_press, model::specs::Pointer::is_release, model::specs::Pointer::is_click, model::specs::Pointer::is_move, model::specs::Questions::presses_button, model::specs::Questions::releases_button, model::specs::Questions::clicks_button, model::specs::Questions::clicks_button_times))]
 fn press_is(sought: Sought, button: u32) -> bool
     ensures { (pos : Pos2) → result ≡ asks sought (Pressed pos (button_of button)) }
 {
     match sought {
         Sought::Press => true,
-        Sought::Release => false,
-        Sought::Click => false,
         Sought::PressOf(b) => same_button(b, button),
-        Sought::ReleaseOf(_) => false,
-        Sought::ClickOf(_) => false,
-        Sought::ClicksOf(_, _) => false,
-        Sought::Move => false,
+        _ => false,
     }
 }
 
+#[tactic(auto, unfolding(crate::specs::Events::asks, model::specs::Pointer::is_press, model::specs::Pointer::is_release, model::specs::Pointer::is_click, model::specs::Pointer::is_move, model::specs::Questions::presses_button, model::specs::Questions::releases_button, model::specs::Questions::clicks_button, model::specs::Questions::clicks_button_times))]
 fn release_is(sought: Sought, button: u32) -> bool
-    ensures { result ≡ asks sought (Released no_click (button_of button)) }
+    ensures { result ≡ asks sought (Released None (button_of button)) }
 {
     match sought {
-        Sought::Press => false,
         Sought::Release => true,
-        Sought::Click => false,
-        Sought::PressOf(_) => false,
         Sought::ReleaseOf(b) => same_button(b, button),
-        Sought::ClickOf(_) => false,
-        Sought::ClicksOf(_, _) => false,
-        Sought::Move => false,
+        _ => false,
     }
 }
 
+#[tactic(auto, unfolding(crate::specs::Events::asks, model::specs::Pointer::is_press, model::specs::Pointer::is_release, model::specs::Pointer::is_click, model::specs::Pointer::is_move, model::specs::Questions::presses_button, model::specs::Questions::releases_button, model::specs::Questions::clicks_button, model::specs::Questions::clicks_button_times))]
 fn click_is(sought: Sought, button: u32, count: u32) -> bool
-    ensures { (k : Click) → k.count ≡ count → result ≡ asks sought (Released (some_click k) (button_of button)) }
+    ensures { (k : Click) → k.count ≡ count → result ≡ asks sought (Released (Some k) (button_of button)) }
 {
     match sought {
-        Sought::Press => false,
-        Sought::Release => true,
-        Sought::Click => true,
-        Sought::PressOf(_) => false,
+        Sought::Release | Sought::Click => true,
         Sought::ReleaseOf(b) => same_button(b, button),
         Sought::ClickOf(b) => same_button(b, button),
-        Sought::ClicksOf(n, b) => {
-            if same_button(b, button) {
-                return n == count;
-            }
-            false
-        }
-        Sought::Move => false,
+        Sought::ClicksOf(n, b) => same_button(b, button) && n == count,
+        _ => false,
     }
 }
 
+#[tactic(auto, unfolding(crate::specs::Events::event_of, crate::specs::Events::click_of))]
 fn matches(sought: Sought, kind: u32, button: u32, count: u32) -> bool
     ensures { (x : Entry) → x.kind ≡ kind → x.button ≡ button → x.count ≡ count → result ≡ asks sought (event_of x) }
 {
@@ -302,12 +266,10 @@ pub fn any(codes: &[u32; CODES], count: usize, sought: Sought) -> bool
     ensures { (positions : List Float) → result ≡ any (asks sought) (events codes.now positions count) }
 {
     let n = counted(count);
-    let mut i: usize = 0;
-    while i < n {
+    for i in 0..n {
         if matches(sought, codes[i * 4], codes[i * 4 + 1], codes[i * 4 + 2]) {
             return true;
         }
-        i += 1;
     }
     false
 }

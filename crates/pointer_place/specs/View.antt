@@ -1,9 +1,9 @@
 -- What a place of src/ means beside the lent arrays of its history: the model's record.
-use Rattle.std.specs.Prelude.{ℕ, ◌≡◌, Bool, List, set, Float}
+use Rattle.std.specs.Prelude.{ℕ, ◌≡◌, Bool, List, set, Float, Option, None, Some}
 use Rattle.emath_history.specs.declared.history.History.{History}
 use Rattle.emath.specs.History.{flush}
 use Rattle.emath_history.specs.Ring.{view, free, set_position}
-use Rattle.model.specs.Types.{MaybePos2, no_pos, some_pos}
+use Rattle.model.specs.Types.{Pos2}
 use Rattle.model.specs.Pointer.{add_latest, end_place}
 use Rattle.model.specs.Pointer as Pointer
 use Rattle.pointer_place.specs.declared.Place.{Place}
@@ -28,22 +28,22 @@ pub record Placed (step : Pointer.Place → Pointer.Place) (p r : Place) : Type 
   pub start : r.history.start ≡ p.history.start
 
 -- what the pass's sample, at place i, leaves of the lent places: without a position there is none, and all stays
-unfoldable pub times_after : MaybePos2 → ℕ → Float → List Float → List Float
-times_after no_pos i time times = times
-times_after (some_pos v) i time times = set times i time
+unfoldable pub times_after : Option Pos2 → ℕ → Float → List Float → List Float
+times_after None i time times = times
+times_after (Some v) i time times = set times i time
 
-unfoldable pub positions_after : MaybePos2 → ℕ → List Float → List Float
-positions_after no_pos i positions = positions
-positions_after (some_pos v) i positions = set_position positions i v
+unfoldable pub positions_after : Option Pos2 → ℕ → List Float → List Float
+positions_after None i positions = positions
+positions_after (Some v) i positions = set_position positions i v
 
 -- The history with the pass's sample.
-pub record Sampled (time : Float) (latest : MaybePos2) (times positions : List Float) (h : History) (times' positions' : List Float) (r : History) : Type 0 where
+pub record Sampled (time : Float) (latest : Option Pos2) (times positions : List Float) (h : History) (times' positions' : List Float) (r : History) : Type 0 where
   pub result : view times' positions' r ≡ flush time (add_latest time latest (view times positions h))
   pub times_after : times' ≡ times_after latest (free h) time times
   pub positions_after : positions' ≡ positions_after latest (free h) positions
 
 -- The end of a pass; of the lent places only the new sample's are written.
-pub record Ended (time : Float) (old : MaybePos2) (gone : Bool) (times positions : List Float) (p : Place) (times' positions' : List Float) (r : Place) : Type 0 where
+pub record Ended (time : Float) (old : Option Pos2) (gone : Bool) (times positions : List Float) (p : Place) (times' positions' : List Float) (r : Place) : Type 0 where
   pub result : place times' positions' r ≡ end_place time old gone (place times positions p)
   pub times_after : times' ≡ times_after p.latest_pos (free p.history) time times
   pub positions_after : positions' ≡ positions_after p.latest_pos (free p.history) positions

@@ -10,16 +10,16 @@ ghost use Rattle.model.specs.Pointer.{unwrap_or_default, zero_motion, add_motion
 ghost use Rattle.model.specs.Pass.{fresh_place};
 ghost use Rattle.pointer_place.specs.View.{place, Placed, Sampled, Ended};
 
-use emath::pos2::{MaybePos2, Pos2};
-use emath::vec2::{MaybeVec2, Vec2};
+use emath::pos2::Pos2;
+use emath::vec2::Vec2;
 use emath_history::history::{History, MAX_LEN, PARTS};
 
 #[derive(Clone, Copy)]
 pub struct Place {
-    pub latest_pos: MaybePos2,
-    pub interact_pos: MaybePos2,
+    pub latest_pos: Option<Pos2>,
+    pub interact_pos: Option<Pos2>,
     pub delta: Vec2,
-    pub motion: MaybeVec2,
+    pub motion: Option<Vec2>,
     pub velocity: Vec2,
     pub direction: Vec2,
     pub history: History,
@@ -33,10 +33,10 @@ impl Place {
         let zero = Vec2::zero();
         let history = History::new();
         Place {
-            latest_pos: MaybePos2::None,
-            interact_pos: MaybePos2::None,
+            latest_pos: None,
+            interact_pos: None,
             delta: zero,
-            motion: MaybeVec2::None,
+            motion: None,
             velocity: zero,
             direction: zero,
             history,
@@ -44,30 +44,30 @@ impl Place {
     }
 }
 
-fn unwrap_or_default(v: MaybeVec2) -> Vec2
+fn unwrap_or_default(v: Option<Vec2>) -> Vec2
     ensures { result ≡ unwrap_or_default v }
 {
     match v {
-        MaybeVec2::None => Vec2::zero(),
-        MaybeVec2::Some(w) => w,
+        None => Vec2::zero(),
+        Some(w) => w,
     }
 }
 
-fn zero_motion(motion: MaybeVec2) -> MaybeVec2
+fn zero_motion(motion: Option<Vec2>) -> Option<Vec2>
     ensures { result ≡ zero_motion motion }
 {
     match motion {
-        MaybeVec2::None => MaybeVec2::None,
-        MaybeVec2::Some(_) => MaybeVec2::Some(Vec2::zero()),
+        None => None,
+        Some(_) => Some(Vec2::zero()),
     }
 }
 
-fn add_motion(motion: MaybeVec2, v: Vec2) -> MaybeVec2
+fn add_motion(motion: Option<Vec2>, v: Vec2) -> Option<Vec2>
     ensures { result ≡ add_motion v motion }
 {
     match motion {
-        MaybeVec2::None => MaybeVec2::Some(Vec2::zero().add(v)),
-        MaybeVec2::Some(w) => MaybeVec2::Some(w.add(v)),
+        None => Some(Vec2::zero() + v),
+        Some(w) => Some(w + v),
     }
 }
 
@@ -90,8 +90,8 @@ pub fn moved_place(p: Place, pos: Pos2) -> Place
     ensures { Placed (place_event (PointerMoved pos)) p result }
 {
     Place {
-        latest_pos: MaybePos2::Some(pos),
-        interact_pos: MaybePos2::Some(pos),
+        latest_pos: Some(pos),
+        interact_pos: Some(pos),
         ..p
     }
 }
@@ -112,15 +112,15 @@ pub fn button_place(p: Place, pos: Pos2, pressed: bool) -> Place
     if pressed {
         let history = p.history.clear();
         return Place {
-            latest_pos: MaybePos2::Some(pos),
-            interact_pos: MaybePos2::Some(pos),
+            latest_pos: Some(pos),
+            interact_pos: Some(pos),
             history,
             ..p
         };
     }
     Place {
-        latest_pos: MaybePos2::Some(pos),
-        interact_pos: MaybePos2::Some(pos),
+        latest_pos: Some(pos),
+        interact_pos: Some(pos),
         ..p
     }
 }
@@ -131,20 +131,20 @@ pub fn gone_place(p: Place) -> Place
 {
     let kept = p.interact_pos;
     Place {
-        latest_pos: MaybePos2::None,
+        latest_pos: None,
         interact_pos: kept,
         ..p
     }
 }
 
-fn delta_of(old: MaybePos2, new: MaybePos2) -> Vec2
+fn delta_of(old: Option<Pos2>, new: Option<Pos2>) -> Vec2
     ensures { result ≡ delta_of old new }
 {
     match old {
-        MaybePos2::None => Vec2::zero(),
-        MaybePos2::Some(a) => match new {
-            MaybePos2::None => Vec2::zero(),
-            MaybePos2::Some(b) => b.sub(a),
+        None => Vec2::zero(),
+        Some(a) => match new {
+            None => Vec2::zero(),
+            Some(b) => b - a,
         },
     }
 }
@@ -175,13 +175,13 @@ fn sampled(
     times: &mut [f64; MAX_LEN],
     positions: &mut [f32; PARTS],
     time: f64,
-    latest: MaybePos2,
+    latest: Option<Pos2>,
 ) -> History
     ensures { Sampled time latest times.old positions.old h times.new positions.new result }
 {
     match latest {
-        MaybePos2::None => h.flush(times, time),
-        MaybePos2::Some(pos) => {
+        None => h.flush(times, time),
+        Some(pos) => {
             let g = h.add(times, positions, time, pos);
             g.flush(times, time)
         }
@@ -203,7 +203,7 @@ pub fn end_place(
     times: &mut [f64; MAX_LEN],
     positions: &mut [f32; PARTS],
     time: f64,
-    old: MaybePos2,
+    old: Option<Pos2>,
     gone: bool,
 ) -> Place
     ensures { Ended time old gone times.old positions.old p times.new positions.new result }

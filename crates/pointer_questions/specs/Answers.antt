@@ -1,6 +1,5 @@
 -- When an answer is the model's: its `reply` to the question, of every panel that shows this pointer, whatever else it shows.
-use Rattle.std.specs.Prelude.{ℕ, ◌≡◌, List, Float}
-use Rattle.model.specs.Types.{MaybeF64}
+use Rattle.std.specs.Prelude.{ℕ, ◌≡◌, List, Float, Option}
 use Rattle.model.specs.Pass.{Panel}
 use Rattle.model.specs.Questions.{Settled, Question, Reply, Shown, reply, ask}
 use Rattle.pointer_place.specs.declared.Place.{Place}
@@ -30,5 +29,5 @@ abbrev pub OfPast : Question → Float → ClickPast → Reply → Type 0
 OfPast q time p a = (s : Panel) → s.clock.pointer_time ≡ time → s.press.past ≡ past p → ask q s ≡ a
 
 -- one that reads the last movement's time
-abbrev pub OfLastMove : Question → Float → MaybeF64 → Reply → Type 0
+abbrev pub OfLastMove : Question → Float → Option Float → Reply → Type 0
 OfLastMove q time last a = (s : Panel) → s.clock.pointer_time ≡ time → s.last_move_time ≡ last → ask q s ≡ a

@@ -9,19 +9,19 @@ ghost use Rattle.pointer_state.specs.View.{press};
 ghost use Rattle.pointer_questions.specs.Answers.{OfHeld, OfButtons, OfPast};
 
 use data::options::InputOptions;
-use data::pointer::{MaybeF64, PointerButton};
-use emath::pos2::MaybePos2;
+use data::pointer::{PointerButton, PointerEvent};
+use emath::pos2::Pos2;
 use pointer_clicks::{ClickPast, Held, press_too_long};
-use pointer_events::{CODES, MaybePointerEvent, PLACES, Sought, any, counted, event_at};
+use pointer_events::{CODES, PLACES, Sought, any, counted, event_at};
 use pointer_state::press::Press;
 
-pub fn press_origin(h: Held) -> MaybePos2
+pub fn press_origin(h: Held) -> Option<Pos2>
     ensures { OfButtons ask.press_origin h (maybe_position result) }
 {
     h.press_origin
 }
 
-pub fn press_start_time(h: Held) -> MaybeF64
+pub fn press_start_time(h: Held) -> Option<f64>
     ensures { OfButtons ask.press_start_time h (maybe_seconds result) }
 {
     h.press_start_time
@@ -129,7 +129,7 @@ pub fn pointer_event(
     codes: &[u32; CODES],
     positions: &[f32; PLACES],
     i: usize,
-) -> MaybePointerEvent
+) -> Option<PointerEvent>
     ensures { result ≡ event_or_none (held codes.now positions.now h).pointer_events i }
 {
     event_at(codes, positions, h.event_count, i)

@@ -1,13 +1,11 @@
 // Where the pointer is and how it moves.
-ghost use Rattle.std.specs.Prelude.{◌≡◌, List, Float};
+ghost use Rattle.std.specs.Prelude.{◌≡◌};
 ghost use Rattle.model.specs.Questions.{bool, vector, maybe_vector, maybe_position, maybe_number};
 ghost use Rattle.model.specs.Questions as ask;
 ghost use Rattle.pointer_questions.specs.Answers.{OfPlace, OfBoth, OfLastMove};
 
-use data::pointer::MaybeF64;
-use data::touch::MaybeF32;
-use emath::pos2::MaybePos2;
-use emath::vec2::{MaybeVec2, Vec2};
+use emath::pos2::Pos2;
+use emath::vec2::Vec2;
 use pointer_clicks::Held;
 use pointer_place::Place;
 
@@ -17,7 +15,7 @@ pub fn delta(p: Place) -> Vec2
     p.delta
 }
 
-pub fn motion(p: Place) -> MaybeVec2
+pub fn motion(p: Place) -> Option<Vec2>
     ensures { OfPlace ask.motion p (maybe_vector result) }
 {
     p.motion
@@ -35,19 +33,19 @@ pub fn direction(p: Place) -> Vec2
     p.direction
 }
 
-pub fn latest_pos(p: Place) -> MaybePos2
+pub fn latest_pos(p: Place) -> Option<Pos2>
     ensures { OfPlace ask.latest_pos p (maybe_position result) }
 {
     p.latest_pos
 }
 
-pub fn hover_pos(p: Place) -> MaybePos2
+pub fn hover_pos(p: Place) -> Option<Pos2>
     ensures { OfPlace ask.hover_pos p (maybe_position result) }
 {
     p.latest_pos
 }
 
-pub fn interact_pos(p: Place) -> MaybePos2
+pub fn interact_pos(p: Place) -> Option<Pos2>
     ensures { OfPlace ask.interact_pos p (maybe_position result) }
 {
     p.interact_pos
@@ -58,8 +56,8 @@ pub fn has_pointer(p: Place) -> bool
 {
     let latest = p.latest_pos;
     match latest {
-        MaybePos2::None => false,
-        MaybePos2::Some(_) => true,
+        None => false,
+        Some(_) => true,
     }
 }
 
@@ -68,7 +66,7 @@ pub fn is_still(p: Place) -> bool
 {
     let v = p.velocity;
     let zero = Vec2::zero();
-    !v.ne(zero)
+    v == zero
 }
 
 pub fn is_moving(p: Place) -> bool
@@ -76,30 +74,30 @@ pub fn is_moving(p: Place) -> bool
 {
     let v = p.velocity;
     let zero = Vec2::zero();
-    v.ne(zero)
+    v != zero
 }
 
 // In seconds, or none before any; `time` is that of the pointer's last pass.
-pub fn time_since_last_movement(last: MaybeF64, time: f64) -> MaybeF32
+pub fn time_since_last_movement(last: Option<f64>, time: f64) -> Option<f32>
     ensures { OfLastMove ask.time_since_last_movement time last (maybe_number result) }
 {
     match last {
-        MaybeF64::None => MaybeF32::None,
-        MaybeF64::Some(t) => MaybeF32::Some(ieee_narrow::narrow(time - t)),
+        None => None,
+        Some(t) => Some(ieee_narrow::narrow(time - t)),
     }
 }
 
 // How far the pointer moved since the press, if there is one.
-pub fn total_drag_delta(p: Place, h: Held) -> MaybeVec2
+pub fn total_drag_delta(p: Place, h: Held) -> Option<Vec2>
     ensures { OfBoth ask.total_drag_delta p h (maybe_vector result) }
 {
     let latest = p.latest_pos;
     let origin = h.press_origin;
     match latest {
-        MaybePos2::None => MaybeVec2::None,
-        MaybePos2::Some(v) => match origin {
-            MaybePos2::None => MaybeVec2::None,
-            MaybePos2::Some(o) => MaybeVec2::Some(v.sub(o)),
+        None => None,
+        Some(v) => match origin {
+            None => None,
+            Some(o) => Some(v - o),
         },
     }
 }

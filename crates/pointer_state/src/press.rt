@@ -7,8 +7,8 @@ ghost use Rattle.pointer_state.specs.View.{press, Stepped};
 
 use data::modifiers::Modifiers;
 use data::options::InputOptions;
-use data::pointer::{ButtonsDown, MaybeF64, PointerButton, PointerEvent};
-use emath::pos2::{MaybePos2, Pos2};
+use data::pointer::{ButtonsDown, PointerButton, PointerEvent};
+use emath::pos2::Pos2;
 use pointer_clicks::{
     ClickPast, Held, click_of, could_any_button_be_click, moved_too_much, remember_click, set_down,
 };
@@ -35,13 +35,13 @@ impl Press {
         };
         let held = Held {
             down,
-            press_origin: MaybePos2::None,
-            press_start_time: MaybeF64::None,
+            press_origin: None,
+            press_start_time: None,
             event_count: 0,
         };
         let past = ClickPast {
             has_moved_too_much_for_a_click: false,
-            last_click_pos: MaybePos2::None,
+            last_click_pos: None,
             last_click_time: -1.0 / 0.0,
             last_last_click_time: -1.0 / 0.0,
         };
@@ -95,8 +95,8 @@ fn pressed(
     );
     let held = Held {
         down,
-        press_origin: MaybePos2::Some(pos),
-        press_start_time: MaybeF64::Some(time),
+        press_origin: Some(pos),
+        press_start_time: Some(time),
         event_count: count,
     };
     let past = ClickPast {
@@ -124,8 +124,8 @@ fn released(
     let down = set_down(before.down, button, false);
     let up = Held {
         down,
-        press_origin: MaybePos2::None,
-        press_start_time: MaybeF64::None,
+        press_origin: None,
+        press_start_time: None,
         event_count: before.event_count,
     };
     let moved = p.has_moved_too_much_for_a_click;

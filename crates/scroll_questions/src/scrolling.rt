@@ -3,17 +3,17 @@ ghost use Rattle.model.specs.Questions.{number, source};
 ghost use Rattle.model.specs.Questions as ask;
 ghost use Rattle.scroll_questions.specs.Answers.{OfWheel, OfWheelAt};
 
-use data::mouse_wheel::{MaybeMouseWheelSource, WheelState};
+use data::mouse_wheel::{MouseWheelSource, WheelState};
 
 // What drives the scrolling, if there is one.
-pub fn scroll_source(w: WheelState) -> MaybeMouseWheelSource
+pub fn scroll_source(w: WheelState) -> Option<MouseWheelSource>
     ensures { OfWheel ask.scroll_source w (source result) }
 {
     let s = w.source;
     if wheel_state::is_scrolling(w) {
-        return MaybeMouseWheelSource::Some(s);
+        return Some(s);
     }
-    MaybeMouseWheelSource::None
+    None
 }
 
 pub fn time_since_last_scroll(w: WheelState, time: f64) -> f32

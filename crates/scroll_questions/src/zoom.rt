@@ -6,7 +6,7 @@ ghost use Rattle.scroll_questions.specs.Answers.{zoom_answer, zoom_2d_answer, Of
 
 use data::modifiers::Modifiers;
 use data::options::InputOptions;
-use data::touch::{MaybeMultiTouchInfo, Rotation};
+use data::touch::{MultiTouchInfo, Rotation};
 use emath::vec2::Vec2;
 use touch_questions::multi_touch;
 use touch_state::devices::Devices;
@@ -30,8 +30,8 @@ pub fn zoom_delta(ds: Devices, factor: f32, exponent: f32) -> Zoom
 {
     let gesture = multi_touch(ds);
     match gesture {
-        MaybeMultiTouchInfo::None => Zoom { factor, exponent },
-        MaybeMultiTouchInfo::Some(g) => Zoom {
+        None => Zoom { factor, exponent },
+        Some(g) => Zoom {
             factor: g.zoom_delta,
             exponent: 0.0,
         },
@@ -89,14 +89,14 @@ pub fn zoom_delta_2d(
 {
     let gesture = multi_touch(ds);
     match gesture {
-        MaybeMultiTouchInfo::None => {
+        None => {
             let horizontal = options.horizontal_scroll_modifier;
             let vertical = options.vertical_scroll_modifier;
             let is_horizontal = modifiers.matches_any(horizontal);
             let is_vertical = modifiers.matches_any(vertical);
             zoom_by_axis(is_horizontal, is_vertical, factor, exponent)
         }
-        MaybeMultiTouchInfo::Some(g) => {
+        Some(g) => {
             let factor = g.zoom_delta_2d;
             let exponent = Vec2::zero();
             Zoom2d { factor, exponent }
@@ -117,7 +117,7 @@ pub fn translation_delta(ds: Devices, smooth_scroll_delta: Vec2) -> Vec2
 {
     let gesture = multi_touch(ds);
     match gesture {
-        MaybeMultiTouchInfo::None => smooth_scroll_delta,
-        MaybeMultiTouchInfo::Some(g) => g.translation_delta,
+        None => smooth_scroll_delta,
+        Some(g) => g.translation_delta,
     }
 }

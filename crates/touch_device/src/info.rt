@@ -6,28 +6,24 @@ ghost use Rattle.model.specs.Questions.{rotation_reply};
 ghost use Rattle.touch_device.specs.View.{device_view};
 
 use crate::Device;
-use data::touch::{
-    DynGestureState, GestureState, MaybeDynGestureState, MaybeMultiTouchInfo, MultiTouchInfo,
-    PinchType, Rotation,
-};
+use data::touch::{DynGestureState, GestureState, MultiTouchInfo, PinchType, Rotation};
 use emath::vec2::Vec2;
 
-// previous.unwrap_or(current)
-fn state_previous(previous: MaybeDynGestureState, current: DynGestureState) -> DynGestureState
+#[tactic(auto, unfolding(model::specs::Touch::state_previous))]
+fn state_previous(previous: Option<DynGestureState>, current: DynGestureState) -> DynGestureState
     ensures { result ≡ state_previous previous current }
 {
-    match previous {
-        MaybeDynGestureState::None => current,
-        MaybeDynGestureState::Some(state) => state,
-    }
+    previous.unwrap_or(current)
 }
 
+#[tactic(auto, unfolding(model::specs::Touch::zoom_quotient))]
 fn zoom_quotient(current: f32, previous: f32) -> f32
     ensures { result ≡ zoom_quotient current previous }
 {
     current / previous
 }
 
+#[tactic(auto, unfolding(model::specs::Touch::zoom_delta_2d, model::specs::Numbers::one))]
 fn zoom_delta_2d(pinch_type: PinchType, previous: DynGestureState, current: DynGestureState) -> Vec2
     ensures { result ≡ zoom_delta_2d pinch_type previous current }
 {
@@ -49,60 +45,43 @@ fn zoom_delta_2d(pinch_type: PinchType, previous: DynGestureState, current: DynG
     }
 }
 
+#[tactic(auto, unfolding(model::specs::Touch::info_from))]
 fn info_from(n: usize, g: GestureState, previous: DynGestureState) -> MultiTouchInfo
     ensures { result ≡ info_from n g previous }
 {
     let current = g.current;
-    let start_pos = g.start_pointer_pos;
-    let pinch_type = g.pinch_type;
-    let center_pos = current.avg_pos;
-    let old_pos = previous.avg_pos;
-    let previous_heading = previous.heading;
-    let heading = current.heading;
-    let zoom_delta_2d = zoom_delta_2d(pinch_type, previous, current);
-    let translation_delta = center_pos.sub(old_pos);
     MultiTouchInfo {
         start_time: g.start_time,
-        start_pos: start_pos,
-        center_pos: center_pos,
+        start_pos: g.start_pointer_pos,
+        center_pos: current.avg_pos,
         num_touches: n,
         zoom_delta: zoom_quotient(current.avg_distance, previous.avg_distance),
-        zoom_delta_2d: zoom_delta_2d,
-        previous_heading: previous_heading,
-        heading: heading,
-        translation_delta: translation_delta,
+        zoom_delta_2d: zoom_delta_2d(g.pinch_type, previous, current),
+        previous_heading: previous.heading,
+        heading: current.heading,
+        translation_delta: current.avg_pos - previous.avg_pos,
         force: current.avg_force,
     }
 }
 
 // egui's TouchState::info
-pub fn info(d: Device) -> MaybeMultiTouchInfo
+#[tactic(auto, unfolding(model::specs::Touch::info, model::specs::Touch::info_of))]
+pub fn info(d: Device) -> Option<MultiTouchInfo>
     ensures { result ≡ info (device_view d) }
 {
-    let touches = d.touches;
-    let n = touches::len(touches);
-    let gesture = d.gesture_state;
-    match gesture {
-        data::touch::MaybeGestureState::None => MaybeMultiTouchInfo::None,
-        data::touch::MaybeGestureState::Some(g) => {
-            let before = g.previous;
-            let current = g.current;
-            let previous = state_previous(before, current);
-            MaybeMultiTouchInfo::Some(info_from(n, g, previous))
-        }
-    }
+    let g = d.gesture_state?;
+    let n = touches::len(d.touches);
+    let previous = state_previous(g.previous, g.current);
+    Some(info_from(n, g, previous))
 }
 
 // With a gesture its two headings, else the sum of the pass's radians.
-pub fn rotation(info: MaybeMultiTouchInfo, radians: f32) -> Rotation
+#[tactic(auto, unfolding(model::specs::Questions::rotation_reply))]
+pub fn rotation(info: Option<MultiTouchInfo>, radians: f32) -> Rotation
     ensures { (s : Sums) → s.rotation_radians ≡ radians → result ≡ rotation_reply info s }
 {
     match info {
-        MaybeMultiTouchInfo::None => Rotation::Radians(radians),
-        MaybeMultiTouchInfo::Some(i) => {
-            let previous = i.previous_heading;
-            let heading = i.heading;
-            Rotation::Headings(previous, heading)
-        }
+        None => Rotation::Radians(radians),
+        Some(i) => Rotation::Headings(i.previous_heading, i.heading),
     }
 }

@@ -5,41 +5,34 @@ ghost use Rattle.std.specs.Prelude.{◌≡◌};
 ghost use Rattle.model.specs.Touch.{find_device, info_at, multi_touch, any_touches, any_touches_at, has_touch_screen};
 ghost use Rattle.touch_state.specs.View.{view};
 
-use data::touch::MaybeMultiTouchInfo;
+use data::touch::MultiTouchInfo;
 use touch_state::devices::{Devices, index_of, len};
 
 // The info of a device: none if it is not known.
-pub fn info(ds: Devices, device_id: u64) -> MaybeMultiTouchInfo
+pub fn info(ds: Devices, device_id: u64) -> Option<MultiTouchInfo>
     ensures { result ≡ info_at (find_device device_id (view ds)) }
 {
     let i = index_of(ds, device_id);
     if i < len(ds) {
-        let a = ds.places;
-        let d = a[i];
-        return touch_device::info::info(d);
+        return touch_device::info::info(ds.places[i]);
     }
-    MaybeMultiTouchInfo::None
+    None
 }
 
 // The info of the first device that has one.
-pub fn multi_touch(ds: Devices) -> MaybeMultiTouchInfo
+pub fn multi_touch(ds: Devices) -> Option<MultiTouchInfo>
     ensures { result ≡ multi_touch (view ds) }
 {
     let n = len(ds);
     let a = ds.places;
-    let mut i: usize = 0;
-    while i < n {
-        let d = a[i];
-        let info = touch_device::info::info(d);
+    for i in 0..n {
+        let info = touch_device::info::info(a[i]);
         match info {
-            MaybeMultiTouchInfo::Some(g) => {
-                return MaybeMultiTouchInfo::Some(g);
-            }
-            MaybeMultiTouchInfo::None => {}
+            Some(g) => return Some(g),
+            None => {}
         }
-        i += 1;
     }
-    MaybeMultiTouchInfo::None
+    None
 }
 
 pub fn any_touches(ds: Devices) -> bool
@@ -47,13 +40,10 @@ pub fn any_touches(ds: Devices) -> bool
 {
     let n = len(ds);
     let a = ds.places;
-    let mut i: usize = 0;
-    while i < n {
-        let d = a[i];
-        if touch_device::any_touches(d) {
+    for i in 0..n {
+        if touch_device::any_touches(a[i]) {
             return true;
         }
-        i += 1;
     }
     false
 }
@@ -64,13 +54,12 @@ pub fn any_touches_of(ds: Devices, device_id: u64) -> bool
 {
     let i = index_of(ds, device_id);
     if i < len(ds) {
-        let a = ds.places;
-        let d = a[i];
-        return touch_device::any_touches(d);
+        return touch_device::any_touches(ds.places[i]);
     }
     false
 }
 
+#[tactic(auto, using(touch_state::proofs::Known::some_devices))]
 pub fn has_touch_screen(ds: Devices) -> bool
     ensures { result ≡ has_touch_screen (view ds) }
 {

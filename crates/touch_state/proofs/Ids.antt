@@ -1,8 +1,8 @@
 -- The devices' ids read apart from the devices, and places among them. Assumes nothing.
+use Rattle.std.specs.Prelude.{Some}
 use mathlib.Core.Path.{◌≡◌, refl, sym, ap, ◌∙◌}
 use mathlib.Core.Bool.{Bool, true, false, cond}
 use mathlib.Core.List.{List, [], ◌∷◌, map}
-use mathlib.Core.Option.{some}
 use Prim.Native.Nat.{ℕ, zero, suc, ◌≤◌, ◌<◌}
 use native.Mathlib.Omega.{arith}
 use borrow.Author.Tests.{ltb-true, eqb-true, ne_eqb}
@@ -89,7 +89,7 @@ module _ (d k c : ℕ) (a : List Device) (z : Device) (at : k ≡ known_at d (ta
   pub known_id : d ≡ (get_or a k z).id
   known_id = eqb-true d (get_or a k z).id (at_place device_id d k c a z below_known ∙ (known_place d k (take c a) at here).1)
 
-  pub known_found : find_device d (map device_view (take c a)) ≡ some (device_view (get_or a k z))
+  pub known_found : find_device d (map device_view (take c a)) ≡ Some (device_view (get_or a k z))
   known_found =
       let p = known_place d k (take c a) at here in
       found_at d c k a z (p.0 ∙ place_index d (take c a) (rw p.0 at p.1)) below_known

@@ -1,7 +1,7 @@
 -- The model's questions over the devices, a turn at a time, and a device by its place. Assumes nothing.
+use Rattle.std.specs.Prelude.{Option, None, Some}
 use mathlib.Core.Path.{◌≡◌, refl, sym, ap, ◌∙◌}
 use mathlib.Core.Bool.{Bool, true, false, cond}
-use mathlib.Core.Option.{none, some}
 use mathlib.Core.List.{List, [], ◌∷◌, map}
 use Prim.Native.Nat.{ℕ, zero, suc, ◌+◌, ◌≤◌, ◌<◌}
 use native.Mathlib.Numerals.{add-one}
@@ -11,7 +11,7 @@ use lib.Dec.{eqb, ltb}
 use lib.ListN.{length, get_or, set, take, drop, length-map, length-take, length-set}
 use lib.Seq.{take-set-lt, get_or-take}
 use Rattle.data.specs.Limits.{max_devices}
-use Rattle.model.specs.Types.{TouchPhase, ActiveTouch, MaybeMultiTouchInfo, no_info}
+use Rattle.model.specs.Types.{TouchPhase, ActiveTouch, MultiTouchInfo}
 use Rattle.model.specs.Touch.{TouchState, device_id_of, new_device, at_device, find_device, info, multi_touch, first_of as first_info, any_touches, some_touch, has_touch_screen}
 use Rattle.touch_device.specs.declared.Device.{Device}
 use Rattle.touches.specs.Touches.{place, index, starts, is_at, inserted_at}
@@ -22,27 +22,27 @@ use Rattle.touches.proofs.Places.{rest, done}
 use Rattle.touches.proofs.Upsert.{some_ltb, upsert, upsert_hit, upsert_miss, at_lt, place_le, length_inserted}
 
 find_by : (d : ℕ) (z u : Device) (us : List Device) (b : Bool) → eqb d u.id ≡ b
-    → (index device_id d us < length us → find_device d (map device_view us) ≡ some (device_view (get_or us (index device_id d us) z)))
+    → (index device_id d us < length us → find_device d (map device_view us) ≡ Some (device_view (get_or us (index device_id d us) z)))
     → index device_id d (u ∷ us) < length (u ∷ us)
-    → find_device d (map device_view (u ∷ us)) ≡ some (device_view (get_or (u ∷ us) (index device_id d (u ∷ us)) z))
+    → find_device d (map device_view (u ∷ us)) ≡ Some (device_view (get_or (u ∷ us) (index device_id d (u ∷ us)) z))
 unfolding find_device index
 find_by d z u us true q ih h = rw q
 find_by d z u us false q ih h = rw q (ih (omega (arith, rw q at h)))
 
 pub found : (d : ℕ) (z : Device) (us : List Device) → index device_id d us < length us
-    → find_device d (map device_view us) ≡ some (device_view (get_or us (index device_id d us) z))
+    → find_device d (map device_view us) ≡ Some (device_view (get_or us (index device_id d us) z))
 unfolding find_device index
 found d z [] h = absurd (omega arith)
 found d z (u ∷ us) h = find_by d z u us (eqb d u.id) refl (found d z us) h
 
 lost_by : (d : ℕ) (u : Device) (us : List Device) (b : Bool) → eqb d u.id ≡ b
-    → (length us ≤ index device_id d us → find_device d (map device_view us) ≡ none)
-    → length (u ∷ us) ≤ index device_id d (u ∷ us) → find_device d (map device_view (u ∷ us)) ≡ none
+    → (length us ≤ index device_id d us → find_device d (map device_view us) ≡ None)
+    → length (u ∷ us) ≤ index device_id d (u ∷ us) → find_device d (map device_view (u ∷ us)) ≡ None
 unfolding find_device index
 lost_by d u us true q ih h = absurd (omega (arith, rw q at h))
 lost_by d u us false q ih h = rw q (ih (omega (arith, rw q at h)))
 
-pub lost : (d : ℕ) (us : List Device) → length us ≤ index device_id d us → find_device d (map device_view us) ≡ none
+pub lost : (d : ℕ) (us : List Device) → length us ≤ index device_id d us → find_device d (map device_view us) ≡ None
 unfolding find_device index
 lost d [] h = refl
 lost d (u ∷ us) h = lost_by d u us (eqb d u.id) refl (lost d us) h
@@ -57,7 +57,7 @@ module _ (n i : ℕ) (a : List Device) (z : Device) (h : i < n) (l : n ≤ lengt
   unfolding any_touches
   any_skips e = rw (add-one, rest n i a z h l, e)
 
-  pub multi_stops : (g : MaybeMultiTouchInfo) → info (device_view (get_or a i z)) ≡ g → first_info g (multi_touch (map device_view (drop (i + 1) (take n a)))) ≡ multi_touch (map device_view (drop i (take n a)))
+  pub multi_stops : (g : Option MultiTouchInfo) → info (device_view (get_or a i z)) ≡ g → first_info g (multi_touch (map device_view (drop (i + 1) (take n a)))) ≡ multi_touch (map device_view (drop i (take n a)))
   unfolding multi_touch
   multi_stops g e = rw (add-one, rest n i a z h l, e)
 
@@ -66,7 +66,7 @@ module _ (n i : ℕ) (a : List Device) (h : n ≤ i) (l : n ≤ length a) where
   unfolding any_touches
   any_ends = rw (done n i a h l)
 
-  pub multi_ends : no_info ≡ multi_touch (map device_view (drop i (take n a)))
+  pub multi_ends : None ≡ multi_touch (map device_view (drop i (take n a)))
   unfolding multi_touch
   multi_ends = rw (done n i a h l)
 
@@ -76,12 +76,12 @@ some_devices [] = refl
 some_devices (u ∷ us) = some_ltb (length us)
 
 module _ (d c i : ℕ) (a : List Device) where
-  pub found_at : (z : Device) → i ≡ index device_id d (take c a) → i < length (take c a) → find_device d (map device_view (take c a)) ≡ some (device_view (get_or a i z))
+  pub found_at : (z : Device) → i ≡ index device_id d (take c a) → i < length (take c a) → find_device d (map device_view (take c a)) ≡ Some (device_view (get_or a i z))
   found_at z e h =
       let k : i < c = omega (arith, length-take c a) in
       found d z (take c a) (rw e at h) ∙ rw (← e, get_or-take c a i z k)
 
-  pub lost_at : i ≡ index device_id d (take c a) → length (take c a) ≤ i → find_device d (map device_view (take c a)) ≡ none
+  pub lost_at : i ≡ index device_id d (take c a) → length (take c a) ≤ i → find_device d (map device_view (take c a)) ≡ None
   lost_at e h = lost d (take c a) (rw e at h)
 
 -- ---- lists that are mapped

@@ -18,11 +18,9 @@ pub struct Devices {
 pub fn none() -> Devices
     ensures { view result ≡ [] }
 {
-    let device = touch_device::new(0);
-    let places = [device; MAX_DEVICES];
     Devices {
         count: 0,
-        places: places,
+        places: [touch_device::new(0); MAX_DEVICES],
     }
 }
 
@@ -30,11 +28,7 @@ pub fn none() -> Devices
 pub fn len(ds: Devices) -> usize
     ensures { result ≡ length (known ds) }
 {
-    let n = ds.count;
-    if n < MAX_DEVICES {
-        return n;
-    }
-    MAX_DEVICES
+    ds.count.min(MAX_DEVICES)
 }
 
 // Read at constant places: nothing else of a device is looked at.
@@ -42,11 +36,7 @@ fn ids(ds: Devices) -> [u64; MAX_DEVICES]
     ensures { result ≡ map device_id ds.places }
 {
     let a = ds.places;
-    let first = a[0];
-    let second = a[1];
-    let third = a[2];
-    let fourth = a[3];
-    [first.id, second.id, third.id, fourth.id]
+    [a[0].id, a[1].id, a[2].id, a[3].id]
 }
 
 // The first place with this id or a greater one.
@@ -55,14 +45,12 @@ fn place_of(ds: Devices, id: u64) -> usize
 {
     let n = len(ds);
     let a = ids(ds);
-    let mut i: usize = 0;
-    while i < n {
+    for i in 0..n {
         if a[i] >= id {
             return i;
         }
-        i += 1;
     }
-    i
+    n
 }
 
 // The first place with this id, or the number of devices.
@@ -71,14 +59,12 @@ pub fn index_of(ds: Devices, id: u64) -> usize
 {
     let n = len(ds);
     let a = ids(ds);
-    let mut i: usize = 0;
-    while i < n {
+    for i in 0..n {
         if a[i] == id {
             return i;
         }
-        i += 1;
     }
-    i
+    n
 }
 
 // Does the device at place i have this id?
@@ -93,6 +79,7 @@ fn is_at(ds: Devices, i: usize, id: u64) -> bool
 }
 
 // The place of a device that is known, or MAX_DEVICES.
+#[tactic(auto, unfolding(crate::specs::View::known_at))]
 pub fn known_at(ds: Devices, id: u64) -> usize
     ensures { result ≡ known_at id (known ds) }
 {
@@ -111,12 +98,10 @@ fn insert_at(ds: Devices, i: usize, d: Device) -> Devices
     let n = len(ds);
     let mut a = ds.places;
     let mut carry = d;
-    let mut k = i;
-    while k < n {
+    for k in i..n {
         let x = a[k];
         a[k] = carry;
         carry = x;
-        k += 1;
     }
     a[n] = carry;
     Devices {
@@ -147,9 +132,7 @@ pub fn no_place(ds: Devices, device_id: u64, phase: TouchPhase, id: u64) -> bool
         return MAX_DEVICES <= n;
     }
     if is_start(phase) {
-        let a = ds.places;
-        let d = a[i];
-        return touch_device::is_full(d, phase, id);
+        return touch_device::is_full(ds.places[i], phase, id);
     }
     false
 }

@@ -6,7 +6,7 @@ ghost use Rattle.model.specs.Touch.{insert_touch, move_touch, remove_touch, hold
 ghost use Rattle.touches.specs.Touches.{list, index, if_room, on_touch_if_room};
 
 use data::limits::MAX_TOUCHES;
-use data::touch::{ActiveTouch, MaybeF32, TouchPhase};
+use data::touch::{ActiveTouch, TouchPhase};
 use emath::pos2::Pos2;
 
 #[derive(Clone, Copy)]
@@ -18,16 +18,14 @@ pub struct Touches {
 pub fn none() -> Touches
     ensures { list result ≡ [] }
 {
-    let pos = Pos2::zero();
     let touch = ActiveTouch {
         id: 0,
-        pos: pos,
-        force: MaybeF32::None,
+        pos: Pos2::zero(),
+        force: None,
     };
-    let places = [touch; MAX_TOUCHES];
     Touches {
         count: 0,
-        places: places,
+        places: [touch; MAX_TOUCHES],
     }
 }
 
@@ -35,11 +33,7 @@ pub fn none() -> Touches
 pub fn len(ts: Touches) -> usize
     ensures { result ≡ length (list ts) }
 {
-    let n = ts.count;
-    if n < MAX_TOUCHES {
-        return n;
-    }
-    MAX_TOUCHES
+    ts.count.min(MAX_TOUCHES)
 }
 
 // The first place with this id, or the number of touches.
@@ -48,17 +42,16 @@ fn index_of(ts: Touches, id: u64) -> usize
 {
     let n = len(ts);
     let a = ts.places;
-    let mut i: usize = 0;
-    while i < n {
+    for i in 0..n {
         let x = a[i];
         if x.id == id {
             return i;
         }
-        i += 1;
     }
-    i
+    n
 }
 
+#[tactic(auto, using(crate::proofs::Upsert::holds_index))]
 pub fn holds(ts: Touches, id: u64) -> bool
     ensures { result ≡ holds id (list ts) }
 {
@@ -69,12 +62,12 @@ pub fn holds(ts: Touches, id: u64) -> bool
 fn insert(ts: Touches, t: ActiveTouch) -> Touches
     ensures { list result ≡ if_room (insert_touch t (list ts)) (list ts) }
 {
+    // one walk finds the place, replaces or moves up: a search, a shift and a write apart are no plainer
     let n = len(ts);
     let mut s = ts;
     let mut carry = t;
     let mut shifting = false;
-    let mut i: usize = 0;
-    while i < n {
+    for i in 0..n {
         let x = s.places[i];
         shifting = shifting | (x.id > t.id);
         if shifting {
@@ -84,7 +77,6 @@ fn insert(ts: Touches, t: ActiveTouch) -> Touches
             s.places[i] = t;
             return s;
         }
-        i += 1;
     }
     if n >= MAX_TOUCHES {
         return ts;
@@ -98,16 +90,10 @@ fn insert(ts: Touches, t: ActiveTouch) -> Touches
 fn move_to(ts: Touches, t: ActiveTouch) -> Touches
     ensures { list result ≡ move_touch t (list ts) }
 {
-    let n = len(ts);
+    let i = index_of(ts, t.id);
     let mut s = ts;
-    let mut i: usize = 0;
-    while i < n {
-        let x = s.places[i];
-        if x.id == t.id {
-            s.places[i] = t;
-            return s;
-        }
-        i += 1;
+    if i < len(ts) {
+        s.places[i] = t;
     }
     s
 }
@@ -115,17 +101,16 @@ fn move_to(ts: Touches, t: ActiveTouch) -> Touches
 fn remove(ts: Touches, id: u64) -> Touches
     ensures { list result ≡ remove_touch id (list ts) }
 {
+    // an array has no retain: what stays moves down by hand
     let n = len(ts);
     let mut s = ts;
     let mut kept: usize = 0;
-    let mut i: usize = 0;
-    while i < n {
+    for i in 0..n {
         let x = s.places[i];
         if x.id != id {
             s.places[kept] = x;
             kept += 1;
         }
-        i += 1;
     }
     s.count = kept;
     s
@@ -137,12 +122,12 @@ pub fn on_touch(ts: Touches, phase: TouchPhase, t: ActiveTouch) -> Touches
     match phase {
         TouchPhase::Start => insert(ts, t),
         TouchPhase::Move => move_to(ts, t),
-        TouchPhase::End => remove(ts, t.id),
-        TouchPhase::Cancel => remove(ts, t.id),
+        TouchPhase::End | TouchPhase::Cancel => remove(ts, t.id),
     }
 }
 
 // What the first touch event of a device leaves.
+#[tactic(auto, unfolding(crate::specs::Touches::on_touch_if_room, crate::specs::Touches::if_room, model::specs::Touch::on_touch, model::specs::Touch::insert_touch, model::specs::Touch::move_touch, model::specs::Touch::remove_touch))]
 pub fn first(phase: TouchPhase, t: ActiveTouch) -> Touches
     ensures { list result ≡ on_touch_if_room phase t [] }
 {
@@ -151,8 +136,6 @@ pub fn first(phase: TouchPhase, t: ActiveTouch) -> Touches
             count: 1,
             places: [t; MAX_TOUCHES],
         },
-        TouchPhase::Move => none(),
-        TouchPhase::End => none(),
-        TouchPhase::Cancel => none(),
+        TouchPhase::Move | TouchPhase::End | TouchPhase::Cancel => none(),
     }
 }

@@ -43,8 +43,8 @@ fn in_points(viewport_rect: Rect, options: InputOptions, unit: MouseWheelUnit, d
 {
     match unit {
         MouseWheelUnit::Point => delta,
-        MouseWheelUnit::Line => delta.mul(options.line_scroll_speed),
-        MouseWheelUnit::Page => delta.mul(viewport_rect.height()),
+        MouseWheelUnit::Line => delta * options.line_scroll_speed,
+        MouseWheelUnit::Page => delta * viewport_rect.height(),
     }
 }
 
@@ -115,12 +115,12 @@ fn add_delta(is_smooth: bool, delta: Vec2, w: WheelState) -> WheelState
     let mut v = w;
     if is_smooth {
         let old = w.smooth_wheel_delta;
-        let smooth = old.add(delta);
+        let smooth = old + delta;
         v.smooth_wheel_delta = smooth;
         return v;
     }
     let old = w.unprocessed_wheel_delta;
-    let unprocessed = old.add(delta);
+    let unprocessed = old + delta;
     v.unprocessed_wheel_delta = unprocessed;
     v
 }

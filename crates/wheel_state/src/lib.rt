@@ -131,7 +131,7 @@ fn smoothed(t: f32, w: WheelState) -> WheelState
 {
     let old = w.unprocessed_wheel_delta;
     let zero = Vec2::zero();
-    if old.ne(zero) {
+    if old != zero {
         let smooth = w.smooth_wheel_delta;
         let step = Vec2 {
             x: applied(t, old.x),
@@ -141,7 +141,7 @@ fn smoothed(t: f32, w: WheelState) -> WheelState
             x: unapplied(t, old.x),
             y: unapplied(t, old.y),
         };
-        let sum = smooth.add(step);
+        let sum = smooth + step;
         let mut v = w;
         v.unprocessed_wheel_delta = rest;
         v.smooth_wheel_delta = sum;
@@ -155,7 +155,7 @@ fn end_if_still(time: f64, w: WheelState) -> WheelState
 {
     let smooth = w.smooth_wheel_delta;
     let zero = Vec2::zero();
-    if smooth.ne(zero) {
+    if smooth != zero {
         return w;
     }
     end_if_over(w, time)

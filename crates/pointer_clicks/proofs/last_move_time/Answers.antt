@@ -1,19 +1,21 @@
+use Rattle.std.specs.Prelude.{Option, Some}
 use mathlib.Core.Path.{◌≡◌, sym, ◌∙◌}
 use mathlib.Core.Bool.{true, false, or-true}
 use mathlib.Core.List.{List}
 use lib.Ieee.{Float}
 use Rattle.emath.specs.Vec.{vec_zero, vec_ne}
-use Rattle.model.specs.Types.{Vec2, MaybeF64, some_time, PointerEvent}
+use Rattle.emath.proofs.Parts.{not_equal}
+use Rattle.model.specs.Types.{Vec2, PointerEvent}
 use Rattle.model.specs.Pointer.{any, is_move, move_time}
 use Rattle.pointer_events.specs.Events.{asks}
 use Rattle.pointer_clicks.proofs.last_move_time.Goals as goal
 
-module _ (time : Float) (es : List PointerEvent) (v : Vec2) (old : MaybeF64) where
-  by_velocity : vec_ne v vec_zero ≡ true → some_time time ≡ move_time time es v old
+module _ (time : Float) (es : List PointerEvent) (v : Vec2) (old : Option Float) where
+  by_velocity : vec_ne v vec_zero ≡ true → Some time ≡ move_time time es v old
   unfolding move_time
   by_velocity e = rw (e, or-true)
 
-  by_move : any is_move es ≡ true → some_time time ≡ move_time time es v old
+  by_move : any is_move es ≡ true → Some time ≡ move_time time es v old
   unfolding move_time
   by_move e = rw e
 
@@ -22,7 +24,7 @@ module _ (time : Float) (es : List PointerEvent) (v : Vec2) (old : MaybeF64) whe
   by_neither e f = rw (e, f)
 
 pub returns-then-ne : goal.returns-then-ne
-returns-then-ne c ps = by_velocity _ _ _ _ (sym (rw c.zero-zero.ensures at c.ne.ensures) ∙ c.if-ne.true)
+returns-then-ne c ps = by_velocity _ _ _ _ (sym (rw c.zero-zero.ensures at (c.ne.ensures ∙ not_equal c.args.velocity c.zero-zero.result)) ∙ c.if-ne.true)
 
 pub returns-then-any : goal.returns-then-any
 unfolding asks
@@ -32,4 +34,4 @@ pub returns : goal.returns
 unfolding asks
 returns c ps =
     by_neither _ _ _ _ (sym (c.any.ensures ps) ∙ c.if-any.false)
-    (sym (rw c.zero-zero.ensures at c.ne.ensures) ∙ c.if-ne.false)
+    (sym (rw c.zero-zero.ensures at (c.ne.ensures ∙ not_equal c.args.velocity c.zero-zero.result)) ∙ c.if-ne.false)

@@ -1,5 +1,5 @@
 use mathlib.Core.Path.{◌≡◌}
-use Prim.Native.Nat.{◌-◌, ◌≤◌}
+use Prim.Native.Nat.{◌≤◌}
 use mathlib.Core.List.{map}
 use lib.ListN.{length, take, drop}
 use Rattle.model.specs.Touch.{multi_touch}
@@ -8,6 +8,3 @@ use Rattle.touch_questions.proofs.multi_touch.Given as goal
 
 abbrev pub invariant-loop-i : goal.invariant-loop-i
 invariant-loop-i l = (l.i ≤ l.n) × (l.n ≤ length l.a) × (length l.a ≡ 4) × (multi_touch (map device_view (drop l.i (take l.n l.a))) ≡ multi_touch (map device_view (take l.n l.a)))
-
-abbrev pub decreases-loop-i : goal.decreases-loop-i
-decreases-loop-i l = l.n - l.i

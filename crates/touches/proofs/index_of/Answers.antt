@@ -24,4 +24,5 @@ loop-i-preserved c =
 
 pub returns : goal.returns
 returns c =
-    rw (← first_of _ _ _ c.len-n.ensures) (index_ends touch_id_of _ _ _ _ c.loop-i-test.false c.loop-i.invariant.1 ∙ c.loop-i.invariant.3)
+    let e : c.len-n.result ≡ c.loop-i.i = omega arith in
+    rw (← first_of _ _ _ c.len-n.ensures) (e ∙ index_ends touch_id_of _ _ _ _ c.loop-i-test.false c.loop-i.invariant.1 ∙ c.loop-i.invariant.3)

@@ -1,4 +1,4 @@
-use Prim.Native.Nat.{◌+◌, ◌-◌, ◌≤◌}
+use Prim.Native.Nat.{◌+◌, ◌≤◌}
 use mathlib.Core.Path.{◌≡◌}
 use lib.ListN.{length, take, drop}
 use Rattle.data.specs.Limits.{max_touches}
@@ -8,6 +8,3 @@ use Rattle.touches.proofs.index_of.Given as goal
 
 abbrev pub invariant-loop-i : goal.invariant-loop-i
 invariant-loop-i l = (l.i ≤ l.n) × (l.n ≤ length l.a) × (length l.a ≡ max_touches) × (l.i + index touch_id_of l.id (drop l.i (take l.n l.a)) ≡ index touch_id_of l.id (take l.n l.a))
-
-abbrev pub decreases-loop-i : goal.decreases-loop-i
-decreases-loop-i l = l.n - l.i

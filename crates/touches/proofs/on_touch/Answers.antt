@@ -1,4 +1,5 @@
 use mathlib.Core.Path.{◌≡◌, sym}
+use mathlib.Core.Logic.{inl, inr}
 use native.Mathlib.Omega.{arith}
 use lib.ListN.{length, take, length-take}
 use Prim.Native.Nat.{◌≤◌}
@@ -26,12 +27,8 @@ returns-in-End c =
     let ts = c.args.ts in
     let l : length ts.places ≡ max_touches = c.well_formed.0.1.1.1.0.1.0.1 in
     let b : length (take ts.count ts.places) ≤ max_touches = omega (arith, length-take ts.count ts.places) in
-    rw (c.in-End.is, c.remove.ensures) (sym (fits _ _ (omega (arith, length_remove c.args.t.id (take ts.count ts.places)))))
-
-pub returns-in-Cancel : goal.returns-in-Cancel
-unfolding on_touch_if_room on_touch
-returns-in-Cancel c =
-    let ts = c.args.ts in
-    let l : length ts.places ≡ max_touches = c.well_formed.0.1.1.1.0.1.0.1 in
-    let b : length (take ts.count ts.places) ≤ max_touches = omega (arith, length-take ts.count ts.places) in
-    rw (c.in-Cancel.is, c.remove-in-Cancel.ensures) (sym (fits _ _ (omega (arith, length_remove c.args.t.id (take ts.count ts.places)))))
+    let f = sym (fits _ (take ts.count ts.places) (omega (arith, length_remove c.args.t.id (take ts.count ts.places)))) in
+    elim c.in-End.is [
+      | inl e ↦ rw (e, c.remove.ensures) f
+      | inr e ↦ rw (e, c.remove.ensures) f
+    ]

@@ -1,4 +1,4 @@
-use Prim.Native.Nat.{◌-◌, ◌≤◌}
+use Prim.Native.Nat.{◌≤◌}
 use mathlib.Core.Path.{◌≡◌}
 use lib.ListN.{length}
 use Rattle.data.specs.Limits.{max_touches}
@@ -8,6 +8,3 @@ use Rattle.touches.proofs.remove.Given as goal
 abbrev pub invariant-loop-i : goal.invariant-loop-i
 invariant-loop-i l =
     (l.kept ≤ l.i) × (l.i ≤ l.n) × (l.n ≤ max_touches) × (length l.s.places ≡ max_touches) × (held l.id l.n l.s.places l.kept l.i ≡ held l.id l.n l.initial.s.places 0 0)
-
-abbrev pub decreases-loop-i : goal.decreases-loop-i
-decreases-loop-i l = l.n - l.i

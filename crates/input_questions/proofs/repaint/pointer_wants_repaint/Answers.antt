@@ -4,6 +4,7 @@ use mathlib.Core.Bool.{true, false}
 use mathlib.Core.Path.{◌≡◌, refl}
 use native.Mathlib.Omega.{arith}
 use lib.ListN.{length}
+use Rattle.emath.proofs.Parts.{not_equal}
 use Rattle.model.specs.Questions.{some_event}
 use Rattle.model.specs.Types.{PointerEvent}
 use Rattle.pointer_clicks.specs.View.{held}
@@ -29,5 +30,6 @@ returns c cs ps =
     rw (
       none (held cs ps c.args.h).pointer_events (rw (events_length, ← c.counted.ensures) c.if-counted-gt0.false),
       c.ne.ensures,
+      not_equal c.args.delta c.zero-zero.result,
       c.zero-zero.ensures,
     )

@@ -1,4 +1,4 @@
-use Prim.Native.Nat.{◌+◌, ◌-◌, ◌≤◌}
+use Prim.Native.Nat.{◌+◌, ◌≤◌}
 use mathlib.Core.Path.{◌≡◌}
 use lib.ListN.{length, take, drop}
 use Rattle.touches.specs.Touches.{index}
@@ -7,6 +7,3 @@ use Rattle.touch_state.proofs.devices.index_of.Given as goal
 
 abbrev pub invariant-loop-i : goal.invariant-loop-i
 invariant-loop-i l = (l.i ≤ l.n) × (l.n ≤ length l.a) × (length l.a ≡ 4) × (l.i + index self l.id (drop l.i (take l.n l.a)) ≡ index self l.id (take l.n l.a))
-
-abbrev pub decreases-loop-i : goal.decreases-loop-i
-decreases-loop-i l = l.n - l.i

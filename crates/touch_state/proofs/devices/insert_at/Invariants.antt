@@ -1,4 +1,4 @@
-use Prim.Native.Nat.{◌-◌, ◌≤◌, ◌<◌}
+use Prim.Native.Nat.{◌≤◌, ◌<◌}
 use mathlib.Core.Path.{◌≡◌}
 use lib.ListN.{length}
 use Rattle.touches.proofs.Places.{held}
@@ -6,6 +6,3 @@ use Rattle.touch_state.proofs.devices.insert_at.Given as goal
 
 abbrev pub invariant-loop-k : goal.invariant-loop-k
 invariant-loop-k l = (l.k ≤ l.n) × (l.n < 4) × (length l.a ≡ 4) × (held l.n l.a l.carry l.k ≡ held l.n l.initial.a l.initial.carry l.initial.k)
-
-abbrev pub decreases-loop-k : goal.decreases-loop-k
-decreases-loop-k l = l.n - l.k

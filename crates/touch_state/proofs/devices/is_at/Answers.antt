@@ -1,22 +1,9 @@
 use mathlib.Core.Path.{◌≡◌, ◌∙◌, sym}
-use native.Mathlib.Omega.{arith}
-use lib.ListN.{length, length-take}
+use lib.ListN.{length}
 use Rattle.touches.proofs.Upsert.{at_place, at_no}
 use Rattle.touch_state.specs.View.{device_id}
 use Rattle.touch_state.proofs.Ids.{self, at_ids, below}
 use Rattle.touch_state.proofs.devices.is_at.Goals as goal
-
-pub offset_bounds-a-i : goal.offset_bounds-a-i
-offset_bounds-a-i c =
-    let ds = c.args.ds in
-    let l : length ds.places ≡ 4 = c.well_formed.0.1.1.1.0.1.0.1 in
-    omega (arith, c.if-i-len.true, c.len.ensures, length-take ds.count ds.places)
-
-pub bounds-a-i : goal.bounds-a-i
-bounds-a-i c =
-    let ds = c.args.ds in
-    let l : length ds.places ≡ 4 = c.well_formed.0.1.1.1.0.1.0.1 in
-    omega (arith, c.if-i-len.true, c.len.ensures, length-take ds.count ds.places)
 
 pub returns-then-i-len : goal.returns-then-i-len
 returns-then-i-len c =

@@ -1,8 +1,7 @@
-use mathlib.Core.Path.{◌≡◌, ◌∙◌, sym, ap}
-use native.Mathlib.Omega.{arith}
+use Rattle.std.specs.Prelude.{None}
+use mathlib.Core.Path.{◌∙◌, sym, ap}
 use mathlib.Core.List.{[]}
-use lib.ListN.{length, length-take, length-map}
-use Rattle.model.specs.Types.{no_gesture}
+use lib.ListN.{length-map}
 use Rattle.model.specs.Touch.{no_place}
 use Rattle.touch_device.specs.declared.Device.{Device}
 use Rattle.touch_state.proofs.Known.{found_at, lost_at}
@@ -10,23 +9,11 @@ use Rattle.touch_state.proofs.devices.no_place.Goals as goal
 
 -- what `get_or` answers past the end
 nothing : Device
-nothing = record { id = 0; touches = record { count = 0; places = [] }; gesture_state = no_gesture }
+nothing = record { id = 0; touches = record { count = 0; places = [] }; gesture_state = None }
 
 pub returns-then-n-i : goal.returns-then-n-i
 unfolding no_place
 returns-then-n-i c = rw (lost_at _ c.args.ds.count _ c.args.ds.places c.index_of-i.ensures (rw c.len-n.ensures at c.if-n-i.true), length-map, c.len-n.ensures)
-
-pub offset_bounds-a-i : goal.offset_bounds-a-i
-offset_bounds-a-i c =
-    let ds = c.args.ds in
-    let l : length ds.places ≡ 4 = c.well_formed.0.1.1.1.0.1.0.1 in
-    omega (arith, c.if-n-i.false, c.len-n.ensures, length-take ds.count ds.places)
-
-pub bounds-a-i : goal.bounds-a-i
-bounds-a-i c =
-    let ds = c.args.ds in
-    let l : length ds.places ≡ 4 = c.well_formed.0.1.1.1.0.1.0.1 in
-    omega (arith, c.if-n-i.false, c.len-n.ensures, length-take ds.count ds.places)
 
 pub returns-then-is_start : goal.returns-then-is_start
 unfolding no_place

@@ -26,5 +26,6 @@ loop-i-preserved c =
 pub returns : goal.returns
 returns c =
     let ds = c.args.ds in
-    place_ends self _ _ _ _ c.loop-i-test.false c.loop-i.invariant.1
+    let e : c.len-n.result ≡ c.loop-i.i = omega arith in
+    e ∙ place_ends self _ _ _ _ c.loop-i-test.false c.loop-i.invariant.1
     ∙ c.loop-i.invariant.3 ∙ place_ids _ ds.count _ ds.places _ c.len-n.ensures c.ids-a.ensures
