@@ -1,5 +1,5 @@
 -- One insertion on the set's own arrays: what it answers, the set after it, every place of the three arrays, and what becomes of the lent slice. Here of a new widget.
-use Rattle.std.specs.Prelude.{ℕ, ◌+◌, ◌-◌, ◌*◌, cond, ◌≡◌, List, [], ◌∷◌, leb, ltb, eqb, Float, set}
+use Rattle.std.specs.Prelude.{ℕ, ◌+◌, ◌-◌, ◌*◌, cond, ◌≡◌, List, [], ◌∷◌, leb, ltb, eqb, Float, set, Ok, Err}
 use Rattle.data.specs.Limits.{max_widgets, max_layers}
 use Rattle.data.specs.declared.widget.WidgetRect.{WidgetRect}
 use Rattle.data.specs.declared.refusal.InsertRefusal.{InsertRefusal}
@@ -8,7 +8,6 @@ use Rattle.model.specs.Widgets.{move_to_end}
 use Rattle.widget_index.specs.declared.table.WidgetRects.{WidgetRects}
 use Rattle.widget_index.specs.Layout.{stores, parents, layer_ids, links, places, traits, orders, counts, place, count_at, packed}
 use Rattle.widget_index.specs.Table.{layers_of, bucket, head, find_layer}
-use Rattle.widget_append.specs.declared.Inserted.TheVariants.{Refused, Taken}
 use Rattle.widget_append.specs.declared.Decision.{Decision}
 
 -- the decision, and the arrays after it
@@ -31,7 +30,7 @@ settled from to w slice = cond (ltb from to) (move_to_end from to w slice) slice
 
 -- all as before
 abbrev pub refuse : WidgetRects → WidgetRect → InsertRefusal → Decision
-refuse h w why = record { answer = Refused why; «set» = h; from = 0; to = 0; widget = w }
+refuse h w why = record { answer = Err why; «set» = h; from = 0; to = 0; widget = w }
 
 -- ---- stores of one record
 
@@ -71,7 +70,7 @@ append h words numbers edges w l count =
     record {
       decision =
           record {
-            answer = Taken count (count + 1);
+            answer = Ok (record { position = count; count = count + 1 });
             «set» = record { widgets = h.widgets + 1; layers = layers_after h.layers l };
             from = count;
             to = count + 1;

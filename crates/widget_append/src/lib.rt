@@ -2,8 +2,10 @@
 #![tactic(auto)]
 
 ghost use Rattle.std.specs.Prelude.{◌≡◌, ◌<◌, ◌≤◌};
+ghost use Rattle.widget_index.specs.Table.{find_layer};
 ghost use Rattle.widget_append.specs.Append.{Gives, refuse, with_edges, with_traits, number_of, count_of, layers_after, append, insert_new};
 
+use data::layers::LayerId;
 use data::limits::{MAX_LAYERS, MAX_WIDGETS};
 use data::refusal::InsertRefusal;
 use data::widget::WidgetRect;
@@ -13,17 +15,17 @@ use widget_index::table::{
     count_at, layers_of, packed, place,
 };
 
-// An insertion's answer: why it is refused; or the widget's position, and how many widgets its layer has now.
+// Where an insertion put the widget: its position in its layer, and how many widgets the layer has now.
 #[derive(Clone, Copy)]
-pub enum Inserted {
-    Refused(InsertRefusal),
-    Taken(usize, usize),
+pub struct Insertion {
+    pub position: usize,
+    pub count: usize,
 }
 
 // What is to be done: in the lent slice, the record at `from` goes, each after it up to `to` falls by one, and `widget` comes last.
 #[derive(Clone, Copy)]
 pub struct Decision {
-    pub answer: Inserted,
+    pub answer: Result<Insertion, InsertRefusal>,
     pub set: WidgetRects,
     pub from: usize,
     pub to: usize,
@@ -34,7 +36,7 @@ pub fn refuse(h: WidgetRects, w: WidgetRect, why: InsertRefusal) -> Decision
     ensures { result ≡ refuse h w why }
 {
     Decision {
-        answer: Inserted::Refused(why),
+        answer: Err(why),
         set: h,
         from: 0,
         to: 0,
@@ -48,20 +50,14 @@ pub fn put_edges(edges: &mut Edges, s: usize, w: WidgetRect)
     requires { s < 1024 }
     ensures { edges.new ≡ with_edges s w edges.old }
 {
-    let rect = w.rect;
-    let min = rect.min;
-    let max = rect.max;
-    let interact_rect = w.interact_rect;
-    let interact_min = interact_rect.min;
-    let interact_max = interact_rect.max;
-    edges[s * 8] = min.x;
-    edges[s * 8 + 1] = min.y;
-    edges[s * 8 + 2] = max.x;
-    edges[s * 8 + 3] = max.y;
-    edges[s * 8 + 4] = interact_min.x;
-    edges[s * 8 + 5] = interact_min.y;
-    edges[s * 8 + 6] = interact_max.x;
-    edges[s * 8 + 7] = interact_max.y;
+    edges[s * 8] = w.rect.min.x;
+    edges[s * 8 + 1] = w.rect.min.y;
+    edges[s * 8 + 2] = w.rect.max.x;
+    edges[s * 8 + 3] = w.rect.max.y;
+    edges[s * 8 + 4] = w.interact_rect.min.x;
+    edges[s * 8 + 5] = w.interact_rect.min.y;
+    edges[s * 8 + 6] = w.interact_rect.max.x;
+    edges[s * 8 + 7] = w.interact_rect.max.y;
 }
 
 pub fn put_traits(numbers: &mut Numbers, s: usize, w: WidgetRect)
@@ -73,26 +69,20 @@ pub fn put_traits(numbers: &mut Numbers, s: usize, w: WidgetRect)
 
 // ---- a new widget
 
-fn number_of(e: usize, n: usize) -> usize
-    requires { (e ≤ n) × (n ≤ 32) }
-    ensures { (result ≡ number_of e n) × (result ≤ 32) }
+// The number of the layer among n, and how many widgets it has: a new layer comes last, with none.
+#[tactic(auto, unfolding(crate::specs::Append::number_of, crate::specs::Append::count_of))]
+fn layer_for(words: &Words, numbers: &Numbers, layer: LayerId, n: usize) -> (usize, usize)
+    requires { n ≤ 32 }
+    ensures number { (result.0 ≡ number_of (find_layer words.now numbers.now layer n) n) × (result.0 ≤ 32) }
+    ensures counted { (result.1 ≡ count_of numbers.now (find_layer words.now numbers.now layer n)) × (result.1 < 2048) }
 {
-    if e == 0 {
-        return n;
+    match find_layer(words, numbers, layer, n) {
+        Some(l) => (l, count_at(numbers, l)),
+        None => (n, 0),
     }
-    e - 1
 }
 
-fn count_of(numbers: &Numbers, e: usize) -> usize
-    requires { e ≤ 32 }
-    ensures { (result ≡ count_of numbers.now e) × (result < 2048) }
-{
-    if e == 0 {
-        return 0;
-    }
-    count_at(numbers, e - 1)
-}
-
+#[tactic(auto, unfolding(crate::specs::Append::layers_after))]
 fn layers_after(n: usize, l: usize) -> usize
     requires { l < 32 }
     ensures { result ≡ layers_after n l }
@@ -117,17 +107,16 @@ fn append(
     ensures { Gives (append h words.old numbers.old edges.old w l count) result words.new numbers.new edges.new }
 {
     let s = h.widgets;
-    let layer = w.layer_id;
     let e = head(h, words, numbers, w.id);
     let b = bucket(w.id);
     let p = place(l, count);
     words[s] = w.id;
     words[PARENTS + s] = w.parent_id;
-    words[LAYER_IDS + l] = layer.id;
+    words[LAYER_IDS + l] = w.layer_id.id;
     numbers[LINKS + s] = e as u32;
     numbers[b] = (s + 1) as u32;
     numbers[PLACES + s] = p;
-    numbers[ORDERS + l] = layer.order;
+    numbers[ORDERS + l] = w.layer_id.order;
     numbers[COUNTS + l] = (count + 1) as u32;
     put_traits(numbers, s, w);
     put_edges(edges, s, w);
@@ -136,8 +125,11 @@ fn append(
         layers: layers_after(h.layers, l),
     };
     Decision {
-        answer: Inserted::Taken(count, count + 1),
-        set: set,
+        answer: Ok(Insertion {
+            position: count,
+            count: count + 1,
+        }),
+        set,
         from: count,
         to: count + 1,
         widget: w,
@@ -158,14 +150,10 @@ pub fn insert_new(
     if MAX_WIDGETS <= h.widgets {
         return refuse(h, w, InsertRefusal::Full);
     }
-    let layer = w.layer_id;
-    let n = layers_of(h);
-    let e = find_layer(words, numbers, layer, n);
-    let l = number_of(e, n);
+    let (l, count) = layer_for(words, numbers, w.layer_id, layers_of(h));
     if MAX_LAYERS <= l {
         return refuse(h, w, InsertRefusal::Full);
     }
-    let count = count_of(numbers, e);
     if lent < count + 1 {
         return refuse(h, w, InsertRefusal::ShortSlice);
     }

@@ -1,12 +1,17 @@
 -- Where a number stands in the three lent arrays: `words` (u64), `numbers` (u32) and `edges` (f32).
 -- A slot is a widget's place in the order of first insertion. An entry is a slot plus one, and 0 is no slot.
-use Rattle.std.specs.Prelude.{ℕ, ◌+◌, ◌*◌, ◌/◌, ◌%◌, Bool, true, false, cond, List, [], ◌∷◌, leb, eqb, Float, get_or, set}
+use Rattle.std.specs.Prelude.{ℕ, suc, ◌+◌, ◌*◌, ◌/◌, ◌%◌, Bool, true, false, cond, List, [], ◌∷◌, leb, eqb, Float, Option, None, Some, get_or, set}
 use Rattle.std.specs.Float.{nan}
 
 -- stores, one after the other, each an index and what is put there
 abbrev pub stores : {A : Type 0} → List A → List (ℕ × A) → List A
 stores xs [] = xs
 stores xs (i-a ∷ rest) = stores (set xs i-a.0 i-a.1) rest
+
+-- the entry of a slot, if there is one
+abbrev pub entry_of : Option ℕ → ℕ
+entry_of None = 0
+entry_of (Some s) = suc s
 
 -- ids fall into as many buckets
 abbrev pub buckets : ℕ

@@ -1,9 +1,10 @@
 // The widget set: a header by value, and its table in three lent arrays of numbers. Fresh arrays may hold anything.
 ghost use Rattle.std.specs.Prelude.{◌≡◌, ◌<◌, ◌≤◌, Float};
 ghost use Rattle.model.specs.Widgets.{same_layer};
-ghost use Rattle.widget_index.specs.Layout.{id_at, link_at, place_at, layer_of, position_of, place, count_at, packed, sense_of, enabled_of, visible_of, bit};
-ghost use Rattle.widget_index.specs.Table.{at_most, widgets_of, layers_of, layer_at, rect_at, widget_at, trait_at, bucket, head};
+ghost use Rattle.widget_index.specs.Layout.{id_at, link_at, place_at, layer_of, position_of, place, count_at, packed, sense_of, enabled_of, visible_of};
+ghost use Rattle.widget_index.specs.Table.{widgets_of, layers_of, layer_at, rect_at, widget_at, trait_at, bucket, head};
 
+use data::bits::bit_number;
 use data::layers::LayerId;
 use data::limits::{MAX_LAYERS, MAX_WIDGETS};
 use data::widget::WidgetRect;
@@ -50,33 +51,21 @@ pub const EDGES: usize = 8 * MAX_WIDGETS;
 
 pub type Edges = [f32; EDGES];
 
-pub fn wide(x: u32) -> usize
-    ensures { result ≡ x }
-{
-    x as usize
-}
-
-fn at_most(limit: usize, n: usize) -> usize
-    ensures { (result ≡ at_most limit n) × (result ≤ limit) }
-{
-    if n <= limit {
-        return n;
-    }
-    limit
-}
-
+#[tactic(auto, unfolding(crate::specs::Table::at_most))]
 pub fn widgets_of(h: WidgetRects) -> usize
     ensures { (result ≡ widgets_of h) × (result ≤ 1024) }
 {
-    at_most(MAX_WIDGETS, h.widgets)
+    h.widgets.min(MAX_WIDGETS)
 }
 
+#[tactic(auto, unfolding(crate::specs::Table::at_most))]
 pub fn layers_of(h: WidgetRects) -> usize
     ensures { (result ≡ layers_of h) × (result ≤ 32) }
 {
-    at_most(MAX_LAYERS, h.layers)
+    h.layers.min(MAX_LAYERS)
 }
 
+#[tactic(auto, unfolding(model::specs::Widgets::same_layer))]
 pub fn same_layer(a: LayerId, b: LayerId) -> bool
     ensures { result ≡ same_layer a b }
 {
@@ -96,13 +85,13 @@ pub fn layer_at(words: &Words, numbers: &Numbers, l: usize) -> LayerId
 pub fn layer_of(place: u32) -> usize
     ensures { (result ≡ layer_of place) × (result < 32) }
 {
-    wide(place / SPAN % 32)
+    (place / SPAN % 32) as usize
 }
 
 pub fn position_of(place: u32) -> usize
     ensures { (result ≡ position_of place) × (result < 2048) }
 {
-    wide(place % SPAN)
+    (place % SPAN) as usize
 }
 
 pub fn place(layer: usize, position: usize) -> u32
@@ -116,22 +105,13 @@ pub fn count_at(numbers: &Numbers, l: usize) -> usize
     requires { l < 32 }
     ensures { (result ≡ count_at numbers.now l) × (result < 2048) }
 {
-    wide(numbers[COUNTS + l] % SPAN)
-}
-
-pub fn bit(b: bool) -> u32
-    ensures { (result ≡ bit b) × (result ≤ 1) }
-{
-    if b {
-        return 1;
-    }
-    0
+    (numbers[COUNTS + l] % SPAN) as usize
 }
 
 pub fn packed(sense: u32, enabled: bool, visible: bool) -> u32
     ensures { result ≡ packed sense enabled visible }
 {
-    sense % 8 * 4 + bit(enabled) * 2 + bit(visible)
+    sense % 8 * 4 + bit_number(enabled) * 2 + bit_number(visible)
 }
 
 fn rect_at(edges: &Edges, s: usize, j: usize) -> Rect
@@ -146,7 +126,7 @@ fn rect_at(edges: &Edges, s: usize, j: usize) -> Rect
         x: edges[s * 8 + (j + 2)],
         y: edges[s * 8 + (j + 3)],
     };
-    Rect { min: min, max: max }
+    Rect { min, max }
 }
 
 // The record of a slot.
@@ -161,9 +141,9 @@ pub fn widget_at(words: &Words, numbers: &Numbers, edges: &Edges, s: usize) -> W
     WidgetRect {
         id: words[s],
         parent_id: words[PARENTS + s],
-        layer_id: layer_id,
-        rect: rect,
-        interact_rect: interact_rect,
+        layer_id,
+        rect,
+        interact_rect,
         sense: traits / 4,
         enabled: traits / 2 % 2 == 1,
         visible: traits % 2 == 1,

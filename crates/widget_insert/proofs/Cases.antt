@@ -1,12 +1,13 @@
 -- The definitions of specs/Insert.antt, case by case: which tests lead to which outcome. Assumes nothing.
+use Rattle.std.specs.Prelude.{None, Some}
 use mathlib.Core.Path.{◌≡◌, refl}
-use Prim.Native.Nat.{ℕ, ◌+◌, ◌-◌}
+use Prim.Native.Nat.{ℕ, suc, ◌+◌, ◌-◌}
+use native.Mathlib.Omega.{arith}
 use mathlib.Core.Bool.{Bool, true, false}
-use mathlib.Core.Option.{none, some}
 use mathlib.Core.List.{List}
-use lib.Dec.{ltb}
+use lib.Dec.{ltb, eqb-suc-zero}
 use lib.Ieee.{Float}
-use borrow.Author.Tests.{eq-eqb, ne_eqb}
+use borrow.Author.Tests.{eq-eqb}
 use Rattle.data.specs.declared.widget.WidgetRect.{WidgetRect}
 use Rattle.data.specs.declared.refusal.InsertRefusal.{InsertRefusal}
 use Rattle.data.specs.declared.refusal.InsertRefusal.TheVariants.{OtherLayer, ShortSlice}
@@ -70,14 +71,14 @@ module _ (h : WidgetRects) (words numbers : List ℕ) (edges : List Float) (lent
     unfolding insert_checked
     is_new e = rw (eq-eqb _ _ e)
 
-    pub is_known : (e : ℕ) → find h words numbers w.id ≡ e → (e ≡ 0 → ⊥) → insert_checked h words numbers edges lent w top ≡ insert_known h words numbers edges lent w (e - 1) top
+    pub is_known : (s : ℕ) → find h words numbers w.id ≡ suc s → insert_checked h words numbers edges lent w top ≡ insert_known h words numbers edges lent w s top
     unfolding insert_checked
-    is_known e found other = rw (found, ne_eqb _ _ other)
+    is_known s found = let one : suc s - 1 ≡ s = omega arith in rw (found, eqb-suc-zero, one)
 
-    pub refuses : (why : InsertRefusal) → record_refusal w ≡ some why → decide h words numbers edges lent w top ≡ as_is why
+    pub refuses : (why : InsertRefusal) → record_refusal w ≡ Some why → decide h words numbers edges lent w top ≡ as_is why
     unfolding decide decide_unless
     refuses why e = rw e
 
-    pub checks : record_refusal w ≡ none → decide h words numbers edges lent w top ≡ insert_checked h words numbers edges lent w top
+    pub checks : record_refusal w ≡ None → decide h words numbers edges lent w top ≡ insert_checked h words numbers edges lent w top
     unfolding decide decide_unless
     checks e = rw e

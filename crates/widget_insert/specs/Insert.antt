@@ -1,6 +1,5 @@
 -- One insertion on the set's own arrays: of a known widget, and of any.
-use Rattle.std.specs.Prelude.{ℕ, zero, suc, ◌+◌, ◌-◌, Bool, cond, List, ltb, eqb, Float, get_or, set}
-use Rattle.std.proofs.Math.Option.{Option, none, some}
+use Rattle.std.specs.Prelude.{ℕ, zero, suc, ◌+◌, ◌-◌, Bool, cond, List, ltb, eqb, Float, get_or, set, Option, None, Some, Ok}
 use Rattle.data.specs.declared.widget.WidgetRect.{WidgetRect}
 use Rattle.data.specs.declared.refusal.InsertRefusal.{InsertRefusal}
 use Rattle.data.specs.declared.refusal.InsertRefusal.TheVariants.{OtherLayer, ShortSlice}
@@ -8,7 +7,6 @@ use Rattle.model.specs.Widgets.{same_layer, updated, record_refusal}
 use Rattle.widget_index.specs.declared.table.WidgetRects.{WidgetRects}
 use Rattle.widget_index.specs.Layout.{places, span, place_at, layer_of, position_of, place, count_at}
 use Rattle.widget_index.specs.Table.{widgets_of, widget_at, find}
-use Rattle.widget_append.specs.declared.Inserted.TheVariants.{Taken}
 use Rattle.widget_append.specs.declared.Decision.{Decision}
 use Rattle.widget_append.specs.Append.{Outcome, unchanged, refuse, with_edges, with_traits, insert_new}
 
@@ -30,7 +28,7 @@ unfoldable pub at_least : ℕ → ℕ → ℕ
 at_least low n = cond (ltb n low) low n
 
 abbrev pub take_update : WidgetRects → ℕ → ℕ → ℕ → ℕ → WidgetRect → Decision
-take_update h position count from to w = record { answer = Taken position count; «set» = h; from = from; to = to; widget = w }
+take_update h position count from to w = record { answer = Ok (record { position = position; count = count }); «set» = h; from = from; to = to; widget = w }
 
 unfoldable pub replace : WidgetRects → List ℕ → List ℕ → List Float → WidgetRect → ℕ → ℕ → ℕ → Outcome
 replace h words numbers edges w s position count =
@@ -76,8 +74,8 @@ insert_checked h words numbers edges lent w top =
     cond (eqb e 0) (insert_new h words numbers edges lent w) (insert_known h words numbers edges lent w (e - 1) top)
 
 unfoldable pub decide_unless : Option InsertRefusal → WidgetRects → List ℕ → List ℕ → List Float → ℕ → WidgetRect → Bool → Outcome
-decide_unless (some why) h words numbers edges lent w top = unchanged (refuse h w why) words numbers edges
-decide_unless none h words numbers edges lent w top = insert_checked h words numbers edges lent w top
+decide_unless (Some why) h words numbers edges lent w top = unchanged (refuse h w why) words numbers edges
+decide_unless None h words numbers edges lent w top = insert_checked h words numbers edges lent w top
 
 -- with `lent` places in the slice
 unfoldable pub decide : WidgetRects → List ℕ → List ℕ → List Float → ℕ → WidgetRect → Bool → Outcome

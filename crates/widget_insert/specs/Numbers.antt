@@ -1,9 +1,7 @@
 -- Which Option of the model an enum's case is.
-use Rattle.std.proofs.Math.Option.{Option, none, some}
+use Rattle.std.specs.Prelude.{Option, None, Some, Ok, Err, Result, ⊤}
 use Rattle.data.specs.declared.refusal.InsertRefusal.{InsertRefusal}
-use Rattle.widget_insert.specs.declared.MaybeInsertRefusal.{MaybeInsertRefusal}
-use Rattle.widget_insert.specs.declared.MaybeInsertRefusal.TheVariants.{None, Some}
 
-unfoldable pub refusal_of : MaybeInsertRefusal → Option InsertRefusal
-refusal_of None = none
-refusal_of (Some why) = some why
+unfoldable pub refusal_of : Result ⊤ InsertRefusal → Option InsertRefusal
+refusal_of (Ok tt) = None
+refusal_of (Err why) = Some why

@@ -13,111 +13,95 @@ use data::refusal::InsertRefusal;
 use data::sense::{bitor, sense_ok};
 use data::widget::WidgetRect;
 use domain::rect_ok;
-use widget_append::{Decision, Inserted, insert_new, put_edges, put_traits, refuse};
+use widget_append::{Decision, Insertion, insert_new, put_edges, put_traits, refuse};
 use widget_index::index::find;
 use widget_index::table::{
     Edges, Numbers, PLACES, WidgetRects, Words, count_at, layer_of, place, position_of, same_layer,
     widget_at, widgets_of,
 };
 
-// Option<InsertRefusal>
-#[derive(Clone, Copy)]
-pub enum MaybeInsertRefusal {
-    None,
-    Some(InsertRefusal),
-}
-
 // ---- refusals 1, 9, 2
 
+#[tactic(auto, unfolding(model::specs::Widgets::well_shaped))]
 fn well_shaped(w: WidgetRect) -> bool
     ensures { result ≡ well_shaped w }
 {
-    let layer = w.layer_id;
-    (layer.order <= MAX_ORDER) & sense_ok(w.sense)
+    (w.layer_id.order <= MAX_ORDER) & sense_ok(w.sense)
 }
 
+#[tactic(auto, unfolding(model::specs::Widgets::some_id_zero))]
 fn some_id_zero(w: WidgetRect) -> bool
     ensures { result ≡ some_id_zero w }
 {
-    let layer = w.layer_id;
-    (w.id == 0) | ((w.parent_id == 0) | (layer.id == 0))
+    (w.id == 0) | ((w.parent_id == 0) | (w.layer_id.id == 0))
 }
 
+#[tactic(auto, unfolding(model::specs::Widgets::edges_ok))]
 fn edges_ok(w: WidgetRect) -> bool
     ensures { result ≡ edges_ok w }
 {
-    let rect = w.rect;
-    let interact_rect = w.interact_rect;
-    rect_ok(rect) & rect_ok(interact_rect)
+    rect_ok(w.rect) & rect_ok(w.interact_rect)
 }
 
-fn record_refusal(w: WidgetRect) -> MaybeInsertRefusal
+#[tactic(auto, unfolding(model::specs::Widgets::record_refusal, crate::specs::Numbers::refusal_of))]
+fn record_refusal(w: WidgetRect) -> Result<(), InsertRefusal>
     ensures { refusal_of result ≡ record_refusal w }
 {
     if !well_shaped(w) {
-        return MaybeInsertRefusal::Some(InsertRefusal::Malformed);
+        return Err(InsertRefusal::Malformed);
     }
     if some_id_zero(w) {
-        return MaybeInsertRefusal::Some(InsertRefusal::ZeroId);
+        return Err(InsertRefusal::ZeroId);
     }
     if edges_ok(w) {
-        return MaybeInsertRefusal::None;
+        return Ok(());
     }
-    MaybeInsertRefusal::Some(InsertRefusal::OutsideDomain)
+    Err(InsertRefusal::OutsideDomain)
 }
 
 // ---- a known widget
 
 // A known id takes the new rectangles and the union of sense, enabled and visible.
+#[tactic(auto, unfolding(model::specs::Widgets::updated))]
 fn updated(old: WidgetRect, new: WidgetRect) -> WidgetRect
     ensures { result ≡ updated old new }
 {
-    let layer_id = old.layer_id;
-    let rect = new.rect;
-    let interact_rect = new.interact_rect;
     WidgetRect {
-        id: old.id,
-        parent_id: old.parent_id,
-        layer_id: layer_id,
-        rect: rect,
-        interact_rect: interact_rect,
+        rect: new.rect,
+        interact_rect: new.interact_rect,
         sense: bitor(old.sense, new.sense),
         enabled: old.enabled | new.enabled,
         visible: old.visible | new.visible,
+        ..old
     }
 }
 
+#[tactic(auto, unfolding(crate::specs::Insert::fallen))]
 fn fallen(after: u32, before: u32, p: u32) -> u32
     ensures { result ≡ fallen after before p }
 {
-    if after < p {
-        if p < before {
-            return p - 1;
-        }
-        return p;
+    if after < p && p < before {
+        return p - 1;
     }
     p
 }
 
 // Every later position of the layer falls by one.
+#[tactic(auto, unfolding(crate::specs::Insert::fall))]
 fn fall(numbers: &mut Numbers, n: usize, after: u32, before: u32)
     requires { n ≤ 1024 }
     ensures { numbers.new ≡ fall n after before numbers.old }
 {
-    let mut s: usize = 0;
-    while s < n {
+    for s in 0..n {
         numbers[PLACES + s] = fallen(after, before, numbers[PLACES + s]);
-        s += 1;
     }
 }
 
+#[tactic(auto, unfolding(crate::specs::Insert::at_least))]
 fn at_least(low: usize, n: usize) -> usize
     ensures { (result ≡ at_least low n) × (low ≤ result) × (low ≤ 2048 → n ≤ 2048 → result ≤ 2048) }
 {
-    if n < low {
-        return low;
-    }
-    n
+    n.max(low)
 }
 
 fn take_update(
@@ -131,10 +115,10 @@ fn take_update(
     ensures { result ≡ take_update h position count from to w }
 {
     Decision {
-        answer: Inserted::Taken(position, count),
+        answer: Ok(Insertion { position, count }),
         set: h,
-        from: from,
-        to: to,
+        from,
+        to,
         widget: w,
     }
 }
@@ -156,6 +140,7 @@ fn replace(
     take_update(h, position, count, position, position + 1, w)
 }
 
+#[tactic(auto, unfolding(crate::specs::Insert::moved_numbers))]
 fn move_to_top(
     h: WidgetRects,
     numbers: &mut Numbers,
@@ -194,9 +179,7 @@ fn insert_known(
     ensures { Gives (insert_known h words.now numbers.old edges.old lent w s top) result words.now numbers.new edges.new }
 {
     let old = widget_at(words, numbers, edges, s);
-    let layer = w.layer_id;
-    let old_layer = old.layer_id;
-    if !same_layer(layer, old_layer) {
+    if !same_layer(w.layer_id, old.layer_id) {
         return refuse(h, w, InsertRefusal::OtherLayer);
     }
     let p = numbers[PLACES + s];
@@ -226,11 +209,10 @@ fn insert_checked(
 ) -> Decision
     ensures { Gives (insert_checked h words.old numbers.old edges.old lent w top) result words.new numbers.new edges.new }
 {
-    let e = find(h, words, numbers, w.id);
-    if e == 0 {
-        return insert_new(h, words, numbers, edges, lent, w);
+    match find(h, words, numbers, w.id) {
+        None => insert_new(h, words, numbers, edges, lent, w),
+        Some(s) => insert_known(h, words, numbers, edges, lent, w, s, top),
     }
-    insert_known(h, words, numbers, edges, lent, w, e - 1, top)
 }
 
 // Decides an insertion with `lent` places in the slice, and does it in the set. Refused, all is as before.
@@ -245,9 +227,8 @@ pub fn decide(
 ) -> Decision
     ensures { Gives (decide h words.old numbers.old edges.old lent w top) result words.new numbers.new edges.new }
 {
-    let refusal = record_refusal(w);
-    match refusal {
-        MaybeInsertRefusal::Some(why) => refuse(h, w, why),
-        MaybeInsertRefusal::None => insert_checked(h, words, numbers, edges, lent, w, top),
+    match record_refusal(w) {
+        Err(why) => refuse(h, w, why),
+        Ok(()) => insert_checked(h, words, numbers, edges, lent, w, top),
     }
 }

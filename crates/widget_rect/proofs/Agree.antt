@@ -1,10 +1,10 @@
 -- For a well-formed set, what `decide` leaves is what the model's `insert` leaves, and the set is well-formed again. Assumes nothing.
+use Rattle.std.specs.Prelude.{Option, None, Some}
 use mathlib.Core.Path.{◌≡◌, refl, sym, ◌∙◌, ap}
 use Prim.Native.Nat.{ℕ, zero, suc, ◌+◌, ◌-◌, ◌<◌, ◌≤◌}
 use native.Mathlib.Omega.{arith}
 use native.Mathlib.Numerals.{add-one}
 use mathlib.Core.Bool.{Bool, true, false, cond}
-use mathlib.Core.Option.{Option, none, some}
 use mathlib.Core.List.{List, [], ◌∷◌, ◌++◌, map}
 use lib.Dec.{leb, ltb, eqb-suc-zero}
 use lib.Ieee.{Float}
@@ -83,16 +83,16 @@ module _ (h : WidgetRects) (words numbers : List ℕ) (edges : List Float) (slic
   right e r = rw e r
 
   -- ---- the model's cases
-  model_refuses : (why : InsertRefusal) → record_refusal w ≡ some why → M.insert top was slice w ≡ M.refused why
+  model_refuses : (why : InsertRefusal) → record_refusal w ≡ Some why → M.insert top was slice w ≡ M.refused why
   unfolding M.insert M.insert_refusal M.insert_unless or_else
   model_refuses why e = rw e
 
-  module _ (shaped : record_refusal w ≡ none) where
-    model_later : (k : Option Known) (why : InsertRefusal) → M.find_known w.id was.by_id ≡ k → M.known_refusal was lent w k ≡ some why → M.insert top was slice w ≡ M.refused why
+  module _ (shaped : record_refusal w ≡ None) where
+    model_later : (k : Option Known) (why : InsertRefusal) → M.find_known w.id was.by_id ≡ k → M.known_refusal was lent w k ≡ Some why → M.insert top was slice w ≡ M.refused why
     unfolding M.insert M.insert_refusal M.insert_unless or_else
     model_later k why e f = rw (shaped, e, f)
 
-    model_takes : (k : Option Known) → M.find_known w.id was.by_id ≡ k → M.known_refusal was lent w k ≡ none → M.insert top was slice w ≡ M.inserted (M.insert_by k top was slice w)
+    model_takes : (k : Option Known) → M.find_known w.id was.by_id ≡ k → M.known_refusal was lent w k ≡ None → M.insert top was slice w ≡ M.inserted (M.insert_by k top was slice w)
     unfolding M.insert M.insert_refusal M.insert_unless or_else
     model_takes k e f = rw (shaped, e, f) (ap (λ x. M.inserted (M.insert_by x top was slice w)) e)
 
@@ -112,8 +112,8 @@ module _ (h : WidgetRects) (words numbers : List ℕ) (edges : List Float) (slic
   all_layers = unclamped max_layers h.layers wf.layers_fit
 
   -- ---- a new widget
-  module _ (shaped : record_refusal w ≡ none) (unknown : find h words numbers w.id ≡ 0) where
-    nothing_known : M.find_known w.id was.by_id ≡ none
+  module _ (shaped : record_refusal w ≡ None) (unknown : find h words numbers w.id ≡ 0) where
+    nothing_known : M.find_known w.id was.by_id ≡ None
     nothing_known = finds_known h words numbers wf w.id edges ∙ ap (at_entry (known_at words numbers edges)) unknown
 
     -- the widget's layer: its entry, its number, its count
@@ -131,14 +131,14 @@ module _ (h : WidgetRects) (words numbers : List ℕ) (edges : List Float) (slic
       layer_counted : count_of numbers (find_layer words numbers w.layer_id (layers_of h)) ≡ count
       layer_counted = ap (count_of numbers) layer_found ∙ counted
 
-      refuses : (why : InsertRefusal) → M.known_refusal was lent w none ≡ some why → Right (unchanged (refuse h w why) words numbers edges)
-      refuses why r = refused_right why (model_later shaped none why nothing_known r)
+      refuses : (why : InsertRefusal) → M.known_refusal was lent w None ≡ Some why → Right (unchanged (refuse h w why) words numbers edges)
+      refuses why r = refused_right why (model_later shaped None why nothing_known r)
 
-      full_refusal : M.full was (M.find_layer w.layer_id was.by_layer) ≡ true → M.known_refusal was lent w none ≡ some Full
+      full_refusal : M.full was (M.find_layer w.layer_id was.by_layer) ≡ true → M.known_refusal was lent w None ≡ Some Full
       unfolding M.known_refusal
       full_refusal e' = rw e'
 
-      short_refusal : M.full was (M.find_layer w.layer_id was.by_layer) ≡ false → (b : Bool) → ltb lent (count + 1) ≡ b → M.known_refusal was lent w none ≡ cond b (some ShortSlice) none
+      short_refusal : M.full was (M.find_layer w.layer_id was.by_layer) ≡ false → (b : Bool) → ltb lent (count + 1) ≡ b → M.known_refusal was lent w None ≡ cond b (Some ShortSlice) None
       unfolding M.known_refusal M.slice_refusal
       short_refusal e' b t = rw (e', model-count, t)
 
@@ -160,7 +160,7 @@ module _ (h : WidgetRects) (words numbers : List ℕ) (edges : List Float) (slic
                 (settles count w slice (omega (arith, ltb-false lent (count + 1) short)) ∙ ap (λ (p : ℕ). set slice p w) (sym model-count))
                 (sym model-count)
                 (ap (λ (p : ℕ). p + 1) (sym model-count)))
-                ∙ sym (model_takes shaped none nothing_known (short_refusal (model-full false f g) false short));
+                ∙ sym (model_takes shaped None nothing_known (short_refusal (model-full false f g) false short));
           }
         where
           room : h.widgets < max_widgets
@@ -185,8 +185,8 @@ module _ (h : WidgetRects) (words numbers : List ℕ) (edges : List Float) (slic
 
     full_widgets : leb max_widgets h.widgets ≡ true → (y : Option Layer) → M.full was y ≡ true
     unfolding M.full
-    full_widgets f none = rw (widgets_count, f)
-    full_widgets f (some y) = rw (widgets_count, f)
+    full_widgets f None = rw (widgets_count, f)
+    full_widgets f (Some y) = rw (widgets_count, f)
 
     number_inside : (l : ℕ) → find_layer words numbers w.layer_id h.layers ≡ suc l → l < h.layers
     unfolding find_layer
@@ -217,7 +217,7 @@ module _ (h : WidgetRects) (words numbers : List ℕ) (edges : List Float) (slic
     new_is_right = by_entry (find_layer words numbers w.layer_id h.layers) refl
 
   -- ---- a known widget
-  module _ (shaped : record_refusal w ≡ none) (s : ℕ) (known : find h words numbers w.id ≡ suc s) where
+  module _ (shaped : record_refusal w ≡ None) (s : ℕ) (known : find h words numbers w.id ≡ suc s) where
     abbrev new : WidgetRect
     new = updated (widget_at words numbers edges s) w
 
@@ -233,7 +233,7 @@ module _ (h : WidgetRects) (words numbers : List ℕ) (edges : List Float) (slic
     inside : s < h.widgets
     inside = U.inside h words numbers edges w s wf ln le known
 
-    the_known : M.find_known w.id was.by_id ≡ some (known_at words numbers edges s)
+    the_known : M.find_known w.id was.by_id ≡ Some (known_at words numbers edges s)
     the_known = finds_known h words numbers wf w.id edges ∙ ap (at_entry (known_at words numbers edges)) known
 
     abbrev same : Bool
@@ -260,19 +260,19 @@ module _ (h : WidgetRects) (words numbers : List ℕ) (edges : List Float) (slic
     unfolding M.layer_count M.count_of
     known_count e = rw (finds_layer h words numbers wf w.layer_id edges, own_layer e)
 
-    other_refusal : same ≡ false → M.known_refusal was lent w (some (known_at words numbers edges s)) ≡ some OtherLayer
+    other_refusal : same ≡ false → M.known_refusal was lent w (Some (known_at words numbers edges s)) ≡ Some OtherLayer
     unfolding M.known_refusal
     other_refusal e = rw e
 
-    short_of_known : same ≡ true → (b : Bool) → ltb lent count ≡ b → M.known_refusal was lent w (some (known_at words numbers edges s)) ≡ cond b (some ShortSlice) none
+    short_of_known : same ≡ true → (b : Bool) → ltb lent count ≡ b → M.known_refusal was lent w (Some (known_at words numbers edges s)) ≡ cond b (Some ShortSlice) None
     unfolding M.known_refusal M.slice_refusal
     short_of_known e b t = rw (e, known_count e, t)
 
     own_count : at_least (position + 1) (count_at numbers l) ≡ count
     own_count = U.count_is h words numbers wf s inside
 
-    refuses_known : (why : InsertRefusal) → M.known_refusal was lent w (some (known_at words numbers edges s)) ≡ some why → Right (unchanged (refuse h w why) words numbers edges)
-    refuses_known why r = refused_right why (model_later shaped (some (known_at words numbers edges s)) why the_known r)
+    refuses_known : (why : InsertRefusal) → M.known_refusal was lent w (Some (known_at words numbers edges s)) ≡ Some why → Right (unchanged (refuse h w why) words numbers edges)
+    refuses_known why r = refused_right why (model_later shaped (Some (known_at words numbers edges s)) why the_known r)
 
     short_count : ltb lent count ≡ false → (position < count) × (count ≤ lent)
     short_count t = (omega (arith, wf.positions_fit s inside), ltb-false lent count t)
@@ -299,8 +299,8 @@ module _ (h : WidgetRects) (words numbers : List ℕ) (edges : List Float) (slic
               (settles position new slice (omega (arith, (short_count t).0, (short_count t).1)))
               refl
               (sym (new_count e)))
-              ∙ ap (λ (b : Bool). M.inserted (M.insert_by (some (known_at words numbers edges s)) b was slice w)) (sym f)
-              ∙ sym (model_takes shaped (some (known_at words numbers edges s)) the_known (short_of_known e false t));
+              ∙ ap (λ (b : Bool). M.inserted (M.insert_by (Some (known_at words numbers edges s)) b was slice w)) (sym f)
+              ∙ sym (model_takes shaped (Some (known_at words numbers edges s)) the_known (short_of_known e false t));
         }
 
     moved : same ≡ true → ltb lent count ≡ false → top ≡ true → Right (move_to_top h words numbers edges new s l position count)
@@ -325,8 +325,8 @@ module _ (h : WidgetRects) (words numbers : List ℕ) (edges : List Float) (slic
               (moves_to_end position count new slice (short_count t).0 ∙ ap (λ (c : ℕ). move_to_end position c new slice) (sym (new_count e)))
               (ap (λ (c : ℕ). c - 1) (sym (new_count e)))
               (sym (new_count e)))
-              ∙ ap (λ (b : Bool). M.inserted (M.insert_by (some (known_at words numbers edges s)) b was slice w)) (sym f)
-              ∙ sym (model_takes shaped (some (known_at words numbers edges s)) the_known (short_of_known e false t));
+              ∙ ap (λ (b : Bool). M.inserted (M.insert_by (Some (known_at words numbers edges s)) b was slice w)) (sym f)
+              ∙ sym (model_takes shaped (Some (known_at words numbers edges s)) the_known (short_of_known e false t));
         }
       where
         all_widgets : widgets_of h ≡ h.widgets
@@ -344,23 +344,19 @@ module _ (h : WidgetRects) (words numbers : List ℕ) (edges : List Float) (slic
             right (C.replaces h words numbers edges lent w s top f e (ap (ltb lent) own_count ∙ t) ∙ ap (replace h words numbers edges new s position) own_count) (replaced e t f)
 
   -- ---- any insertion
-  checked_right : record_refusal w ≡ none → Right (insert_checked h words numbers edges lent w top)
+  checked_right : record_refusal w ≡ None → Right (insert_checked h words numbers edges lent w top)
   checked_right shaped = go (find h words numbers w.id) refl
     where
       go : (e : ℕ) → find h words numbers w.id ≡ e → Right (insert_checked h words numbers edges lent w top)
       go zero none-there = right (C.is_new h words numbers edges lent w top none-there) (new_is_right shaped none-there)
-      go (suc s) found =
-          right (C.is_known h words numbers edges lent w top (suc s) found (λ z. omega arith) ∙ ap (λ (i : ℕ). insert_known h words numbers edges lent w i top) one) (known_is_right shaped s found)
-        where
-          one : suc s - 1 ≡ s
-          one = omega arith
+      go (suc s) found = right (C.is_known h words numbers edges lent w top s found) (known_is_right shaped s found)
 
   pub decide_right : Right (decide h words numbers edges lent w top)
   decide_right = go (record_refusal w) refl
     where
       go : (r : Option InsertRefusal) → record_refusal w ≡ r → Right (decide h words numbers edges lent w top)
-      go none e = right (C.checks h words numbers edges lent w top e) (checked_right e)
-      go (some why) e = right (C.refuses h words numbers edges lent w top why e) (refused_right why (model_refuses why e))
+      go None e = right (C.checks h words numbers edges lent w top e) (checked_right e)
+      go (Some why) e = right (C.refuses h words numbers edges lent w top why e) (refused_right why (model_refuses why e))
 
 -- ---- what `insert` ensures, from what its callees do
 pub inserts : (h : WidgetRects) (words numbers : List ℕ) (edges : List Float) (slice : List WidgetRect) (w : WidgetRect) (top : Bool) (r : Decision) (ws ns : List ℕ) (es : List Float) (zs : List WidgetRect)

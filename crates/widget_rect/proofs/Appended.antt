@@ -1,10 +1,10 @@
 -- A new widget, in the model's terms: the view after the stores is the model's set with the widget appended. Assumes nothing.
+use Rattle.std.specs.Prelude.{None, Some}
 use mathlib.Core.Path.{◌≡◌, refl, sym, ◌∙◌, ap}
 use Prim.Native.Nat.{ℕ, suc, ◌+◌, ◌<◌, ◌/◌, ◌%◌}
 use native.Mathlib.Omega.{arith}
 use native.Mathlib.Numerals.{add-one}
 use mathlib.Core.Bool.{Bool, true, false}
-use mathlib.Core.Option.{none, some}
 use mathlib.Core.List.{List, [], ◌∷◌, ◌++◌}
 use lib.Dec.{eqb}
 use lib.Ieee.{Float}
@@ -34,24 +34,24 @@ is_layer l y = same_layer l y.layer_id
 abbrev more : Layer → Layer
 more y = record { layer_id = y.layer_id; count = y.count + 1 }
 
-no_such : {A : Type 0} (x : A) → none ≡ some x → ⊥
+no_such : {A : Type 0} (x : A) → None ≡ Some x → ⊥
 no_such x h = let z : ◌≡◌ {A = ℕ} 0 1 = cc in omega arith
 
-counts_new : (l : LayerId) (ys : List Layer) → first_such (is_layer l) ys ≡ none → count_in l ys ≡ ys ++ (record { layer_id = l; count = 1 } ∷ [])
+counts_new : (l : LayerId) (ys : List Layer) → first_such (is_layer l) ys ≡ None → count_in l ys ≡ ys ++ (record { layer_id = l; count = 1 } ∷ [])
 unfolding count_in first_such
 counts_new l [] e = refl
 counts_new l (y ∷ ys) e = go (counts_new l ys) (same_layer l y.layer_id) refl
   where
-    go : (first_such (is_layer l) ys ≡ none → count_in l ys ≡ ys ++ (record { layer_id = l; count = 1 } ∷ [])) → (b : Bool) → same_layer l y.layer_id ≡ b → count_in l (y ∷ ys) ≡ (y ∷ ys) ++ (record { layer_id = l; count = 1 } ∷ [])
+    go : (first_such (is_layer l) ys ≡ None → count_in l ys ≡ ys ++ (record { layer_id = l; count = 1 } ∷ [])) → (b : Bool) → same_layer l y.layer_id ≡ b → count_in l (y ∷ ys) ≡ (y ∷ ys) ++ (record { layer_id = l; count = 1 } ∷ [])
     go hyp true t = absurd (no_such y (sym (rw t at e)))
     go hyp false t = rw t (ap (λ zs. y ∷ zs) (hyp (rw t at e)))
 
-counts_known : (l : LayerId) (ys : List Layer) (z : Layer) → first_such (is_layer l) ys ≡ some z → count_in l ys ≡ change_such (is_layer l) more ys
+counts_known : (l : LayerId) (ys : List Layer) (z : Layer) → first_such (is_layer l) ys ≡ Some z → count_in l ys ≡ change_such (is_layer l) more ys
 unfolding count_in first_such change_such
 counts_known l [] z e = absurd (no_such z e)
 counts_known l (y ∷ ys) z e = go (counts_known l ys z) (same_layer l y.layer_id) refl
   where
-    go : (first_such (is_layer l) ys ≡ some z → count_in l ys ≡ change_such (is_layer l) more ys) → (b : Bool) → same_layer l y.layer_id ≡ b → count_in l (y ∷ ys) ≡ change_such (is_layer l) more (y ∷ ys)
+    go : (first_such (is_layer l) ys ≡ Some z → count_in l ys ≡ change_such (is_layer l) more ys) → (b : Bool) → same_layer l y.layer_id ≡ b → count_in l (y ∷ ys) ≡ change_such (is_layer l) more (y ∷ ys)
     go hyp true t = rw t
     go hyp false t = rw t (ap (λ zs. y ∷ zs) (hyp (rw t at e)))
 

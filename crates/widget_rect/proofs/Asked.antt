@@ -1,9 +1,9 @@
 -- What the questions answer of a well-formed set, and that the empty set is one. Assumes nothing.
+use Rattle.std.specs.Prelude.{Option, None, Some, is_some}
 use mathlib.Core.Path.{◌≡◌, refl, sym, ◌∙◌, ap}
 use Prim.Native.Nat.{ℕ, zero, suc, ◌-◌, ◌<◌}
 use native.Mathlib.Omega.{arith}
 use mathlib.Core.Bool.{Bool, not, cond}
-use mathlib.Core.Option.{none, some}
 use mathlib.Core.List.{List}
 use lib.Dec.{eqb, leb, ltb, eqb-suc-zero}
 use lib.Ieee.{Float}
@@ -12,13 +12,11 @@ use Rattle.data.specs.Limits.{max_layers}
 use Rattle.data.specs.declared.layers.LayerId.{LayerId}
 use Rattle.model.specs.Widgets as M
 use Rattle.widget_index.specs.declared.table.WidgetRects.{WidgetRects}
-use Rattle.widget_index.specs.Layout.{head_at, id_at}
+use Rattle.widget_index.specs.Layout.{head_at, id_at, entry_of}
 use Rattle.widget_index.specs.Table.{at_most, firsts, layers_of, layer_at, layer_entry_at, known_at, view, bucket, head, find, find_layer}
 use Rattle.widget_append.specs.Append.{count_of}
-use Rattle.widget_rect.specs.Questions.{Empty, Contains, Gets, Orders, Counts, Layers, at_entry, widget_option, order_option, layer_option}
-use Rattle.widget_rect.specs.declared.questions.MaybeWidgetRect.{MaybeWidgetRect}
-use Rattle.widget_rect.specs.declared.questions.MaybeOrder.{MaybeOrder}
-use Rattle.widget_rect.specs.declared.questions.MaybeLayerId.{MaybeLayerId}
+use Rattle.widget_rect.specs.Questions.{Empty, Contains, Gets, Orders, Counts, Layers, at_entry}
+use Rattle.data.specs.declared.widget.WidgetRect.{WidgetRect}
 use Rattle.widget_rect.specs.WellFormed.{Indexed, WellFormed}
 use Rattle.widget_rect.proofs.Lists.{last_zero, map_firsts}
 use Rattle.widget_rect.proofs.Index.{unclamped, finds_known, finds_layer}
@@ -99,23 +97,20 @@ module _ (h : WidgetRects) (words numbers : List ℕ) where
   pub answers_contains : (d : ℕ) (r : Bool) → r ≡ not (eqb (find h words numbers d) 0) → Contains h words numbers d r
   answers_contains d r e = record { own = e; model = λ edges wf. e ∙ sym (contains edges wf d) }
 
-  pub answers_get : (edges : List Float) (d : ℕ) (r : MaybeWidgetRect) → widget_option r ≡ M.widget_of (at_entry (known_at words numbers edges) (find h words numbers d)) → Gets h words numbers edges d r
+  pub answers_get : (edges : List Float) (d : ℕ) (r : Option WidgetRect) → r ≡ M.widget_of (at_entry (known_at words numbers edges) (find h words numbers d)) → Gets h words numbers edges d r
   answers_get edges d r e = record { own = e; model = λ wf. e ∙ sym (gets edges wf d) }
 
-  pub answers_order : (edges : List Float) (d : ℕ) (r : MaybeOrder) → order_option r ≡ M.order_of (at_entry (known_at words numbers edges) (find h words numbers d)) → Orders h words numbers edges d r
+  pub answers_order : (edges : List Float) (d : ℕ) (r : Option (LayerId × ℕ)) → r ≡ M.order_of (at_entry (known_at words numbers edges) (find h words numbers d)) → Orders h words numbers edges d r
   answers_order edges d r e = record { own = e; model = λ wf. e ∙ sym (orders edges wf d) }
 
   pub answers_count : (l : LayerId) (r : ℕ) → r ≡ count_of numbers (find_layer words numbers l (layers_of h)) → Counts h words numbers l r
   answers_count l r e = record { own = e; model = λ edges wf. e ∙ sym (counts edges wf l) }
 
-  pub answers_layer : (i : ℕ) (r : MaybeLayerId) → layer_option r ≡ cond (ltb i (layers_of h)) (some (layer_at words numbers i)) none → Layers h words numbers i r
+  pub answers_layer : (i : ℕ) (r : Option LayerId) → r ≡ cond (ltb i (layers_of h)) (Some (layer_at words numbers i)) None → Layers h words numbers i r
   answers_layer i r e = record { own = e; model = ids }
 
 -- ---- an entry
 
-pub no_entry : {A : Type 0} (f : ℕ → A) (e : ℕ) → e ≡ 0 → at_entry f e ≡ none
-no_entry f e z = rw z
-
-pub an_entry : {A : Type 0} (f : ℕ → A) (e : ℕ) → (e ≡ 0 → ⊥) → at_entry f e ≡ some (f (e - 1))
-an_entry f zero other = absurd (other refl)
-an_entry f (suc k) other = let one : suc k - 1 ≡ k = omega arith in rw one
+pub is_there_if : (o : Option ℕ) → is_some o ≡ not (eqb (entry_of o) 0)
+is_there_if None = refl
+is_there_if (Some s) = rw eqb-suc-zero

@@ -1,13 +1,13 @@
 -- Whatever the set and its arrays hold, what is decided fits the lent slice. Assumes nothing.
+use Rattle.std.specs.Prelude.{Option, None, Some}
 use mathlib.Core.Path.{◌≡◌, refl}
-use Prim.Native.Nat.{ℕ, ◌+◌, ◌≤◌, zero-le}
+use Prim.Native.Nat.{ℕ, zero, suc, ◌+◌, ◌≤◌, zero-le}
 use native.Mathlib.Omega.{arith}
 use mathlib.Core.Bool.{Bool, true, false}
-use mathlib.Core.Option.{Option, none, some}
 use mathlib.Core.List.{List}
-use lib.Dec.{leb, ltb, eqb}
+use lib.Dec.{leb, ltb}
 use lib.Ieee.{Float}
-use borrow.Author.Tests.{eqb-true, eqb-false, ltb-false}
+use borrow.Author.Tests.{ltb-false}
 use Rattle.data.specs.Limits.{max_widgets, max_layers}
 use Rattle.data.specs.declared.widget.WidgetRect.{WidgetRect}
 use Rattle.data.specs.declared.refusal.InsertRefusal.{InsertRefusal}
@@ -69,15 +69,15 @@ module _ (h : WidgetRects) (words numbers : List ℕ) (edges : List Float) (lent
           (omega (arith, ltb-false lent (at_least (position_of (place_at numbers s) + 1) (count_at numbers (layer_of (place_at numbers s)))) t, at_least_low (position_of (place_at numbers s) + 1) (count_at numbers (layer_of (place_at numbers s)))))
 
   checked_fits : Fits (insert_checked h words numbers edges lent w top)
-  checked_fits = go (eqb (find h words numbers w.id) 0) refl
+  checked_fits = go (find h words numbers w.id) refl
     where
-      go : (b : Bool) → eqb (find h words numbers w.id) 0 ≡ b → Fits (insert_checked h words numbers edges lent w top)
-      go true t = fits (C.is_new h words numbers edges lent w top (eqb-true _ 0 t)) new_fits
-      go false t = fits (C.is_known h words numbers edges lent w top _ refl (eqb-false _ 0 t)) (known_fits _)
+      go : (e : ℕ) → find h words numbers w.id ≡ e → Fits (insert_checked h words numbers edges lent w top)
+      go zero none-there = fits (C.is_new h words numbers edges lent w top none-there) new_fits
+      go (suc s) found = fits (C.is_known h words numbers edges lent w top s found) (known_fits s)
 
   pub decide_fits : (decide h words numbers edges lent w top).decision.to ≤ lent
   decide_fits = go (record_refusal w) refl
     where
       go : (r : Option InsertRefusal) → record_refusal w ≡ r → Fits (decide h words numbers edges lent w top)
-      go none e = fits (C.checks h words numbers edges lent w top e) checked_fits
-      go (some why) e = fits (C.refuses h words numbers edges lent w top why e) zero-le
+      go None e = fits (C.checks h words numbers edges lent w top e) checked_fits
+      go (Some why) e = fits (C.refuses h words numbers edges lent w top why e) zero-le

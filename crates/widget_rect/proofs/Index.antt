@@ -1,9 +1,9 @@
 -- In a well-formed set the index finds what the model finds: the slot of an id, and the number of a layer. Assumes nothing.
+use Rattle.std.specs.Prelude.{Some}
 use mathlib.Core.Path.{◌≡◌, refl, sym, ◌∙◌, ap}
 use Prim.Native.Nat.{ℕ, zero, suc, ◌-◌, ◌<◌, ◌≤◌}
 use native.Mathlib.Omega.{arith}
 use mathlib.Core.Bool.{Bool, true, false, ◌&&◌, cond}
-use mathlib.Core.Option.{some}
 use mathlib.Core.List.{List, [], ◌∷◌}
 use lib.Dec.{eqb, eqb-suc-zero}
 use lib.Ieee.{Float}
@@ -59,12 +59,12 @@ same_layer_refl a = rw (eq-eqb a.order a.order refl, eq-eqb a.id a.id refl)
 pub known_plain : (d : ℕ) (ks : List Known) → find_known d ks ≡ first_such (λ k. eqb d k.widget.id) ks
 unfolding find_known first_such
 known_plain d [] = refl
-known_plain d (k ∷ ks) = ap (λ r. cond (eqb d k.widget.id) (some k) r) (known_plain d ks)
+known_plain d (k ∷ ks) = ap (λ r. cond (eqb d k.widget.id) (Some k) r) (known_plain d ks)
 
 pub layer_plain : (l : LayerId) (ys : List Layer) → M.find_layer l ys ≡ first_such (λ y. same_layer l y.layer_id) ys
 unfolding M.find_layer first_such
 layer_plain l [] = refl
-layer_plain l (y ∷ ys) = ap (λ r. cond (same_layer l y.layer_id) (some y) r) (layer_plain l ys)
+layer_plain l (y ∷ ys) = ap (λ r. cond (same_layer l y.layer_id) (Some y) r) (layer_plain l ys)
 
 module _ (h : WidgetRects) (words numbers : List ℕ) (wf : Indexed h words numbers) where
   -- ---- ids

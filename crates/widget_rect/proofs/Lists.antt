@@ -1,11 +1,11 @@
 -- Laws of plain lists: stores, the last number that has a property, the first n values of a function, the first element that has a property.
 -- Assumes nothing.
+use Rattle.std.specs.Prelude.{Option, None, Some}
 use mathlib.Core.Path.{◌≡◌, refl, sym, ◌∙◌, ap, subst}
 use Prim.Native.Nat.{ℕ, zero, suc, ◌+◌, ◌<◌, ◌≤◌, zero-le}
 use native.Mathlib.Omega.{arith}
 use native.Mathlib.Nat.{eq-or-lt_of_le}
 use mathlib.Core.Bool.{Bool, true, false, cond}
-use mathlib.Core.Option.{Option, none, some}
 use mathlib.Core.Logic.{⊎_elim}
 use mathlib.Core.List.{List, [], ◌∷◌, ◌++◌, map, map-append}
 use lib.Dec.{eqb}
@@ -144,49 +144,49 @@ but i y f k = cond (eqb k i) y (f k)
 
 module _ {A : Type 0} (q : A → Bool) where
   unfoldable pub first_such : List A → Option A
-  first_such [] = none
-  first_such (x ∷ xs) = cond (q x) (some x) (first_such xs)
+  first_such [] = None
+  first_such (x ∷ xs) = cond (q x) (Some x) (first_such xs)
 
   unfoldable pub change_such : (A → A) → List A → List A
   change_such g [] = []
   change_such g (x ∷ xs) = cond (q x) (g x ∷ xs) (x ∷ change_such g xs)
 
-  no_such : (x : A) → none ≡ some x → ⊥
+  no_such : (x : A) → None ≡ Some x → ⊥
   no_such x h = let z : ◌≡◌ {A = ℕ} 0 1 = cc in omega arith
 
-  such_snoc_none : (xs ys : List A) → first_such xs ≡ none → first_such (xs ++ ys) ≡ first_such ys
+  such_snoc_none : (xs ys : List A) → first_such xs ≡ None → first_such (xs ++ ys) ≡ first_such ys
   unfolding first_such change_such
   such_snoc_none [] ys e = refl
   such_snoc_none (x ∷ xs) ys e = go (such_snoc_none xs ys) (q x) refl
     where
-      go : (first_such xs ≡ none → first_such (xs ++ ys) ≡ first_such ys) → (b : Bool) → q x ≡ b → first_such ((x ∷ xs) ++ ys) ≡ first_such ys
+      go : (first_such xs ≡ None → first_such (xs ++ ys) ≡ first_such ys) → (b : Bool) → q x ≡ b → first_such ((x ∷ xs) ++ ys) ≡ first_such ys
       go hyp true t = absurd (no_such x (sym (rw t at e)))
       go hyp false t = rw t (hyp (rw t at e))
 
-  such_snoc_some : (xs ys : List A) (z : A) → first_such xs ≡ some z → first_such (xs ++ ys) ≡ some z
+  such_snoc_some : (xs ys : List A) (z : A) → first_such xs ≡ Some z → first_such (xs ++ ys) ≡ Some z
   unfolding first_such change_such
   such_snoc_some [] ys z e = absurd (no_such z e)
   such_snoc_some (x ∷ xs) ys z e = go (such_snoc_some xs ys z) (q x) refl
     where
-      go : (first_such xs ≡ some z → first_such (xs ++ ys) ≡ some z) → (b : Bool) → q x ≡ b → first_such ((x ∷ xs) ++ ys) ≡ some z
+      go : (first_such xs ≡ Some z → first_such (xs ++ ys) ≡ Some z) → (b : Bool) → q x ≡ b → first_such ((x ∷ xs) ++ ys) ≡ Some z
       go hyp true t = rw t (rw t at e)
       go hyp false t = rw t (hyp (rw t at e))
 
-  change_snoc_none : (g : A → A) (xs ys : List A) → first_such xs ≡ none → change_such g (xs ++ ys) ≡ xs ++ change_such g ys
+  change_snoc_none : (g : A → A) (xs ys : List A) → first_such xs ≡ None → change_such g (xs ++ ys) ≡ xs ++ change_such g ys
   unfolding first_such change_such
   change_snoc_none g [] ys e = refl
   change_snoc_none g (x ∷ xs) ys e = go (change_snoc_none g xs ys) (q x) refl
     where
-      go : (first_such xs ≡ none → change_such g (xs ++ ys) ≡ xs ++ change_such g ys) → (b : Bool) → q x ≡ b → change_such g ((x ∷ xs) ++ ys) ≡ (x ∷ xs) ++ change_such g ys
+      go : (first_such xs ≡ None → change_such g (xs ++ ys) ≡ xs ++ change_such g ys) → (b : Bool) → q x ≡ b → change_such g ((x ∷ xs) ++ ys) ≡ (x ∷ xs) ++ change_such g ys
       go hyp true t = absurd (no_such x (sym (rw t at e)))
       go hyp false t = rw t (ap (λ zs. x ∷ zs) (hyp (rw t at e)))
 
-  change_snoc_some : (g : A → A) (xs ys : List A) (z : A) → first_such xs ≡ some z → change_such g (xs ++ ys) ≡ change_such g xs ++ ys
+  change_snoc_some : (g : A → A) (xs ys : List A) (z : A) → first_such xs ≡ Some z → change_such g (xs ++ ys) ≡ change_such g xs ++ ys
   unfolding first_such change_such
   change_snoc_some g [] ys z e = absurd (no_such z e)
   change_snoc_some g (x ∷ xs) ys z e = go (change_snoc_some g xs ys z) (q x) refl
     where
-      go : (first_such xs ≡ some z → change_such g (xs ++ ys) ≡ change_such g xs ++ ys) → (b : Bool) → q x ≡ b → change_such g ((x ∷ xs) ++ ys) ≡ change_such g (x ∷ xs) ++ ys
+      go : (first_such xs ≡ Some z → change_such g (xs ++ ys) ≡ change_such g xs ++ ys) → (b : Bool) → q x ≡ b → change_such g ((x ∷ xs) ++ ys) ≡ change_such g (x ∷ xs) ++ ys
       go hyp true t = rw t
       go hyp false t = rw t (ap (λ zs. x ∷ zs) (hyp (rw t at e)))
 

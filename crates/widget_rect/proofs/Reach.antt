@@ -1,4 +1,5 @@
 -- Every set that the model's insertions reach is what some well-formed table holds, and of those it is known. Assumes nothing.
+use Rattle.std.specs.Prelude.{Ok, Err, Result}
 use mathlib.Core.Path.{◌≡◌, sym, ◌∙◌, ap, subst}
 use Prim.Native.Nat.{ℕ, zero, suc, ◌<◌, ◌≤◌}
 use native.Mathlib.Omega.{arith}
@@ -15,8 +16,8 @@ use Rattle.data.specs.declared.widget.WidgetRect.{WidgetRect}
 use Rattle.model.specs.Widgets as M
 use Rattle.model.specs.Widgets.{Known, Layer, same_layer}
 use Rattle.widget_index.specs.declared.table.WidgetRects.{WidgetRects}
-use Rattle.widget_append.specs.declared.Inserted.{Inserted}
-use Rattle.widget_append.specs.declared.Inserted.TheVariants.{Refused, Taken}
+use Rattle.widget_append.specs.declared.Insertion.{Insertion}
+use Rattle.data.specs.declared.refusal.InsertRefusal.{InsertRefusal}
 use Rattle.widget_index.specs.Layout.{id_at, place_at, layer_of, position_of, place, count_at}
 use Rattle.widget_index.specs.Table.{firsts, widgets_of, layers_of, layer_at, known_at, layer_entry_at, view}
 use Rattle.widget_append.specs.Append.{Outcome, settled}
@@ -46,13 +47,13 @@ the_set : M.Inserted → M.WidgetRects
 the_set (M.refused why) = M.no_widgets
 the_set (M.inserted i) = i.widgets
 
-was_taken : (a : Inserted) (v : M.WidgetRects) (z : List WidgetRect) (i : M.Insertion) → told a v z ≡ M.inserted i → v ≡ i.widgets
+was_taken : (a : Result Insertion InsertRefusal) (v : M.WidgetRects) (z : List WidgetRect) (i : M.Insertion) → told a v z ≡ M.inserted i → v ≡ i.widgets
 unfolding told the_set
-was_taken (Refused why) v z i e = absurd (never e)
+was_taken (Err why) v z i e = absurd (never e)
   where
     never : M.refused why ≡ M.inserted i → ⊥
     never x = let z : ◌≡◌ {A = ℕ} 0 1 = cc in omega arith
-was_taken (Taken position count) v z i e = ap the_set e
+was_taken (Ok p) v z i e = ap the_set e
 
 held : (s : M.WidgetRects) → Reached s → Held s
 held s starts =

@@ -1,9 +1,9 @@
 -- A record stored in a slot is read back, and the other slots keep theirs: rectangles and traits. Assumes nothing.
+use Rattle.std.specs.Prelude.{None, Some}
 use mathlib.Core.Path.{◌≡◌, refl, subst}
 use Prim.Native.Nat.{ℕ, ◌+◌, ◌*◌, ◌<◌, ◌/◌, ◌%◌}
 use native.Mathlib.Omega.{arith}
 use mathlib.Core.Bool.{Bool, true, false}
-use mathlib.Core.Option.{none, some}
 use mathlib.Core.List.{List, [], ◌∷◌, ◌++◌}
 use lib.Dec.{eqb, leb, ltb}
 use lib.Ieee.{Float, nan}
@@ -102,11 +102,11 @@ known_parts p p' w w' e f = rw (e, f)
 
 -- ---- a record that is not refused
 
-pub sense_fits : (w : WidgetRect) → record_refusal w ≡ none → w.sense < 8
+pub sense_fits : (w : WidgetRect) → record_refusal w ≡ None → w.sense < 8
 unfolding record_refusal well_shaped sense_ok
 sense_fits w h = go (leb w.layer_id.order max_order) refl (ltb w.sense 8) refl
   where
-    no_refusal : (x : InsertRefusal) → some x ≡ none → ⊥
+    no_refusal : (x : InsertRefusal) → Some x ≡ None → ⊥
     no_refusal x e = let z : ◌≡◌ {A = ℕ} 0 1 = cc in omega arith
 
     go : (a : Bool) → leb w.layer_id.order max_order ≡ a → (b : Bool) → ltb w.sense 8 ≡ b → w.sense < 8

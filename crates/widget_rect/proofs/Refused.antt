@@ -1,9 +1,9 @@
 -- A refused insertion leaves the set, its arrays and the slice as before, whatever the arrays hold; and its row is the model's.
+use Rattle.std.specs.Prelude.{Option, None, Some, Ok, Err, Result}
 use mathlib.Core.Path.{◌≡◌, refl}
 use Prim.Native.Nat.{ℕ, ◌+◌, ◌-◌}
 use native.Mathlib.Omega.{arith}
 use mathlib.Core.Bool.{Bool, true, false, cond}
-use mathlib.Core.Option.{Option, none, some}
 use mathlib.Core.List.{List}
 use lib.Dec.{eqb, leb, ltb}
 use lib.Ieee.{Float}
@@ -16,23 +16,22 @@ use Rattle.model.specs.Widgets as M
 use Rattle.widget_index.specs.declared.table.WidgetRects.{WidgetRects}
 use Rattle.widget_index.specs.Layout.{place_at, layer_of, position_of, count_at}
 use Rattle.widget_index.specs.Table.{layers_of, widget_at, find, find_layer}
-use Rattle.widget_append.specs.declared.Inserted.{Inserted}
-use Rattle.widget_append.specs.declared.Inserted.TheVariants.{Refused, Taken}
+use Rattle.widget_append.specs.declared.Insertion.{Insertion}
 use Rattle.widget_append.specs.Append.{Outcome, refuse, unchanged, number_of, count_of, append, insert_new, settled}
 use Rattle.widget_insert.specs.Insert.{at_least, replace, move_to_top, insert_known, insert_checked, decide_unless, decide}
 use Rattle.widget_rect.specs.Told.{told, row_of, model_row, Kept}
 
 -- the row of an answer is that of the model's answer that it stands for
-pub told_row : (a : Inserted) (widgets : M.WidgetRects) (slice : List WidgetRect) → row_of a ≡ model_row (told a widgets slice)
+pub told_row : (a : Result Insertion InsertRefusal) (widgets : M.WidgetRects) (slice : List WidgetRect) → row_of a ≡ model_row (told a widgets slice)
 unfolding told
-told_row (Refused why) widgets slice = refl
-told_row (Taken position count) widgets slice = refl
+told_row (Err why) widgets slice = refl
+told_row (Ok i) widgets slice = refl
 
 module _ (h : WidgetRects) (words numbers : List ℕ) (edges : List Float) (slice : List WidgetRect) where
   -- an outcome that keeps all where it is a refusal
   pub record Keeps (o : Outcome) : Type 0 where
     pub keeps :
-        (why : InsertRefusal) → o.decision.answer ≡ Refused why
+        (why : InsertRefusal) → o.decision.answer ≡ Err why
         → Kept h words numbers edges slice o.decision o.words o.numbers o.edges (settled o.decision.from o.decision.to o.decision.widget slice)
 
   refuse_keeps : (w : WidgetRect) (why : InsertRefusal) → Keeps (unchanged (refuse h w why) words numbers edges)
@@ -40,8 +39,8 @@ module _ (h : WidgetRects) (words numbers : List ℕ) (edges : List Float) (slic
   refuse_keeps w why =
       record { keeps = λ reason e. record { set_kept = refl; words_kept = refl; numbers_kept = refl; edges_kept = refl; slice_kept = refl } }
 
-  taken_keeps : (o : Outcome) (position count : ℕ) → o.decision.answer ≡ Taken position count → Keeps o
-  taken_keeps o position count e = record { keeps = λ why k. let z : ◌≡◌ {A = ℕ} 0 1 = cc in absurd (omega arith) }
+  taken_keeps : (o : Outcome) (i : Insertion) → o.decision.answer ≡ Ok i → Keeps o
+  taken_keeps o i e = record { keeps = λ why k. let z : ◌≡◌ {A = ℕ} 0 1 = cc in absurd (omega arith) }
 
   either : (b : Bool) (x y : Outcome) → Keeps x → Keeps y → Keeps (cond b x y)
   either true x y f g = f
@@ -63,7 +62,7 @@ module _ (h : WidgetRects) (words numbers : List ℕ) (edges : List Float) (slic
         let if-few-layers = cond (leb max_layers l) (as_is Full) if-long in
         either (leb max_widgets h.widgets) (as_is Full) if-few-layers (refuse_keeps w Full)
         (either (leb max_layers l) (as_is Full) if-long (refuse_keeps w Full)
-        (either (ltb lent (count + 1)) (as_is ShortSlice) new (refuse_keeps w ShortSlice) (taken_keeps new count (count + 1) refl)))
+        (either (ltb lent (count + 1)) (as_is ShortSlice) new (refuse_keeps w ShortSlice) (taken_keeps new (record { position = count; count = count + 1 }) refl)))
 
     known_keeps : (s : ℕ) (top : Bool) → Keeps (insert_known h words numbers edges lent w s top)
     unfolding insert_known move_to_top replace
@@ -79,7 +78,7 @@ module _ (h : WidgetRects) (words numbers : List ℕ) (edges : List Float) (slic
         let if-same-layer = cond (ltb lent count) (as_is ShortSlice) if-long in
         either (same_layer w.layer_id old.layer_id) if-same-layer (as_is OtherLayer)
         (either (ltb lent count) (as_is ShortSlice) if-long (refuse_keeps w ShortSlice)
-        (either top moved replaced (taken_keeps moved (count - 1) count refl) (taken_keeps replaced position count refl)))
+        (either top moved replaced (taken_keeps moved (record { position = count - 1; count = count }) refl) (taken_keeps replaced (record { position = position; count = count }) refl)))
         (refuse_keeps w OtherLayer)
 
     checked_keeps : (top : Bool) → Keeps (insert_checked h words numbers edges lent w top)
@@ -93,5 +92,5 @@ module _ (h : WidgetRects) (words numbers : List ℕ) (edges : List Float) (slic
     decide_keeps top = go (record_refusal w)
       where
         go : (q : Option InsertRefusal) → Keeps (decide_unless q h words numbers edges lent w top)
-        go (some why) = refuse_keeps w why
-        go none = checked_keeps top
+        go (Some why) = refuse_keeps w why
+        go None = checked_keeps top

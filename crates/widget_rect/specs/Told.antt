@@ -1,13 +1,11 @@
 -- What one insertion leaves: the answer, the set, every place of the lent slice and of the set's arrays, taken and refused.
-use Rattle.std.specs.Prelude.{ℕ, ◌≡◌, Bool, List, Float, length}
-use Rattle.std.proofs.Math.Option.{Option, none, some}
+use Rattle.std.specs.Prelude.{ℕ, ◌≡◌, Bool, List, Float, length, Option, None, Some, Ok, Err, Result}
 use Rattle.data.specs.Numbers.{Row, insert_row}
 use Rattle.data.specs.declared.refusal.InsertRefusal.{InsertRefusal}
 use Rattle.data.specs.declared.widget.WidgetRect.{WidgetRect}
 use Rattle.model.specs.Widgets as M
 use Rattle.widget_index.specs.declared.table.WidgetRects.{WidgetRects}
-use Rattle.widget_append.specs.declared.Inserted.{Inserted}
-use Rattle.widget_append.specs.declared.Inserted.TheVariants.{Refused, Taken}
+use Rattle.widget_append.specs.declared.Insertion.{Insertion}
 use Rattle.widget_append.specs.declared.Decision.{Decision}
 use Rattle.widget_index.specs.Table.{view}
 use Rattle.widget_append.specs.Append.{Gives, settled}
@@ -15,19 +13,19 @@ use Rattle.widget_insert.specs.Insert.{decide}
 use Rattle.widget_rect.specs.WellFormed.{WellFormed}
 
 -- the model's answer that an answer stands for, with the set and the slice after it
-unfoldable pub told : Inserted → M.WidgetRects → List WidgetRect → M.Inserted
-told (Refused why) widgets slice = M.refused why
-told (Taken position count) widgets slice = M.inserted (record { widgets = widgets; slice = slice; position = position; count = count })
+unfoldable pub told : Result Insertion InsertRefusal → M.WidgetRects → List WidgetRect → M.Inserted
+told (Err why) widgets slice = M.refused why
+told (Ok i) widgets slice = M.inserted (record { widgets = widgets; slice = slice; position = i.position; count = i.count })
 
 -- 01's number and index of a refused insertion; a taken one has none
-abbrev pub row_of : Inserted → Option Row
-row_of (Refused why) = some (insert_row why)
-row_of (Taken position count) = none
+abbrev pub row_of : Result Insertion InsertRefusal → Option Row
+row_of (Err why) = Some (insert_row why)
+row_of (Ok i) = None
 
 -- the same of the model's answer
 abbrev pub model_row : M.Inserted → Option Row
-model_row (M.refused why) = some (insert_row why)
-model_row (M.inserted i) = none
+model_row (M.refused why) = Some (insert_row why)
+model_row (M.inserted i) = None
 
 -- 01, every row of insert: "as before"
 pub record Kept (h : WidgetRects) (words numbers : List ℕ) (edges : List Float) (slice : List WidgetRect)
@@ -48,7 +46,7 @@ pub record Inserts (h : WidgetRects) (words numbers : List ℕ) (edges : List Fl
   pub own : Gives (decide h words numbers edges (length slice) w top) r ws ns es
   pub slice_after : zs ≡ settled r.from r.to r.widget slice
   -- for every set: a refused insertion leaves all as before
-  pub refused : (why : InsertRefusal) → r.answer ≡ Refused why → Kept h words numbers edges slice r ws ns es zs
+  pub refused : (why : InsertRefusal) → r.answer ≡ Err why → Kept h words numbers edges slice r ws ns es zs
   -- for a set that the operations made: the model's `insert`, and the set is such a one again
   pub model : WellFormed h words numbers edges → told r.answer (view r.«set» ws ns es) zs ≡ M.insert top (view h words numbers edges) slice w
   -- 01's number and index of the answer are those of the model's

@@ -10,27 +10,6 @@ use widget_index::table::{
     widget_at,
 };
 
-// Option<WidgetRect>
-#[derive(Clone, Copy)]
-pub enum MaybeWidgetRect {
-    None,
-    Some(WidgetRect),
-}
-
-// Option<(LayerId, usize)>
-#[derive(Clone, Copy)]
-pub enum MaybeOrder {
-    None,
-    Some(LayerId, usize),
-}
-
-// Option<LayerId>
-#[derive(Clone, Copy)]
-pub enum MaybeLayerId {
-    None,
-    Some(LayerId),
-}
-
 // An empty set, over arrays that may hold anything: a new one, or one that is emptied.
 pub fn empty() -> WidgetRects
     ensures { Empty result }
@@ -44,7 +23,7 @@ pub fn empty() -> WidgetRects
 pub fn contains(h: WidgetRects, words: &Words, numbers: &Numbers, id: u64) -> bool
     ensures { Contains h words.now numbers.now id result }
 {
-    find(h, words, numbers, id) != 0
+    find(h, words, numbers, id).is_some()
 }
 
 pub fn get(
@@ -53,46 +32,44 @@ pub fn get(
     numbers: &Numbers,
     edges: &Edges,
     id: u64,
-) -> MaybeWidgetRect
+) -> Option<WidgetRect>
     ensures { Gets h words.now numbers.now edges.now id result }
 {
-    let e = find(h, words, numbers, id);
-    if e == 0 {
-        return MaybeWidgetRect::None;
-    }
-    MaybeWidgetRect::Some(widget_at(words, numbers, edges, e - 1))
+    let s = find(h, words, numbers, id)?;
+    Some(widget_at(words, numbers, edges, s))
 }
 
 // In which layer, and in which order in that layer?
-pub fn order(h: WidgetRects, words: &Words, numbers: &Numbers, edges: &Edges, id: u64) -> MaybeOrder
+pub fn order(
+    h: WidgetRects,
+    words: &Words,
+    numbers: &Numbers,
+    edges: &Edges,
+    id: u64,
+) -> Option<(LayerId, usize)>
     ensures { Orders h words.now numbers.now edges.now id result }
 {
-    let e = find(h, words, numbers, id);
-    if e == 0 {
-        return MaybeOrder::None;
-    }
-    let w = widget_at(words, numbers, edges, e - 1);
-    let layer = w.layer_id;
-    MaybeOrder::Some(layer, position_of(numbers[PLACES + (e - 1)]))
+    let s = find(h, words, numbers, id)?;
+    let w = widget_at(words, numbers, edges, s);
+    Some((w.layer_id, position_of(numbers[PLACES + s])))
 }
 
 // How many widgets the set counts in a layer.
 pub fn layer_count(h: WidgetRects, words: &Words, numbers: &Numbers, layer: LayerId) -> usize
     ensures { Counts h words.now numbers.now layer result }
 {
-    let e = find_layer(words, numbers, layer, layers_of(h));
-    if e == 0 {
-        return 0;
+    match find_layer(words, numbers, layer, layers_of(h)) {
+        None => 0,
+        Some(l) => count_at(numbers, l),
     }
-    count_at(numbers, e - 1)
 }
 
 // The layers in the order of their first insertion: the one at i, if there is one.
-pub fn layer_id(h: WidgetRects, words: &Words, numbers: &Numbers, i: usize) -> MaybeLayerId
+pub fn layer_id(h: WidgetRects, words: &Words, numbers: &Numbers, i: usize) -> Option<LayerId>
     ensures { Layers h words.now numbers.now i result }
 {
     if i < layers_of(h) {
-        return MaybeLayerId::Some(layer_at(words, numbers, i));
+        return Some(layer_at(words, numbers, i));
     }
-    MaybeLayerId::None
+    None
 }

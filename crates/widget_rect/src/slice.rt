@@ -13,10 +13,6 @@ pub fn settle(s: &mut [WidgetRect], from: usize, to: usize, w: WidgetRect)
     if to <= from {
         return;
     }
-    let mut at: usize = from;
-    while at + 1 < to {
-        s[at] = s[at + 1];
-        at += 1;
-    }
-    s[at] = w;
+    s.copy_within(from + 1..to, from);
+    s[to - 1] = w;
 }

@@ -4,14 +4,19 @@
 ghost use Rattle.std.specs.Prelude.{◌≡◌, ◌≤◌};
 ghost use Rattle.widget_append.specs.Append.{settled};
 
+use data::limits::MAX_WIDGETS;
 use data::widget::WidgetRect;
 use widget_rect::slice::settle;
 
-pub fn settled(a: [WidgetRect; 1024], from: usize, to: usize, w: WidgetRect) -> [WidgetRect; 1024]
+pub fn settled(
+    mut a: [WidgetRect; MAX_WIDGETS],
+    from: usize,
+    to: usize,
+    w: WidgetRect,
+) -> [WidgetRect; MAX_WIDGETS]
     requires { to ≤ 1024 }
     ensures { result ≡ settled from to w a }
 {
-    let mut b = a;
-    settle(&mut b, from, to, w);
-    b
+    settle(&mut a, from, to, w);
+    a
 }

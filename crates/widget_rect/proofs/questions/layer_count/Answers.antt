@@ -1,12 +1,18 @@
-use Rattle.widget_rect.proofs.Asked.{answers_count}
+use Prim.Native.Nat.{suc, ◌-◌}
+use mathlib.Core.Path.{◌≡◌, sym, ◌∙◌, ap}
+use native.Mathlib.Omega.{arith}
+use lib.Dec.{eqb-suc-zero}
+use Rattle.widget_index.specs.Layout.{entry_of}
 use Rattle.widget_append.specs.Append.{count_of}
-use borrow.Author.Tests.{eq-eqb, ne_eqb}
+use Rattle.widget_rect.proofs.Asked.{answers_count}
 use Rattle.widget_rect.proofs.questions.layer_count.Goals as goal
 
-pub returns-then-e-eq0 : goal.returns-then-e-eq0
+pub returns-in-None : goal.returns-in-None
 unfolding count_of
-returns-then-e-eq0 c = answers_count _ _ _ _ _ (rw (← c.layers_of.ensures.0, ← c.find_layer-e.ensures.0, eq-eqb _ _ c.if-e-eq0.true))
+returns-in-None c = answers_count _ _ _ _ _ (rw (← c.layers_of.ensures.0, sym c.find_layer.ensures.0 ∙ ap entry_of c.in-None.is))
 
-pub returns : goal.returns
+pub returns-in-Some : goal.returns-in-Some
 unfolding count_of
-returns c = answers_count _ _ _ _ _ (rw (← c.layers_of.ensures.0, ← c.find_layer-e.ensures.0, ne_eqb _ _ c.if-e-eq0.false) c.count_at.ensures.0)
+returns-in-Some c =
+    let one : suc c.in-Some.l - 1 ≡ c.in-Some.l = omega arith in
+    answers_count _ _ _ _ _ (rw (← c.layers_of.ensures.0, sym c.find_layer.ensures.0 ∙ ap entry_of c.in-Some.is, eqb-suc-zero, one) c.count_at.ensures.0)
