@@ -1,7 +1,10 @@
 -- A walk through the words of a hit list, two at a time. Assumes nothing.
-use Prim.Native.Nat.{ℕ, suc, ◌+◌, ◌*◌, ◌/◌, ◌<◌, ◌≤◌}
+use Prim.Native.Nat.{ℕ, suc, ◌+◌, ◌*◌, ◌/◌, ◌<◌, ◌≤◌, max}
 use mathlib.Core.Path.{◌≡◌, refl}
-use mathlib.Core.Bool.{true, false}
+use mathlib.Core.Bool.{Bool, true, false, cond, ◌||◌}
+use Rattle.std.specs.Prelude.{Option, None, Some}
+use Rattle.std.specs.Option.{is_some, unwrap_or}
+use lib.Dec.{eqb}
 use mathlib.Core.List.{List, [], ◌∷◌}
 use native.Mathlib.Numerals.{add-one}
 use native.Mathlib.Omega.{arith}
@@ -9,7 +12,7 @@ use borrow.Author.Tests.{eq-eqb, ne_eqb}
 use lib.ListN.{length, get_or, drop, length-drop}
 use lib.Seq.{drop-cons}
 use Rattle.model.specs.Interact.{Hit, has_hit, order_from}
-use Rattle.hit_lists.specs.Hits.{hits_of, hit_of, seek_from}
+use Rattle.hit_lists.specs.Hits.{hits_of, hit_of, position_from, seek_from}
 
 -- the entries from entry i on, and entry i
 abbrev pub rest : List ℕ → ℕ → List Hit
@@ -49,34 +52,48 @@ module _ (ws : List ℕ) (d i : ℕ) where
   unfolding has_hit
   hit_here h e = rw (next ws i h, eq-eqb _ _ e)
 
-  pub hit_later : i < length ws / 2 → (d ≡ (at ws i).id → ⊥) → has_hit d (rest ws i) ≡ has_hit d (rest ws (i + 1))
-  unfolding has_hit
-  hit_later h e = rw (next ws i h, ne_eqb _ _ e)
+  pub found_here : i < length ws / 2 → d ≡ (at ws i).id → position_from d i (rest ws i) ≡ Some i
+  unfolding position_from
+  found_here h e = rw (next ws i h, eq-eqb _ _ e)
 
-  pub no_hit : length ws / 2 ≤ i → has_hit d (rest ws i) ≡ false
-  unfolding has_hit
-  no_hit h = rw (done ws i h)
+  pub found_later : i < length ws / 2 → (d ≡ (at ws i).id → ⊥) → position_from d i (rest ws i) ≡ position_from d (i + 1) (rest ws (i + 1))
+  unfolding position_from
+  found_later h e = rw (next ws i h, ne_eqb _ _ e, add-one)
 
-  pub order_here : i < length ws / 2 → d ≡ (at ws i).id → order_from d i (rest ws i) ≡ i
-  unfolding order_from
-  order_here h e = rw (next ws i h, eq-eqb _ _ e)
+  pub not_found : length ws / 2 ≤ i → position_from d i (rest ws i) ≡ None
+  unfolding position_from
+  not_found h = rw (done ws i h)
 
-  pub order_later : i < length ws / 2 → (d ≡ (at ws i).id → ⊥) → order_from d i (rest ws i) ≡ order_from d (i + 1) (rest ws (i + 1))
-  unfolding order_from
-  order_later h e = rw (next ws i h, ne_eqb _ _ e, add-one)
+-- ---- what a search tells
 
-  pub no_order : length ws / 2 ≤ i → order_from d i (rest ws i) ≡ 0
-  unfolding order_from
-  no_order h = rw (done ws i h)
+module _ (d : ℕ) where
+  pub has_found : (n : ℕ) (hs : List Hit) → is_some (position_from d n hs) ≡ has_hit d hs
+  unfolding position_from has_hit
+  has_found n [] = refl
+  has_found n (h ∷ hs) = some_if (eqb d h.id) n (position_from d (suc n) hs) _ (has_found (suc n) hs)
+    where
+      some_if : (b : Bool) (n : ℕ) (o : Option ℕ) (c : Bool) → is_some o ≡ c → is_some (cond b (Some n) o) ≡ (b || c)
+      some_if true n o c e = refl
+      some_if false n o c e = e
 
-  pub seek_here : i < length ws / 2 → d ≡ (at ws i).id → seek_from d i (rest ws i) ≡ i
-  unfolding seek_from
-  seek_here h e = rw (next ws i h, eq-eqb _ _ e)
+  pub order_found : (n : ℕ) (hs : List Hit) → unwrap_or (position_from d n hs) 0 ≡ order_from d n hs
+  unfolding position_from order_from
+  order_found n [] = refl
+  order_found n (h ∷ hs) = or_if (eqb d h.id) n (position_from d (suc n) hs) 0 _ (order_found (suc n) hs)
+    where
+      or_if : (b : Bool) (n : ℕ) (o : Option ℕ) (k m : ℕ) → unwrap_or o k ≡ m → unwrap_or (cond b (Some n) o) k ≡ cond b n m
+      or_if true n o k m e = refl
+      or_if false n o k m e = e
 
-  pub seek_later : i < length ws / 2 → (d ≡ (at ws i).id → ⊥) → seek_from d i (rest ws i) ≡ seek_from d (i + 1) (rest ws (i + 1))
-  unfolding seek_from
-  seek_later h e = rw (next ws i h, ne_eqb _ _ e, add-one)
+  pub seek_found : (n : ℕ) (hs : List Hit) (k : ℕ) → k ≡ n + length hs → unwrap_or (position_from d n hs) k ≡ seek_from d n hs
+  unfolding position_from seek_from
+  seek_found n [] k q = omega arith
+  seek_found n (h ∷ hs) k q = or_if (eqb d h.id) n (position_from d (suc n) hs) k _ (seek_found (suc n) hs k (omega arith))
+    where
+      or_if : (b : Bool) (n : ℕ) (o : Option ℕ) (k m : ℕ) → unwrap_or o k ≡ m → unwrap_or (cond b (Some n) o) k ≡ cond b n m
+      or_if true n o k m e = refl
+      or_if false n o k m e = e
 
-  pub no_seek : length ws / 2 ≤ i → seek_from d i (rest ws i) ≡ i
-  unfolding seek_from
-  no_seek h = rw (done ws i h)
+-- as many entries from entry i on as are left
+pub entries_left : (ws : List ℕ) (i : ℕ) → max i (length ws / 2) ≡ i + length (rest ws i)
+entries_left ws i = rw (entries (drop (i * 2) ws), length-drop (i * 2) ws) (omega arith)

@@ -4,9 +4,7 @@
 ghost use Rattle.std.specs.Prelude.{◌≡◌, ◌*◌, ◌&&◌, leb, ltb, drop};
 ghost use Rattle.data.specs.Sense.{interactive};
 ghost use Rattle.model.specs.Interact.{has_hit, is_hit, order, order_of};
-ghost use Rattle.hit_lists.specs.Hits.{hits_of, view, hit_at, seek_from};
-
-use data::refusal::InteractRefusal;
+ghost use Rattle.hit_lists.specs.Hits.{hits_of, view, hit_at, position_from, seek_from};
 
 // An entry: the words' own widths.
 #[derive(Clone, Copy)]
@@ -15,21 +13,17 @@ pub struct Hit {
     pub sense: u64,
 }
 
-// Option<Hit>
+// `WidgetHits`: the words of the lists `close` and `contains_pointer`, and the hits that a click and a drag are for.
 #[derive(Clone, Copy)]
-pub enum MaybeHit {
-    None,
-    Some(Hit),
+pub struct WidgetHits<'a> {
+    pub close: &'a [u64],
+    pub contains_pointer: &'a [u64],
+    pub click: Option<Hit>,
+    pub drag: Option<Hit>,
 }
 
-// Option<InteractRefusal>
-#[derive(Clone, Copy)]
-pub enum MaybeInteractRefusal {
-    None,
-    Some(InteractRefusal),
-}
-
-// Whether an entry senses clicks or drags.
+// Whether an entry senses clicks or drags. The bits of a number: it is the host's word, of which any value is judged.
+#[tactic(auto, unfolding(data::specs::Sense::interactive, data::specs::Sense::senses_click, data::specs::Sense::senses_drag))]
 pub fn interactive(sense: u64) -> bool
     ensures { result ≡ interactive sense }
 {
@@ -38,78 +32,60 @@ pub fn interactive(sense: u64) -> bool
 
 // ---- looking for an id
 
+// The first place of the id from `from` on, if it has one there.
+fn position(words: &[u64], from: usize, id: u64) -> Option<usize>
+    ensures { result ≡ position_from id from (hits_of (drop (from * 2) words.now)) }
+{
+    // two words an entry, by index: C lends the list as plain numbers
+    let n = words.len() / 2;
+    for at in from..n {
+        if id == words[at * 2] {
+            return Some(at);
+        }
+    }
+    None
+}
+
 // Whether the list has an entry of the id.
 pub fn has_hit(words: &[u64], id: u64) -> bool
     ensures { result ≡ has_hit id (hits_of words.now) }
 {
-    let n = words.len() / 2;
-    let mut i: usize = 0;
-    while i < n {
-        if id == words[i * 2] {
-            return true;
-        }
-        i += 1;
-    }
-    false
+    position(words, 0, id).is_some()
 }
 
-pub fn is_hit(hit: MaybeHit, id: u64) -> bool
+#[tactic(auto, unfolding(model::specs::Interact::is_hit, crate::specs::Hits::view))]
+pub fn is_hit(hit: Option<Hit>, id: u64) -> bool
     ensures { result ≡ is_hit id (view hit) }
 {
-    match hit {
-        MaybeHit::None => false,
-        MaybeHit::Some(h) => id == h.id,
-    }
+    hit.is_some_and(|h| id == h.id)
 }
 
 // The first place of the id in the list, 0 if it has none.
 pub fn order(words: &[u64], id: u64) -> usize
     ensures { result ≡ order id (hits_of words.now) }
 {
-    let n = words.len() / 2;
-    let mut i: usize = 0;
-    while i < n {
-        if id == words[i * 2] {
-            return i;
-        }
-        i += 1;
-    }
-    0
+    position(words, 0, id).unwrap_or(0)
 }
 
 // Whether the entry at a place has the id.
 fn hit_at(words: &[u64], at: usize, id: u64) -> bool
     ensures { result ≡ hit_at id at words.now }
 {
-    if at < words.len() / 2 {
-        return id == words[at * 2];
-    }
-    false
+    at < words.len() / 2 && id == words[at * 2]
 }
 
 // Whether a place before `top` has the id.
 fn hit_below(words: &[u64], top: usize, at: usize, id: u64) -> bool
     ensures { result ≡ (ltb at top && hit_at id at words.now) }
 {
-    if at < top {
-        return hit_at(words, at, id);
-    }
-    false
+    at < top && hit_at(words, at, id)
 }
 
 // The first place of the id from `from` on, the number of entries if it has none there.
 pub fn seek(words: &[u64], from: usize, id: u64) -> usize
     ensures { result ≡ seek_from id from (hits_of (drop (from * 2) words.now)) }
 {
-    let n = words.len() / 2;
-    let mut at = from;
-    while at < n {
-        if id == words[at * 2] {
-            return at;
-        }
-        at += 1;
-    }
-    at
+    position(words, from, id).unwrap_or(from.max(words.len() / 2))
 }
 
 // Whether the first place of the id is `top` or a later one. `hint` is looked at before the others.
@@ -135,11 +111,9 @@ pub fn lies_from(words: &[u64], top: usize, hint: usize, id: u64) -> bool
     has_hit(words, id)
 }
 
-pub fn order_of(words: &[u64], hit: MaybeHit) -> usize
+#[tactic(auto, unfolding(model::specs::Interact::order_of, crate::specs::Hits::view))]
+pub fn order_of(words: &[u64], hit: Option<Hit>) -> usize
     ensures { result ≡ order_of (view hit) (hits_of words.now) }
 {
-    match hit {
-        MaybeHit::None => 0,
-        MaybeHit::Some(h) => order(words, h.id),
-    }
+    hit.map_or(0, |h| order(words, h.id))
 }

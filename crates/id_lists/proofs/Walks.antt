@@ -1,14 +1,16 @@
 -- Putting the ids of a hit list into a buffer, an entry at a time. Assumes nothing.
+use Rattle.std.specs.Prelude.{Option, None, Some}
+use Rattle.std.specs.Option as now
+use Rattle.std.specs.Option.{option_or}
 use Prim.Native.Nat.{ℕ, suc, ◌+◌, ◌/◌, ◌<◌, ◌≤◌}
-use mathlib.Core.Path.{◌≡◌}
+use mathlib.Core.Path.{◌≡◌, refl}
 use mathlib.Core.Bool.{Bool, true, false, not, ◌&&◌, ◌||◌}
-use mathlib.Core.Option.{Option}
 use mathlib.Core.List.{List, [], ◌∷◌}
 use native.Mathlib.Omega.{arith}
 use lib.Dec.{leb}
 use lib.ListN.{length, take}
 use Rattle.data.specs.Sense.{senses_click, senses_drag}
-use Rattle.model.specs.Interact.{Hit, insert_id, insert_some, insert_hits, insert_on_top, order}
+use Rattle.model.specs.Interact.{Hit, is_some, insert_id, insert_some, insert_hits, insert_on_top, order}
 use Rattle.hit_lists.proofs.Walk.{rest, at, next, done}
 use Rattle.id_set.specs.Ids.{Written}
 use Rattle.id_set.proofs.Insert.{one_more, some_more}
@@ -79,3 +81,11 @@ after_some o s a r b w = omega (arith, w.counted, (some_more o s).1)
 
 pub after_two : (o p : Option ℕ) (a : List ℕ) (r : ℕ) (b : List ℕ) → Written (insert_some o (insert_some p [])) a r b → r ≤ 2
 after_two o p a r b w = omega (arith, after_some o (insert_some p []) a r b w, (some_more p []).1)
+
+-- one of the three is there
+pub some_of : (a b c : Option ℕ) → now.is_some (option_or (option_or a b) c) ≡ (is_some a || is_some b || is_some c)
+unfolding is_some
+some_of (Some x) b c = refl
+some_of None (Some x) c = refl
+some_of None None (Some x) = refl
+some_of None None None = refl

@@ -1,31 +1,20 @@
 // The two id sets of an interact, hovered and contains_pointer, each written to a lent buffer.
 #![tactic(auto)]
 
-ghost use Rattle.std.specs.Prelude.{◌≡◌, ◌+◌, ◌<◌, ◌≤◌, max, length, take};
-ghost use Rattle.model.specs.Interact.{is_some, hit_id, insert_hits, insert_on_top};
+ghost use Rattle.std.specs.Prelude.{◌≡◌, ◌+◌, ◌<◌, ◌≤◌, length, take};
+ghost use Rattle.model.specs.Interact.{hit_id, insert_hits, insert_on_top};
 ghost use Rattle.hit_lists.specs.Hits.{hits_of, hit_of, view};
-ghost use Rattle.id_set.specs.Ids.{option_of, Written};
+ghost use Rattle.id_set.specs.Ids.{Written};
 ghost use Rattle.id_lists.specs.Ids.{on_top, insert_if, both_ids, contains_ids, busy_ids, free_ids, hovered_ids};
 
-use hit_lists::{MaybeHit, interactive, lies_from, order_of, seek};
-use id_set::{MaybeId, insert_id, insert_some};
+use hit_lists::{Hit, WidgetHits, interactive, lies_from, order_of, seek};
+use id_set::{insert_id, insert_some};
 
-pub fn is_some(id: MaybeId) -> bool
-    ensures { result ≡ is_some (option_of id) }
+#[tactic(auto, unfolding(model::specs::Interact::hit_id, hit_lists::specs::Hits::view))]
+pub fn hit_id(hit: Option<Hit>) -> Option<u64>
+    ensures { result ≡ hit_id (view hit) }
 {
-    match id {
-        MaybeId::None => false,
-        MaybeId::Some(_) => true,
-    }
-}
-
-pub fn hit_id(hit: MaybeHit) -> MaybeId
-    ensures { option_of result ≡ hit_id (view hit) }
-{
-    match hit {
-        MaybeHit::None => MaybeId::None,
-        MaybeHit::Some(h) => MaybeId::Some(h.id),
-    }
+    hit.map(|h| h.id)
 }
 
 // ---- the ids of a hit list
@@ -34,12 +23,10 @@ fn insert_hits(words: &[u64], ids: &mut [u64], count: usize) -> usize
     requires { count + length (hits_of words.now) ≤ length ids.old }
     ensures { Written (insert_hits (hits_of words.now) (take count ids.old)) ids.old result ids.new }
 {
-    let n = words.len() / 2;
+    // two words an entry, by index: C lends the list as plain numbers
     let mut r = count;
-    let mut i: usize = 0;
-    while i < n {
+    for i in 0..words.len() / 2 {
         r = insert_id(ids, r, words[i * 2]);
-        i += 1;
     }
     r
 }
@@ -49,10 +36,7 @@ fn insert_hits(words: &[u64], ids: &mut [u64], count: usize) -> usize
 fn on_top(top: usize, close: &[u64], hint: usize, id: u64, sense: u64) -> bool
     ensures { result ≡ on_top top (hits_of close.now) (hit_of id sense) }
 {
-    if interactive(sense) {
-        return false;
-    }
-    lies_from(close, top, hint, id)
+    !interactive(sense) && lies_from(close, top, hint, id)
 }
 
 fn insert_if(ids: &mut [u64], count: usize, keep: bool, id: u64) -> usize
@@ -65,29 +49,27 @@ fn insert_if(ids: &mut [u64], count: usize, keep: bool, id: u64) -> usize
     count
 }
 
+// Not `insert_hits` with a test: this walk also carries a place.
 // Both lists are in painting order as a rule, so an entry is sought from the last one's place in `close` on.
 fn insert_on_top(top: usize, close: &[u64], words: &[u64], ids: &mut [u64], count: usize) -> usize
     requires { count + length (hits_of words.now) ≤ length ids.old }
     ensures { Written (insert_on_top top (hits_of close.now) (hits_of words.now) (take count ids.old)) ids.old result ids.new }
 {
-    let n = words.len() / 2;
     let mut r = count;
     let mut at: usize = 0;
-    let mut i: usize = 0;
-    while i < n {
+    for i in 0..words.len() / 2 {
         let id = words[i * 2];
         at = seek(close, at, id);
         let keep = on_top(top, close, at, id, words[i * 2 + 1]);
         r = insert_if(ids, r, keep, id);
-        i += 1;
     }
     r
 }
 
 // ---- the two sets
 
-// The ids of the click's and the drag's hit.
-fn insert_both(click: MaybeHit, drag: MaybeHit, ids: &mut [u64]) -> usize
+// The ids of the click's and the drag's hit. Two calls: a loop over two options would need an invariant.
+fn insert_both(click: Option<Hit>, drag: Option<Hit>, ids: &mut [u64]) -> usize
     requires { 2 ≤ length ids.old }
     ensures { Written (both_ids click drag) ids.old result ids.new }
 {
@@ -96,25 +78,21 @@ fn insert_both(click: MaybeHit, drag: MaybeHit, ids: &mut [u64]) -> usize
 }
 
 // `contains_pointer`
-pub fn contains_pointer(within: &[u64], click: MaybeHit, drag: MaybeHit, ids: &mut [u64]) -> usize
-    requires { 2 + length (hits_of within.now) ≤ length ids.old }
-    ensures { Written (contains_ids within.now click drag) ids.old result ids.new }
+pub fn contains_pointer(hits: WidgetHits<'_>, ids: &mut [u64]) -> usize
+    requires { 2 + length (hits_of hits.contains_pointer.now) ≤ length ids.old }
+    ensures { Written (contains_ids hits.entry.contains_pointer.now hits.entry.click hits.entry.drag) ids.old result ids.new }
 {
-    let r = insert_both(click, drag, ids);
-    insert_hits(within, ids, r)
+    let r = insert_both(hits.click, hits.drag, ids);
+    insert_hits(hits.contains_pointer, ids, r)
 }
 
-fn larger(a: usize, b: usize) -> usize
-    ensures { result ≡ max a b }
-{
-    if a <= b {
-        return b;
-    }
-    a
-}
-
-// The ids that are clicked, dragged or long touched.
-fn insert_busy(clicked: MaybeId, dragged: MaybeId, touched: MaybeId, ids: &mut [u64]) -> usize
+// The ids that are clicked, dragged or long touched. Three calls, as above.
+fn insert_busy(
+    clicked: Option<u64>,
+    dragged: Option<u64>,
+    touched: Option<u64>,
+    ids: &mut [u64],
+) -> usize
     requires { 3 ≤ length ids.old }
     ensures { Written (busy_ids clicked dragged touched) ids.old result ids.new }
 {
@@ -124,37 +102,28 @@ fn insert_busy(clicked: MaybeId, dragged: MaybeId, touched: MaybeId, ids: &mut [
 }
 
 // While nothing is clicked or dragged.
-fn insert_hovered(
-    close: &[u64],
-    within: &[u64],
-    click: MaybeHit,
-    drag: MaybeHit,
-    ids: &mut [u64],
-) -> usize
-    requires { 2 + length (hits_of within.now) ≤ length ids.old }
-    ensures { Written (free_ids close.now within.now click drag) ids.old result ids.new }
+fn insert_hovered(hits: WidgetHits<'_>, ids: &mut [u64]) -> usize
+    requires { 2 + length (hits_of hits.contains_pointer.now) ≤ length ids.old }
+    ensures { Written (free_ids hits.entry.close.now hits.entry.contains_pointer.now hits.entry.click hits.entry.drag) ids.old result ids.new }
 {
-    let top = larger(order_of(close, click), order_of(close, drag));
-    let r = insert_both(click, drag, ids);
-    insert_on_top(top, close, within, ids, r)
+    let top = order_of(hits.close, hits.click).max(order_of(hits.close, hits.drag));
+    let r = insert_both(hits.click, hits.drag, ids);
+    insert_on_top(top, hits.close, hits.contains_pointer, ids, r)
 }
 
 // `hovered`
 pub fn hovered(
-    close: &[u64],
-    within: &[u64],
-    click: MaybeHit,
-    drag: MaybeHit,
-    clicked: MaybeId,
-    dragged: MaybeId,
-    touched: MaybeId,
+    hits: WidgetHits<'_>,
+    clicked: Option<u64>,
+    dragged: Option<u64>,
+    touched: Option<u64>,
     ids: &mut [u64],
 ) -> usize
-    requires { (3 ≤ length ids.old) × (2 + length (hits_of within.now) ≤ length ids.old) }
-    ensures { Written (hovered_ids close.now within.now click drag clicked dragged touched) ids.old result ids.new }
+    requires { (3 ≤ length ids.old) × (2 + length (hits_of hits.contains_pointer.now) ≤ length ids.old) }
+    ensures { Written (hovered_ids hits.entry.close.now hits.entry.contains_pointer.now hits.entry.click hits.entry.drag clicked dragged touched) ids.old result ids.new }
 {
-    if is_some(clicked) | is_some(dragged) | is_some(touched) {
+    if clicked.or(dragged).or(touched).is_some() {
         return insert_busy(clicked, dragged, touched, ids);
     }
-    insert_hovered(close, within, click, drag, ids)
+    insert_hovered(hits, ids)
 }

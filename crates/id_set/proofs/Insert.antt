@@ -1,9 +1,9 @@
 -- Putting an id in its place is the model's `insert_id`. Assumes nothing.
+use Rattle.std.specs.Prelude.{Option, None, Some}
 use Prim.Native.Nat.{ℕ, zero, suc, ◌<◌, ◌≤◌}
 use mathlib.Core.Path.{◌≡◌, refl, sym, ap}
 use mathlib.Core.Bool.{Bool, true, false, cond}
 use mathlib.Core.List.{List, [], ◌∷◌, ◌++◌}
-use mathlib.Core.Option.{Option, none, some}
 use native.Mathlib.Omega.{arith}
 use lib.Dec.{ltb, eqb}
 use lib.ListN.{length, get_or, take, drop}
@@ -59,8 +59,8 @@ one_more d (a ∷ s) = bounds (ltb d a) (eqb d a) d a s (insert_id d s) (one_mor
 
 pub some_more : (o : Option ℕ) (s : List ℕ) → (length s ≤ length (insert_some o s)) × (length (insert_some o s) ≤ suc (length s))
 unfolding insert_some
-some_more none s = (omega arith, omega arith)
-some_more (some d) s = one_more d s
+some_more None s = (omega arith, omega arith)
+some_more (Some d) s = one_more d s
 
 -- ---- the first `count` places of a buffer
 

@@ -1,12 +1,5 @@
 -- What is written to an id buffer. Lists of ids are the model's.
 use Rattle.std.specs.Prelude.{ℕ, ◌<◌, ◌≤◌, ◌≡◌, Bool, ◌&&◌, List, ◌++◌, ltb, eqb, length, get_or, drop}
-use Rattle.std.proofs.Math.Option.{Option, none, some}
-use Rattle.id_set.specs.Types.{MaybeId, no_id, some_id}
-
--- Option<Id>
-unfoldable pub option_of : MaybeId → Option ℕ
-option_of no_id = none
-option_of (some_id d) = some d
 
 -- 01: "Id buffer places beyond the list written keep their contents": a buffer, the list's length, and the buffer after it
 pub record Written (ids before : List ℕ) (count : ℕ) (after : List ℕ) : Type 0 where

@@ -1,10 +1,8 @@
 // `interact`: all checks first, then the answer, then the writes.
-ghost use Rattle.std.specs.Prelude.{◌≡◌, false, ◌&&◌, List, ◌+◌, ◌≤◌, leb, Float, length};
-ghost use Rattle.std.proofs.Math.Option.{none};
+ghost use Rattle.std.specs.Prelude.{◌≡◌, false, ◌&&◌, List, ◌+◌, ◌≤◌, leb, Float, length, None};
 ghost use Rattle.data.specs.Limits.{max_tally, max_hits, id_places};
 ghost use Rattle.hit_lists.specs.Hits.{hits_of};
 ghost use Rattle.hit_refusals.specs.Refusals.{input};
-ghost use Rattle.id_set.specs.Ids.{option_of};
 ghost use Rattle.pointer_events.specs.Events.{events};
 ghost use Rattle.model.specs.Pass.{Panel};
 ghost use Rattle.model.specs.Interact.{InteractInput, is_some, one_if, interact_seen, interact_by};
@@ -15,14 +13,14 @@ ghost use Rattle.interaction.specs.Post.{Answers, Answered, Interacts};
 
 use data::limits::MAX_TALLY;
 use data::refusal::InteractRefusal;
-use hit_lists::{MaybeHit, MaybeInteractRefusal};
+use hit_lists::{Hit, WidgetHits};
 use hit_refusals::input_refusal;
-use id_lists::{contains_pointer, hovered, is_some};
-use id_set::MaybeId;
+use id_lists::{contains_pointer, hovered};
 use interaction_events::walked;
 use interaction_state::drag::interaction_after;
+use interaction_state::lookup::Table;
 use interaction_state::state::{
-    Answer, Interacted, Interaction, InteractionSnapshot, Outcome, Seen, if_changed,
+    Answer, Interaction, InteractionSnapshot, Outcome, Seen, if_changed,
 };
 use pointer_events::CODES;
 use widget_index::table::{Numbers, WidgetRects, Words};
@@ -32,49 +30,40 @@ fn outcome(
     view: Seen,
     codes: &[u32; CODES],
     count: usize,
-    set: WidgetRects,
-    words: &Words,
-    numbers: &Numbers,
+    table: Table<'_>,
+    hits: WidgetHits<'_>,
     s: Interaction,
-    within: &[u64],
-    click: MaybeHit,
-    drag: MaybeHit,
 ) -> Outcome
-    ensures { (positions : List Float) (x : InteractInput) → Looks x set words.now numbers.now click drag
-        → x.contains_pointer ≡ hits_of within.now → Answers (seen_of view (events codes.now positions count)) x (interaction_of s) result }
+    ensures { (positions : List Float) (x : InteractInput) → Looks x table.entry.set table.entry.words.now table.entry.numbers.now hits.entry.click hits.entry.drag
+        → x.contains_pointer ≡ hits_of hits.entry.contains_pointer.now → Answers (seen_of view (events codes.now positions count)) x (interaction_of s) result }
 {
-    let g = walked(view, codes, count, click, drag, set, words, numbers, s);
-    let t = g.interaction;
-    let clicked = g.clicked;
-    let long_touched = g.long_touched;
-    let after = interaction_after(view, within, click, set, words, numbers, t);
+    let g = walked(view, codes, count, hits, table, s);
+    let after = interaction_after(view, hits, table, g.interaction);
     let before = s.dragged;
     let dragged = after.dragged;
-    let drag_started = if_changed(before, dragged, dragged);
-    let drag_stopped = if_changed(before, dragged, before);
     Outcome {
-        clicked,
-        long_touched,
-        drag_started,
-        drag_stopped,
+        clicked: g.clicked,
+        long_touched: g.long_touched,
+        drag_started: if_changed(before, dragged, dragged),
+        drag_stopped: if_changed(before, dragged, before),
         interaction: after,
     }
 }
 
-fn full(tally: u32, started: MaybeId) -> bool
-    ensures { result ≡ (is_some (option_of started) && leb max_tally tally) }
+fn full(tally: u32, started: Option<u64>) -> bool
+    ensures { result ≡ (is_some started && leb max_tally tally) }
 {
-    is_some(started) & (MAX_TALLY <= tally)
+    started.is_some() & (MAX_TALLY <= tally)
 }
 
 // A start is counted.
-fn tally_after(tally: u32, started: MaybeId) -> u32
-    requires { (is_some (option_of started) && leb max_tally tally) ≡ false }
-    ensures { result ≡ tally + one_if (option_of started) }
+fn tally_after(tally: u32, started: Option<u64>) -> u32
+    requires { (is_some started && leb max_tally tally) ≡ false }
+    ensures { result ≡ tally + one_if started }
 {
     match started {
-        MaybeId::None => tally,
-        MaybeId::Some(_) => tally + 1,
+        None => tally,
+        Some(_) => tally + 1,
     }
 }
 
@@ -82,45 +71,26 @@ fn tally_after(tally: u32, started: MaybeId) -> u32
 fn answered(
     o: Outcome,
     tally: u32,
-    close: &[u64],
-    within: &[u64],
-    click: MaybeHit,
-    drag: MaybeHit,
+    hits: WidgetHits<'_>,
     top: &mut [u64],
     all: &mut [u64],
 ) -> Answer
-    requires { (3 ≤ length top.old) × (2 + length (hits_of within.now) ≤ length top.old) × (2 + length (hits_of within.now) ≤ length all.old) }
-    ensures { Answered o tally close.now within.now click drag top.old all.old result top.new all.new }
+    requires { (3 ≤ length top.old) × (2 + length (hits_of hits.contains_pointer.now) ≤ length top.old) × (2 + length (hits_of hits.contains_pointer.now) ≤ length all.old) }
+    ensures { Answered o tally hits.entry.close.now hits.entry.contains_pointer.now hits.entry.click hits.entry.drag top.old all.old result top.new all.new }
 {
-    let after = o.interaction;
-    let clicked = o.clicked;
-    let long_touched = o.long_touched;
-    let drag_started = o.drag_started;
-    let drag_stopped = o.drag_stopped;
-    let dragged = after.dragged;
-    let n = hovered(
-        close,
-        within,
-        click,
-        drag,
-        clicked,
-        dragged,
-        long_touched,
-        top,
-    );
-    let m = contains_pointer(within, click, drag, all);
+    let dragged = o.interaction.dragged;
     let snapshot = InteractionSnapshot {
-        clicked,
-        long_touched,
-        drag_started,
+        clicked: o.clicked,
+        long_touched: o.long_touched,
+        drag_started: o.drag_started,
         dragged,
-        drag_stopped,
-        hovered: n,
-        contains_pointer: m,
+        drag_stopped: o.drag_stopped,
+        hovered: hovered(hits, o.clicked, dragged, o.long_touched, top),
+        contains_pointer: contains_pointer(hits, all),
     };
     Answer {
         snapshot,
-        interaction: after,
+        interaction: o.interaction,
         tally,
     }
 }
@@ -130,40 +100,31 @@ fn unless_full(
     view: Seen,
     codes: &[u32; CODES],
     count: usize,
-    set: WidgetRects,
-    words: &Words,
-    numbers: &Numbers,
+    table: Table<'_>,
     s: Interaction,
     tally: u32,
-    close: &[u64],
-    within: &[u64],
-    click: MaybeHit,
-    drag: MaybeHit,
+    hits: WidgetHits<'_>,
     top: &mut [u64],
     all: &mut [u64],
-) -> Interacted
-    requires { (id_places ≤ length top.old) × (id_places ≤ length all.old) × (length (hits_of within.now) ≤ max_hits) }
+) -> Result<Answer, InteractRefusal>
+    requires { (id_places ≤ length top.old) × (id_places ≤ length all.old) × (length (hits_of hits.contains_pointer.now) ≤ max_hits) }
     ensures { (positions edges : List Float) (p : Panel) → p.interaction ≡ interaction_of s → p.tally ≡ tally
         → Interacts p
-        (interact_by none (seen_of view (events codes.now positions count)) p
-        (input (lookup set words.now numbers.now edges)
-        close.now within.now click drag (length top.old) (length all.old)))
+        (interact_by None (seen_of view (events codes.now positions count)) p
+        (input (lookup table.entry.set table.entry.words.now table.entry.numbers.now edges)
+        hits.entry.close.now hits.entry.contains_pointer.now hits.entry.click hits.entry.drag (length top.old) (length all.old)))
         result top.old all.old top.new all.new }
 {
-    let o = outcome(
-        view, codes, count, set, words, numbers, s, within, click, drag,
-    );
-    let started = o.drag_started;
-    if full(tally, started) {
-        return Interacted::Refused(InteractRefusal::TallyFull);
+    let o = outcome(view, codes, count, table, hits, s);
+    if full(tally, o.drag_started) {
+        return Err(InteractRefusal::TallyFull);
     }
-    let n = tally_after(tally, started);
-    let answer = answered(o, n, close, within, click, drag, top, all);
-    Interacted::Taken(answer)
+    let n = tally_after(tally, o.drag_started);
+    Ok(answered(o, n, hits, top, all))
 }
 
 // `interact` of whatever is seen of the input, of every panel with this interaction state and tally: refused, or taken as the model takes it. `top` gets
-// the hovered ids, `all` those that contain the pointer.
+// the hovered ids, `all` those that contain the pointer. The parameters are those of the host's call, of which the hits and the table go on together.
 pub fn interact(
     view: Seen,
     codes: &[u32; CODES],
@@ -175,11 +136,11 @@ pub fn interact(
     tally: u32,
     close: &[u64],
     within: &[u64],
-    click: MaybeHit,
-    drag: MaybeHit,
+    click: Option<Hit>,
+    drag: Option<Hit>,
     top: &mut [u64],
     all: &mut [u64],
-) -> Interacted
+) -> Result<Answer, InteractRefusal>
     ensures { (positions edges : List Float) (p : Panel) → p.interaction ≡ interaction_of s → p.tally ≡ tally
         → Interacts p
         (interact_seen (seen_of view (events codes.now positions count)) p
@@ -187,11 +148,17 @@ pub fn interact(
         close.now within.now click drag (length top.old) (length all.old)))
         result top.old all.old top.new all.new }
 {
-    let why = input_refusal(close, within, click, drag, top.len(), all.len());
-    match why {
-        MaybeInteractRefusal::Some(r) => Interacted::Refused(r),
-        MaybeInteractRefusal::None => unless_full(
-            view, codes, count, set, words, numbers, s, tally, close, within, click, drag, top, all,
-        ),
-    }
+    let hits = WidgetHits {
+        close,
+        contains_pointer: within,
+        click,
+        drag,
+    };
+    let table = Table {
+        set,
+        words,
+        numbers,
+    };
+    input_refusal(hits, top.len(), all.len())?;
+    unless_full(view, codes, count, table, s, tally, hits, top, all)
 }

@@ -1,4 +1,5 @@
 -- The pointer events by their kinds, and a walk through them. Assumes nothing.
+use Rattle.std.specs.Prelude.{Option, None, Some}
 use Prim.Native.Nat.{ℕ, suc, ◌+◌, ◌-◌, ◌<◌, ◌≤◌}
 use mathlib.Core.Path.{◌≡◌, refl}
 use mathlib.Core.Bool.{Bool, true}
@@ -8,9 +9,8 @@ use native.Mathlib.Omega.{arith}
 use lib.Ieee.{Float}
 use borrow.Author.Tests.{eq-eqb, ne_eqb}
 use Rattle.feed.specs.Shape.{button_of}
-use mathlib.Core.Option.{Option}
 use Rattle.model.specs.Pass.{Interaction}
-use Rattle.model.specs.Types.{WidgetRect, PointerButton, Click, no_click, some_click, Moved, Pressed, Released}
+use Rattle.model.specs.Types.{WidgetRect, PointerButton, Click, Moved, Pressed, Released}
 use Rattle.model.specs.Interact.{InteractInput, Seen, Going, has_click, forget_gone_click, abort_if, long_touch_if, pointer_event, pointer_events, walked}
 use Rattle.pointer_events.specs.declared.Entry.{Entry}
 use Rattle.pointer_events.specs.Events.{click_of, event_of, entry_at, events_from}
@@ -24,17 +24,17 @@ module _ (e : Entry) where
   unfolding event_of
   is_pressed k = rw k
 
-  pub is_released : e.kind ≡ 2 → event_of e ≡ Released no_click (button_of e.button)
+  pub is_released : e.kind ≡ 2 → event_of e ≡ Released None (button_of e.button)
   unfolding event_of
   is_released k = rw k
 
-  pub is_clicked : (e.kind ≡ 0 → ⊥) → (e.kind ≡ 1 → ⊥) → (e.kind ≡ 2 → ⊥) → event_of e ≡ Released (some_click (click_of e)) (button_of e.button)
+  pub is_clicked : (e.kind ≡ 0 → ⊥) → (e.kind ≡ 1 → ⊥) → (e.kind ≡ 2 → ⊥) → event_of e ≡ Released (Some (click_of e)) (button_of e.button)
   unfolding event_of
   is_clicked a b c = rw (ne_eqb _ _ a, ne_eqb _ _ b, ne_eqb _ _ c)
 
 -- while dragging, a release is no click
 pub dragging_release : (x : InteractInput) (k : Click) (b : PointerButton) (g : Going)
-    → pointer_event x true (Released no_click b) g ≡ pointer_event x true (Released (some_click k) b) g
+    → pointer_event x true (Released None b) g ≡ pointer_event x true (Released (Some k) b) g
 unfolding pointer_event has_click
 dragging_release x k b g = refl
 

@@ -1,12 +1,11 @@
 -- What the walk through a pass's events is given and leaves, in the model.
-use Rattle.std.specs.Prelude.{ℕ, ◌≡◌, List, Float}
+use Rattle.std.specs.Prelude.{ℕ, ◌≡◌, List, Float, Option}
 use Rattle.model.specs.Types.{PointerEvent}
 use Rattle.model.specs.Interact as Model
 use Rattle.model.specs.Interact.{InteractInput}
 use Rattle.widget_index.specs.declared.table.WidgetRects.{WidgetRects}
-use Rattle.hit_lists.specs.declared.MaybeHit.{MaybeHit}
+use Rattle.hit_lists.specs.declared.Hit.{Hit}
 use Rattle.hit_lists.specs.Hits.{view}
-use Rattle.id_set.specs.Ids.{option_of}
 use Rattle.interaction_state.specs.declared.state.Seen.{Seen}
 use Rattle.interaction_state.specs.declared.state.Going.{Going}
 use Rattle.interaction_state.specs.View.{interaction_of}
@@ -14,7 +13,7 @@ use Rattle.interaction_state.specs.Lookup.{lookup}
 
 -- InteractionState's ids and what was clicked or long-touched so far
 unfoldable pub going_of : Going → Model.Going
-going_of g = record { interaction = interaction_of g.interaction; clicked = option_of g.clicked; long_touched = option_of g.long_touched }
+going_of g = record { interaction = interaction_of g.interaction; clicked = g.clicked; long_touched = g.long_touched }
 
 -- what an interact is told of the input, with the pass's pointer events
 unfoldable pub seen_of : Seen → List PointerEvent → Model.Seen
@@ -30,7 +29,7 @@ seen_of v events =
     }
 
 -- An input of the model whose widgets are those of the set, whatever its rectangles, and whose hits are these.
-pub record Looks (x : InteractInput) (set : WidgetRects) (words numbers : List ℕ) (click drag : MaybeHit) : Type 0 where
+pub record Looks (x : InteractInput) (set : WidgetRects) (words numbers : List ℕ) (click drag : Option Hit) : Type 0 where
   pub edges : List Float
   pub widgets : x.widgets ≡ lookup set words numbers edges
   pub click_hit : x.click ≡ view click

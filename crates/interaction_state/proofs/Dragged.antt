@@ -1,8 +1,9 @@
 -- The drag decision by cases. Assumes nothing.
+use Rattle.std.specs.Prelude.{Option, None, Some}
+use Rattle.std.specs.Bool.{then_some}
 use Prim.Native.Nat.{ℕ}
-use mathlib.Core.Path.{◌≡◌, refl, sym, ap, ◌∙◌}
+use mathlib.Core.Path.{◌≡◌, refl}
 use mathlib.Core.Bool.{Bool, true, false, cond, ◌&&◌}
-use mathlib.Core.Option.{Option, none, some}
 use native.Mathlib.Omega.{arith}
 use Rattle.model.specs.Types.{WidgetRect}
 use Rattle.model.specs.Interact.{InteractInput, kept_if, is_dragged, new_drag}
@@ -16,13 +17,18 @@ no_drag true a = refl
 no_drag false a = refl
 
 module _ (x : InteractInput) (dragging : Bool) where
-  pub unknown_drag : (m : Option WidgetRect) → (found_of m).known ≡ false → none ≡ new_drag x dragging m
+  pub unknown_drag : (m : Option WidgetRect) → found_of m ≡ None → None ≡ new_drag x dragging m
   unfolding found_of new_drag
-  unknown_drag none h = refl
-  unknown_drag (some w) h = let z : ◌≡◌ {A = ℕ} 0 1 = cc in absurd (omega arith)
+  unknown_drag None h = refl
+  unknown_drag (Some w) h = let z : ◌≡◌ {A = ℕ} 0 1 = cc in absurd (omega arith)
 
-  pub known_drag : (d : ℕ) (m : Option WidgetRect) → Of d m → (f : Found) → f ≡ found_of m → f.known ≡ true → (b : Bool)
-      → ((w : WidgetRect) → w.id ≡ d → found_of (some w) ≡ f → b ≡ is_dragged x dragging w) → kept_if b (some d) ≡ new_drag x dragging m
+  kept : (b : Bool) (d : ℕ) → then_some b d ≡ kept_if b (Some d)
+  unfolding kept_if
+  kept true d = refl
+  kept false d = refl
+
+  pub known_drag : (d : ℕ) (m : Option WidgetRect) → Of d m → (f : Found) → found_of m ≡ Some f → (b : Bool)
+      → ((w : WidgetRect) → w.id ≡ d → found_of (Some w) ≡ Some f → b ≡ is_dragged x dragging w) → then_some b d ≡ new_drag x dragging m
   unfolding found_of new_drag
-  known_drag d none o f q k b h = let z : ◌≡◌ {A = ℕ} 0 1 = (let t : false ≡ true = ap (λ (g : Found). g.known) (sym q) ∙ k in cc) in absurd (omega arith)
-  known_drag d (some w) o f q k b h = rw (h w (o w refl) (sym q), o w refl)
+  known_drag d None o f q b h = let z : ◌≡◌ {A = ℕ} 0 1 = cc in absurd (omega arith)
+  known_drag d (Some w) o f q b h = rw (h w (o w refl) q, o w refl) (kept _ d)

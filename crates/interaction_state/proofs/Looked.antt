@@ -1,18 +1,19 @@
 -- A lookup by the index: it answers the id that it was asked for, and what the steps make of its answer. Assumes nothing.
-use Prim.Native.Nat.{ℕ, zero, suc, ◌-◌, ◌<◌}
+use Rattle.std.specs.Prelude.{Option, None, Some}
+use Rattle.std.specs.Option.{option_eq, unwrap_or}
+use Prim.Native.Nat.{ℕ, zero, suc, ◌-◌}
 use mathlib.Core.Path.{◌≡◌, refl, sym, ap, ◌∙◌}
 use mathlib.Core.Bool.{Bool, true, false, cond}
-use mathlib.Core.Option.{Option, none, some}
 use mathlib.Core.List.{List}
 use native.Mathlib.Omega.{arith}
 use lib.Dec.{eqb}
 use lib.Ieee.{Float}
 use borrow.Author.Tests.{eqb-true}
 use Rattle.model.specs.Types.{WidgetRect}
-use Rattle.model.specs.Interact.{widget_id}
+use Rattle.model.specs.Interact.{widget_id, same_id}
 use Rattle.widget_index.specs.Layout.{id_at, link_at}
-use Rattle.widget_index.specs.Table.{chain, head, find, widget_at}
-use Rattle.interaction_state.specs.Types.{WidgetRects}
+use Rattle.widget_index.specs.Table.{chain, head, find}
+use Rattle.interaction_state.specs.Types.{WidgetRects, Found}
 use Rattle.interaction_state.specs.Lookup.{at_entry, lookup, found_of}
 
 -- along the links, only the id itself is found
@@ -32,7 +33,7 @@ chain_id words numbers d (suc fuel) e s h =
 
 -- an answer that is there is of the id d
 abbrev pub Of : ℕ → Option WidgetRect → Type 0
-Of d m = (w : WidgetRect) → m ≡ some w → w.id ≡ d
+Of d m = (w : WidgetRect) → m ≡ Some w → w.id ≡ d
 
 entry_of : (words numbers : List ℕ) (edges : List Float) (d e : ℕ) → ((s : ℕ) → e ≡ suc s → id_at words s ≡ d) → Of d (at_entry words numbers edges e)
 unfolding at_entry
@@ -40,8 +41,8 @@ entry_of words numbers edges d zero h w q = let z : ◌≡◌ {A = ℕ} 0 1 = cc
 entry_of words numbers edges d (suc s) h w q = ap (λ (o : Option WidgetRect). id_or d o) (sym q) ∙ h s refl
   where
     id_or : ℕ → Option WidgetRect → ℕ
-    id_or d none = d
-    id_or d (some w) = w.id
+    id_or d None = d
+    id_or d (Some w) = w.id
 
 pub looked_up : (set : WidgetRects) (words numbers : List ℕ) (edges : List Float) (d : ℕ) → Of d (lookup set words numbers edges d)
 unfolding lookup find
@@ -49,21 +50,28 @@ looked_up set words numbers edges d =
     entry_of words numbers edges d (find set words numbers d)
     (λ s q. chain_id words numbers d (head set words numbers d) (head set words numbers d) s q)
 
--- the entry e, which is not 0
-pub entry_there : (words numbers : List ℕ) (edges : List Float) (e : ℕ) → 0 < e → at_entry words numbers edges e ≡ some (widget_at words numbers edges (e - 1))
-unfolding at_entry
-entry_there words numbers edges zero h = absurd (omega arith)
-entry_there words numbers edges (suc s) h = let q : suc s - 1 ≡ s = omega arith in rw q
-
 -- ---- what the steps make of an answer m
 
-module _ (d : ℕ) where
-  pub known_is : (m : Option WidgetRect) → Of d m → (found_of m).known ≡ true → widget_id m ≡ some d
-  unfolding found_of widget_id
-  known_is none o h = let z : ◌≡◌ {A = ℕ} 0 1 = cc in absurd (omega arith)
-  known_is (some w) o h = ap some (o w refl)
+pub found_is : (w : WidgetRect) (f : Found) → found_of (Some w) ≡ Some f → (w.enabled ≡ f.enabled) × (w.sense ≡ f.sense)
+unfolding found_of
+found_is w f e =
+    let q : record { enabled = w.enabled; sense = w.sense } ≡ f = ap (λ (o : Option Found). unwrap_or o f) e in
+    (ap (λ (g : Found). g.enabled) q, ap (λ (g : Found). g.sense) q)
 
-pub unknown_is : (m : Option WidgetRect) → (found_of m).known ≡ false → widget_id m ≡ none
+pub known_is : (d : ℕ) (m : Option WidgetRect) → Of d m → (f : Found) → found_of m ≡ Some f → widget_id m ≡ Some d
 unfolding found_of widget_id
-unknown_is none h = refl
-unknown_is (some w) h = let z : ◌≡◌ {A = ℕ} 0 1 = cc in absurd (omega arith)
+known_is d None o f h = let z : ◌≡◌ {A = ℕ} 0 1 = cc in absurd (omega arith)
+known_is d (Some w) o f h = ap Some (o w refl)
+
+pub unknown_is : (m : Option WidgetRect) → found_of m ≡ None → widget_id m ≡ None
+unfolding found_of widget_id
+unknown_is None h = refl
+unknown_is (Some w) h = let z : ◌≡◌ {A = ℕ} 0 1 = cc in absurd (omega arith)
+
+-- ---- two ids are the same by `==`
+pub option_eq_is : (a b : Option ℕ) → option_eq eqb a b ≡ same_id a b
+unfolding same_id
+option_eq_is None None = refl
+option_eq_is None (Some b) = refl
+option_eq_is (Some a) None = refl
+option_eq_is (Some a) (Some b) = refl

@@ -2,27 +2,26 @@
 use Rattle.std.specs.Prelude.{ℕ, ◌&&◌, List, take}
 use Rattle.model.specs.Pass as Pass
 use Rattle.model.specs.Interact as Model
-use Rattle.id_set.specs.Ids.{option_of}
 use Rattle.interaction_state.specs.Types.{Interaction, Seen, InteractionSnapshot}
 
 -- egui's InteractionState
 unfoldable pub interaction_of : Interaction → Pass.Interaction
 interaction_of s =
     record {
-      potential_click_id = option_of s.potential_click_id;
-      potential_drag_id = option_of s.potential_drag_id;
-      dragged = option_of s.dragged;
+      potential_click_id = s.potential_click_id;
+      potential_drag_id = s.potential_drag_id;
+      dragged = s.dragged;
     }
 
 -- with the two buffers that the id sets were written to
 unfoldable pub snapshot_of : InteractionSnapshot → List ℕ → List ℕ → Model.InteractionSnapshot
 snapshot_of a hovered contains =
     record {
-      clicked = option_of a.clicked;
-      long_touched = option_of a.long_touched;
-      drag_started = option_of a.drag_started;
-      dragged = option_of a.dragged;
-      drag_stopped = option_of a.drag_stopped;
+      clicked = a.clicked;
+      long_touched = a.long_touched;
+      drag_started = a.drag_started;
+      dragged = a.dragged;
+      drag_stopped = a.drag_stopped;
       hovered = take a.hovered hovered;
       contains_pointer = take a.contains_pointer contains;
     }

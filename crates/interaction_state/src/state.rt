@@ -1,18 +1,13 @@
 // What an interact is given and what it leaves, as small values.
 ghost use Rattle.std.specs.Prelude.{◌≡◌};
-ghost use Rattle.id_set.specs.Ids.{option_of};
-ghost use Rattle.model.specs.Pass.{or_else};
-ghost use Rattle.model.specs.Interact.{kept_if, same_id, if_changed};
-
-use data::refusal::InteractRefusal;
-use id_set::MaybeId;
+ghost use Rattle.model.specs.Interact.{kept_if, if_changed};
 
 // `InteractionState`, with the widget that is dragged.
-#[derive(Clone, Copy)]
+#[derive(Clone, Copy, Default)]
 pub struct Interaction {
-    pub potential_click_id: MaybeId,
-    pub potential_drag_id: MaybeId,
-    pub dragged: MaybeId,
+    pub potential_click_id: Option<u64>,
+    pub potential_drag_id: Option<u64>,
+    pub dragged: Option<u64>,
 }
 
 // What an interact reads of the input, but for the pointer events.
@@ -29,21 +24,21 @@ pub struct Seen {
 }
 
 // Between two steps of an interact.
-#[derive(Clone, Copy)]
+#[derive(Clone, Copy, Default)]
 pub struct Going {
     pub interaction: Interaction,
-    pub clicked: MaybeId,
-    pub long_touched: MaybeId,
+    pub clicked: Option<u64>,
+    pub long_touched: Option<u64>,
 }
 
 // The two id sets are in the lent buffers: these are their lengths.
 #[derive(Clone, Copy)]
 pub struct InteractionSnapshot {
-    pub clicked: MaybeId,
-    pub long_touched: MaybeId,
-    pub drag_started: MaybeId,
-    pub dragged: MaybeId,
-    pub drag_stopped: MaybeId,
+    pub clicked: Option<u64>,
+    pub long_touched: Option<u64>,
+    pub drag_started: Option<u64>,
+    pub dragged: Option<u64>,
+    pub drag_stopped: Option<u64>,
     pub hovered: usize,
     pub contains_pointer: usize,
 }
@@ -51,10 +46,10 @@ pub struct InteractionSnapshot {
 // What an interact comes to, before anything is written.
 #[derive(Clone, Copy)]
 pub struct Outcome {
-    pub clicked: MaybeId,
-    pub long_touched: MaybeId,
-    pub drag_started: MaybeId,
-    pub drag_stopped: MaybeId,
+    pub clicked: Option<u64>,
+    pub long_touched: Option<u64>,
+    pub drag_started: Option<u64>,
+    pub drag_stopped: Option<u64>,
     pub interaction: Interaction,
 }
 
@@ -66,64 +61,18 @@ pub struct Answer {
     pub tally: u32,
 }
 
-#[derive(Clone, Copy)]
-pub enum Interacted {
-    Refused(InteractRefusal),
-    Taken(Answer),
-}
-
-// The first, if there is one.
-pub fn or_else(a: MaybeId, b: MaybeId) -> MaybeId
-    ensures { option_of result ≡ or_else (option_of a) (option_of b) }
+#[tactic(auto, unfolding(model::specs::Interact::kept_if))]
+pub fn kept_if(keep: bool, id: Option<u64>) -> Option<u64>
+    ensures { result ≡ kept_if keep id }
 {
-    match a {
-        MaybeId::None => b,
-        MaybeId::Some(d) => MaybeId::Some(d),
-    }
-}
-
-pub fn kept_if(keep: bool, id: MaybeId) -> MaybeId
-    ensures { option_of result ≡ kept_if keep (option_of id) }
-{
-    if keep {
-        return id;
-    }
-    MaybeId::None
-}
-
-fn is_id(d: u64, id: MaybeId) -> bool
-    ensures { result ≡ same_id (option_of (MaybeId.Some d)) (option_of id) }
-{
-    match id {
-        MaybeId::None => false,
-        MaybeId::Some(e) => d == e,
-    }
-}
-
-fn is_none(id: MaybeId) -> bool
-    ensures { result ≡ same_id (option_of MaybeId.None) (option_of id) }
-{
-    match id {
-        MaybeId::None => true,
-        MaybeId::Some(_) => false,
-    }
-}
-
-fn same_id(a: MaybeId, b: MaybeId) -> bool
-    ensures { result ≡ same_id (option_of a) (option_of b) }
-{
-    match a {
-        MaybeId::None => is_none(b),
-        MaybeId::Some(d) => is_id(d, b),
-    }
+    // an if: `filter` would take a closure that reads no id
+    if keep { id } else { None }
 }
 
 // `drag_changed.then_some(..)`
-pub fn if_changed(before: MaybeId, after: MaybeId, id: MaybeId) -> MaybeId
-    ensures { option_of result ≡ if_changed (option_of before) (option_of after) (option_of id) }
+#[tactic(auto, using(crate::proofs::Looked::option_eq_is), unfolding(model::specs::Interact::if_changed))]
+pub fn if_changed(before: Option<u64>, after: Option<u64>, id: Option<u64>) -> Option<u64>
+    ensures { result ≡ if_changed before after id }
 {
-    if same_id(after, before) {
-        return MaybeId::None;
-    }
-    id
+    if after == before { None } else { id }
 }

@@ -6,6 +6,6 @@ pub returns-then-at-words : goal.returns-then-at-words
 unfolding hit_at
 returns-then-at-words c = rw (lt-ltb _ _ c.if-at-words.true)
 
-pub returns : goal.returns
+pub returns-else-at-words : goal.returns-else-at-words
 unfolding hit_at
-returns c = rw (le-ltb _ _ c.if-at-words.false)
+returns-else-at-words c = rw (le-ltb _ _ c.if-at-words.false)

@@ -1,7 +1,6 @@
--- `hit_refusals::hits_refusal` meets its contract. The invariant: the entries passed are refused by nothing, so what the others are refused by is the
-use Prim.Native.Nat.{◌≤◌, ◌-◌, ◌/◌}
+-- The invariant: the entries passed are refused by nothing, so what the others are refused by is the answer.
+use Prim.Native.Nat.{◌≤◌, ◌-◌}
 use mathlib.Core.Path.{◌≡◌}
-use lib.ListN.{length}
 use Rattle.data.specs.Limits.{max_hits}
 use Rattle.model.specs.Interact.{hits_refusal}
 use Rattle.hit_lists.specs.Hits.{hits_of}
@@ -9,7 +8,4 @@ use Rattle.hit_lists.proofs.Walk.{rest}
 use Rattle.hit_refusals.proofs.hits_refusal.Given as goal
 
 abbrev pub invariant-loop-i : goal.invariant-loop-i
-invariant-loop-i l = (l.n ≡ length l.words / 2) × (l.i ≤ l.n) × (l.i ≤ max_hits) × (hits_refusal (max_hits - l.i) l.i (rest l.words l.i) ≡ hits_refusal max_hits 0 (hits_of l.words))
-
-abbrev pub decreases-loop-i : goal.decreases-loop-i
-decreases-loop-i l = l.n - l.i
+invariant-loop-i l = (l.i ≤ max_hits) × (hits_refusal (max_hits - l.i) l.i (rest l.words l.i) ≡ hits_refusal max_hits 0 (hits_of l.words))

@@ -10,25 +10,23 @@ pub loop-i-init : goal.loop-i-init
 loop-i-init c =
     let a = c.args in
     let l = entries a.words.now in
-    (refl, omega arith, omega arith, omega arith, refl, kept a.count a.ids.now (omega arith), refl)
+    (omega arith, omega arith, refl, kept a.count a.ids.now (omega arith), refl)
 
 pub loop-i-preserved : goal.loop-i-preserved
 loop-i-preserved c =
     let v = c.loop-i.invariant in
     let w = c.insert_id-r.ensures in (
-      refl,
+      v.0,
+      omega (arith, step_bound _ _ _ v.3 (insert_id _) (id_grows _) _ _ w),
       omega arith,
-      v.2,
-      omega (arith, step_bound _ _ _ v.5 (insert_id _) (id_grows _) _ _ w),
-      omega arith,
-      stepped _ _ _ v.5 (insert_id _) (id_grows _) _ _ w,
-      rw (step_list _ _ _ v.5 (insert_id _) (id_grows _) _ _ w) (sym (hits_next _ _ c.loop-i-test.true _) ∙ v.6),
+      stepped _ _ _ v.3 (insert_id _) (id_grows _) _ _ w,
+      rw (step_list _ _ _ v.3 (insert_id _) (id_grows _) _ _ w) (sym (hits_next _ _ c.loop-i-test.true _) ∙ v.4),
     )
 
 pub shape_of-ids : goal.shape_of-ids
-shape_of-ids c = c.loop-i.invariant.4
+shape_of-ids c = c.loop-i.invariant.2
 
 pub returns : goal.returns
 returns c =
     let v = c.loop-i.invariant in
-    rw (sym v.6 ∙ hits_done _ _ c.loop-i-test.false _) v.5
+    rw (sym v.4 ∙ hits_done _ _ c.loop-i-test.false _) v.3

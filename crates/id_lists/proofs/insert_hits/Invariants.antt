@@ -1,5 +1,5 @@
 -- The invariant: what is written so far, with the ids of the entries to come, is the whole list.
-use Prim.Native.Nat.{◌+◌, ◌≤◌, ◌-◌, ◌/◌}
+use Prim.Native.Nat.{◌+◌, ◌≤◌, ◌/◌}
 use mathlib.Core.Path.{◌≡◌}
 use lib.ListN.{length, take}
 use Rattle.model.specs.Interact.{insert_hits}
@@ -9,7 +9,4 @@ use Rattle.id_set.specs.Ids.{Written}
 use Rattle.id_lists.proofs.insert_hits.Given as goal
 
 abbrev pub invariant-loop-i : goal.invariant-loop-i
-invariant-loop-i l = (l.n ≡ length l.words / 2) × (l.i ≤ l.n) × (l.count + l.n ≤ length l.initial.ids) × (l.r ≤ l.count + l.i) × (length l.ids ≡ length l.initial.ids) × Written (take l.r l.ids) l.initial.ids l.r l.ids × (insert_hits (rest l.words l.i) (take l.r l.ids) ≡ insert_hits (hits_of l.words) (take l.count l.initial.ids))
-
-abbrev pub decreases-loop-i : goal.decreases-loop-i
-decreases-loop-i l = l.n - l.i
+invariant-loop-i l = (l.count + length l.words / 2 ≤ length l.initial.ids) × (l.r ≤ l.count + l.i) × (length l.ids ≡ length l.initial.ids) × Written (take l.r l.ids) l.initial.ids l.r l.ids × (insert_hits (rest l.words l.i) (take l.r l.ids) ≡ insert_hits (hits_of l.words) (take l.count l.initial.ids))

@@ -8,5 +8,5 @@ pub insert_on_top-requires : goal.insert_on_top-requires
 insert_on_top-requires c = omega (arith, after_two _ _ _ _ _ c.insert_both-r.ensures)
 
 pub returns : goal.returns
-returns c = rw (← c.order_of.ensures, ← c.order_of-2.ensures, ← c.larger-top.ensures)
+returns c = rw (← c.order_of.ensures, ← c.order_of-2.ensures, ← c.max-top.ensures)
     (then_by _ _ _ _ c.insert_both-r.ensures (insert_on_top _ _ _) (top_more _ _ _) _ _ c.insert_on_top.ensures)

@@ -5,4 +5,4 @@ use Rattle.interaction_events.proofs.forget_gone_click.Goals as goal
 
 pub returns : goal.returns
 unfolding forget_gone_click interaction_of
-returns c edges = rw (known_kept, c.known_id-kept.ensures edges)
+returns c edges = rw (known_kept, c.known_id.ensures edges)

@@ -8,16 +8,15 @@ use Rattle.interaction_events.proofs.pointer_events.Goals as goal
 
 pub loop-i-init : goal.loop-i-init
 unfolding events
-loop-i-init c = (omega arith, omega (arith, c.counted-n.ensures), λ ps x l. let z : c.counted-n.result - 0 ≡ min c.args.count max_events = omega (arith, c.counted-n.ensures) in rw z)
+loop-i-init c ps x l =
+    let z : c.counted-i-end.result - 0 ≡ min c.args.count max_events = omega (arith, c.counted-i-end.ensures) in
+    rw z
 
 pub loop-i-preserved : goal.loop-i-preserved
 unfolding entry_at
-loop-i-preserved c =
-    let v = c.loop-i.invariant in (
-      omega arith,
-      v.1,
-      λ ps x l. rw (c.pointer_event-h.ensures x l (entry_at c.args.codes.now ps c.loop-i.i) refl) (sym (one_event _ ps x _ _ _ c.loop-i-test.true _) ∙ v.2 ps x l),
-    )
+loop-i-preserved c ps x l =
+    rw (c.pointer_event-h.ensures x l (entry_at c.args.codes.now ps c.loop-i.i) refl)
+    (sym (one_event _ ps x _ _ _ c.loop-i-test.true _) ∙ c.loop-i.invariant ps x l)
 
 pub returns : goal.returns
-returns c ps x l = sym (no_event _ ps x _ _ _ c.loop-i-test.false _) ∙ c.loop-i.invariant.2 ps x l
+returns c ps x l = sym (no_event _ ps x _ _ _ c.loop-i-test.false _) ∙ c.loop-i.invariant ps x l

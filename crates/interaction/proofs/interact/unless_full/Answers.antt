@@ -7,7 +7,7 @@ use Rattle.interaction.proofs.interact.unless_full.Goals as goal
 pub returns-then-full : goal.returns-then-full
 returns-then-full c ps edges p hs ht =
     let a = c.args in
-    let l = looks a.set a.words.now a.numbers.now edges a.close.now a.within.now a.click a.drag _ _ in
+    let l = looks a.table.set a.table.words.now a.table.numbers.now edges a.hits.close.now a.hits.contains_pointer.now a.hits.click a.hits.drag _ _ in
     let refused = refuses _ _ p _ _ _ _ hs ht (c.outcome-o.ensures ps _ l (within_is _ _ _ _ _ _ _)) (sym c.full.ensures ∙ c.if-full.true) in
     record {
       answer = refused;
@@ -22,13 +22,13 @@ tally_after-n-requires c = sym c.full.ensures ∙ c.if-full.false
 pub returns : goal.returns
 returns c ps edges p hs ht =
     let a = c.args in
-    let l = looks a.set a.words.now a.numbers.now edges a.close.now a.within.now a.click a.drag _ _ in
+    let l = looks a.table.set a.table.words.now a.table.numbers.now edges a.hits.close.now a.hits.contains_pointer.now a.hits.click a.hits.drag _ _ in
     let answered =
     taken _ _ p _ _ _ _ _ _ _ _ _ _ hs ht (c.outcome-o.ensures ps _ l (within_is _ _ _ _ _ _ _)) (sym c.full.ensures ∙ c.if-full.false) _
-    c.tally_after-n.ensures _ _ _ _ _ c.answered-answer.ensures in
+    c.tally_after-n.ensures _ _ _ _ _ c.answered.ensures in
     record {
       answer = answered;
       row = ap row_of answered;
-      hovered_kept = beyond _ _ _ _ c.answered-answer.ensures.hovered_written;
-      contains_kept = beyond _ _ _ _ c.answered-answer.ensures.contains_written;
+      hovered_kept = beyond _ _ _ _ c.answered.ensures.hovered_written;
+      contains_kept = beyond _ _ _ _ c.answered.ensures.contains_written;
     }

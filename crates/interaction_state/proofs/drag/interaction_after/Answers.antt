@@ -3,4 +3,4 @@ use Rattle.interaction_state.proofs.drag.interaction_after.Goals as goal
 
 pub returns : goal.returns
 unfolding kept_after interaction_of
-returns c x edges hw hc hk = rw (c.kept_if-new_drag.ensures, c.kept_if-new_click.ensures, c.dragged_after-dragged.ensures x edges hw hc hk)
+returns c x edges hw hc hk = rw (c.kept_if-2.ensures, c.kept_if.ensures, c.dragged_after-dragged.ensures x edges hw hc hk)
