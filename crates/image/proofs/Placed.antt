@@ -1,10 +1,10 @@
 -- Reading is told by places. Assumes nothing.
+use Rattle.std.specs.Prelude.{Option, None, Some}
 use Prim.Native.Nat.{ℕ, zero, suc, ◌+◌, ◌-◌, ◌*◌, ◌≤◌}
 use native.Mathlib.Omega.{arith}
 use native.Mathlib.Nat.{add-mul}
 use mathlib.Core.Path.{◌≡◌, refl, sym, ap, ap₂, ◌∙◌, subst}
 use mathlib.Core.Bool.{Bool, true, false, not, cond}
-use mathlib.Core.Option.{Option, none, some}
 use mathlib.Core.List.{List, [], ◌∷◌, ◌++◌}
 use lib.Dec.{T, eqb, ltb, leb, leb→le, ltb→lt, nltb→le, eqb-suc-zero}
 use lib.Seq.{drop-cons}
@@ -30,7 +30,7 @@ abbrev pair : {A B : Type 0} → A → B → A × B
 pair v u = (v, u)
 
 abbrev present : {A : Type 0} → A → Option A
-present v = some v
+present v = Some v
 
 abbrev chosen : (f : ℕ → Code) (k : ℕ) → El (f k) → (k : ℕ) × El (f k)
 chosen f k u = (k, u)
@@ -54,11 +54,11 @@ word_told : (p : ℕ → Bool) (ws : List ℕ) (i : ℕ) → Told (read_word p i
 unfolding read_word word_bad
 word_told p ws i = go (at ws i)
   where
-    test : (b : Bool) → p (get_or ws i 0) ≡ b → Told (read_word p i (get_or ws i 0 ∷ drop (suc i) ws)) (cond (p (get_or ws i 0)) none (some i)) (get_or ws i 0) ws (suc i)
+    test : (b : Bool) → p (get_or ws i 0) ≡ b → Told (read_word p i (get_or ws i 0 ∷ drop (suc i) ws)) (cond (p (get_or ws i 0)) None (Some i)) (get_or ws i 0) ws (suc i)
     test true e = rw e (refl, refl, refl, refl)
     test false e = rw e refl
 
-    go : At ws i → Told (read_word p i (drop i ws)) (cond (ltb i (length ws)) (cond (p (get_or ws i 0)) none (some i)) (some i)) (get_or ws i 0) ws (suc i)
+    go : At ws i → Told (read_word p i (drop i ws)) (cond (ltb i (length ws)) (cond (p (get_or ws i 0)) None (Some i)) (Some i)) (get_or ws i 0) ws (suc i)
     go (inside e d) = rw (e, d) (test (p (get_or ws i 0)) refl)
     go (outside e d) = rw (e, d) refl
 
@@ -66,12 +66,12 @@ two_told : (p : ℕ → Bool) (ws : List ℕ) (i : ℕ) → Told (read_two p i (
 unfolding read_two two_bad two_at
 two_told p ws i = go (at ws i) (at ws (suc i))
   where
-    test : (b : Bool) → p (two_at ws i) ≡ b → Told (read_two p i (get_or ws i 0 ∷ get_or ws (suc i) 0 ∷ drop (suc (suc i)) ws)) (cond (p (two_at ws i)) none (some i)) (two_at ws i) ws (suc (suc i))
+    test : (b : Bool) → p (two_at ws i) ≡ b → Told (read_two p i (get_or ws i 0 ∷ get_or ws (suc i) 0 ∷ drop (suc (suc i)) ws)) (cond (p (two_at ws i)) None (Some i)) (two_at ws i) ws (suc (suc i))
     test true e = rw e (refl, refl, refl, refl)
     test false e = rw e refl
 
     go : At ws i → At ws (suc i)
-        → Told (read_two p i (drop i ws)) (cond (ltb i (length ws)) (cond (ltb (suc i) (length ws)) (cond (p (two_at ws i)) none (some i)) (some (suc i))) (some i)) (two_at ws i) ws (suc (suc i))
+        → Told (read_two p i (drop i ws)) (cond (ltb i (length ws)) (cond (ltb (suc i) (length ws)) (cond (p (two_at ws i)) None (Some i)) (Some (suc i))) (Some i)) (two_at ws i) ws (suc (suc i))
     go (inside e d) (inside e' d') = rw (e, e', d, d') (test (p (two_at ws i)) refl)
     go (inside e d) (outside e' d') = rw (e, e', d, d') refl
     go (outside e d) y = rw (e, d) refl
@@ -90,7 +90,7 @@ moved r b v ws k l e h = subst (λ (z : ℕ). Told r b v ws z) e h
 -- ---- entries
 -- as told-then, where what follows is asked only if the first is good
 told_after : {A B : Type 0} (r : Read A) (b : Option ℕ) (v : A) (ws : List ℕ) (k : ℕ) → Told r b v ws k
-    → (f : A → ℕ → List ℕ → Read B) (c : Option ℕ) (u : B) (l : ℕ) → (b ≡ none → Told (f v k (drop k ws)) c u ws l) → Told (then r f) (or_else b c) u ws l
+    → (f : A → ℕ → List ℕ → Read B) (c : Option ℕ) (u : B) (l : ℕ) → (b ≡ None → Told (f v k (drop k ws)) c u ws l) → Told (then r f) (or_else b c) u ws l
 unfolding then or_else
 told_after (bad j) b v ws k h f c u l g = ap (λ (x : Option ℕ). or_else x c) h
 told_after (good w j rest) b v ws k h f c u l g = told_then (good w j rest) b v ws k h f c u l (g h.0)
@@ -129,24 +129,24 @@ module _ {A : Type 0} (r : ℕ → List ℕ → Read A) (s : ℕ) (b : List ℕ 
       (λ d j rest. then (r j rest) (λ v l more. then (read_keyed k p r (d ∷ seen) l more) (λ vs o left. good ((d, v) ∷ vs) o left))) (or_else (b ws (i + 2)) c) (one ∷ vs) l m
 
 -- a count that passed its test
-word_most : (m : ℕ) (ws : List ℕ) (i : ℕ) → word_bad (λ w. leb w m) ws i ≡ none → get_or ws i 0 ≤ m
+word_most : (m : ℕ) (ws : List ℕ) (i : ℕ) → word_bad (λ w. leb w m) ws i ≡ None → get_or ws i 0 ≤ m
 word_most m ws i h = leb→le (get_or ws i 0) m (word_sound (λ w. leb w m) ws i h)
 
 option_told : (a : Code) (ws : List ℕ) (i : ℕ) → Told (read a (suc i) (drop (suc i) ws)) (bad_at a ws (suc i)) (value_at a ws (suc i)) ws (suc i + size a) → (w : ℕ)
-    → Told (read_option (size a) (read a) w (suc i) (drop (suc i) ws)) (cond (eqb w 0) (zeros_bad (size a) ws (suc i)) (bad_at a ws (suc i))) (cond (eqb w 0) none (some (value_at a ws (suc i)))) ws (i + suc (size a))
+    → Told (read_option (size a) (read a) w (suc i) (drop (suc i) ws)) (cond (eqb w 0) (zeros_bad (size a) ws (suc i)) (bad_at a ws (suc i))) (cond (eqb w 0) None (Some (value_at a ws (suc i)))) ws (i + suc (size a))
 unfolding read_option
 option_told a ws i h zero =
     let r = read_zeros (size a) (suc i) (drop (suc i) ws) in
     let b = zeros_bad (size a) ws (suc i) in
-    let no_value : Unit → Option (El a) = λ u. none in
-    moved (then r (λ u j rest. good (no_value u) j rest)) b none ws (suc i + size a) (i + suc (size a)) (omega arith)
+    let no_value : Unit → Option (El a) = λ u. None in
+    moved (then r (λ u j rest. good (no_value u) j rest)) b None ws (suc i + size a) (i + suc (size a)) (omega arith)
     (told_map no_value r b tt ws (suc i + size a) (zeros_told (size a) ws (suc i)))
 option_told a ws i h (suc k) =
     let r = read a (suc i) (drop (suc i) ws) in
     let b = bad_at a ws (suc i) in
     let v = value_at a ws (suc i) in
     rw (eqb-suc-zero k)
-    (moved (then r (λ u j rest. good (present u) j rest)) b (some v) ws (suc i + size a) (i + suc (size a)) (omega arith) (told_map present r b v ws (suc i + size a) h))
+    (moved (then r (λ u j rest. good (present u) j rest)) b (Some v) ws (suc i + size a) (i + suc (size a)) (omega arith) (told_map present r b v ws (suc i + size a) h))
 
 both_told : (a b : Code) (ws : List ℕ) (i s t : ℕ) → Told (read a i (drop i ws)) (bad_at a ws i) (value_at a ws i) ws (i + s)
     → Told (read b (i + s) (drop (i + s) ws)) (bad_at b ws (i + s)) (value_at b ws (i + s)) ws (i + s + t)
@@ -205,7 +205,7 @@ by_places (maybe a) x ws i =
     let t : ℕ → Bool = λ w. ltb w 2 in
     let w = get_or ws i 0 in
     told_then (read_word t i (drop i ws)) (word_bad t ws i) w ws (suc i) (word_told t ws i) (λ w j rest. read_option (size a) (read a) w j rest)
-    (cond (eqb w 0) (zeros_bad (size a) ws (suc i)) (bad_at a ws (suc i))) (cond (eqb w 0) none (some (value_at a ws (suc i)))) (i + suc (size a)) (option_told a ws i (by_places a x ws (suc i)) w)
+    (cond (eqb w 0) (zeros_bad (size a) ws (suc i)) (bad_at a ws (suc i))) (cond (eqb w 0) None (Some (value_at a ws (suc i)))) (i + suc (size a)) (option_told a ws i (by_places a x ws (suc i)) w)
 by_places (group n a) x ws i =
     let t = eqb (header n (size a)) in
     told_then (read_word t i (drop i ws)) (word_bad t ws i) (get_or ws i 0) ws (suc i) (word_told t ws i) (λ w j rest. read a j rest)

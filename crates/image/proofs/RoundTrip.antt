@@ -1,10 +1,10 @@
 -- Reading gives what writing wrote, and takes only that: one induction over the descriptions each. Assumes nothing.
+use Rattle.std.specs.Prelude.{Option, None, Some}
 use Prim.Native.Nat.{ℕ, zero, suc, ◌+◌, ◌-◌, ◌*◌, ◌/◌, ◌%◌, ◌<◌}
 use native.Mathlib.Omega.{arith}
 use native.Mathlib.Nat.{mul-div_cancel}
 use mathlib.Core.Path.{◌≡◌, refl, sym, ap, ap₂, ◌∙◌, subst}
 use mathlib.Core.Bool.{Bool, true, false, ◌&&◌, cond}
-use mathlib.Core.Option.{Option, none, some}
 use mathlib.Core.List.{List, [], ◌∷◌, ◌++◌, append_assoc}
 use lib.Dec.{T, eqb, ltb, leb, eqb→eq, eqb_refl, ltb→lt, lt→ltb}
 use lib.ListN.{length}
@@ -164,17 +164,17 @@ option_came : {A : Type 0} (n : ℕ) (f : A → List ℕ) (r : ℕ → List ℕ 
     → read_option n r w i ws ≡ good v j rest → Is (option_words n f) (w ∷ ws) v rest
 unfolding read_option option_words
 option_came n f r t zero i ws k b v j rest h =
-    let c = came (read_zeros n i ws) (λ u j rest. good none j rest) v j rest h in
+    let c = came (read_zeros n i ws) (λ u j rest. good None j rest) v j rest h in
     let z = zeros_came n i ws k c.value c.at c.left c.first in
-    let e : none ≡ v = good_value none v c.at j c.left rest c.next in
-    let l : c.left ≡ rest = good_rest none v c.at j c.left rest c.next in
+    let e : None ≡ v = good_value None v c.at j c.left rest c.next in
+    let l : c.left ≡ rest = good_rest None v c.at j c.left rest c.next in
     subst (λ (o : Option _). Is (option_words n f) (0 ∷ ws) o rest) e
     (record { is = ap (λ (y : List ℕ). 0 ∷ y) (z.is ∙ ap (λ (y : List ℕ). zeros n ++ y) l); words = subst Words l z.words })
 option_came n f r t (suc m) i ws k b v j rest h =
-    let c = came (r i ws) (λ u j rest. good (some u) j rest) v j rest h in
+    let c = came (r i ws) (λ u j rest. good (Some u) j rest) v j rest h in
     let z = t i ws k c.value c.at c.left c.first in
-    let e : some c.value ≡ v = good_value (some c.value) v c.at j c.left rest c.next in
-    let l : c.left ≡ rest = good_rest (some c.value) v c.at j c.left rest c.next in
+    let e : Some c.value ≡ v = good_value (Some c.value) v c.at j c.left rest c.next in
+    let l : c.left ≡ rest = good_rest (Some c.value) v c.at j c.left rest c.next in
     let x : m ≡ 0 = (let y = ltb→lt (suc m) 2 b in omega (arith, y)) in
     subst (λ (o : Option _). Is (option_words n f) (suc m ∷ ws) o rest) e
     (record { is = ap₂ (λ (x : ℕ) (y : List ℕ). suc x ∷ y) x (z.is ∙ ap (λ (y : List ℕ). f c.value ++ y) l); words = subst Words l z.words })
@@ -346,10 +346,10 @@ abbrev paired : {A B : Type 0} → A → B → ℕ → List ℕ → Read (A × B
 paired v u l more = good (v, u) l more
 
 abbrev absent : {A : Type 0} → ℕ → List ℕ → Read (Option A)
-absent l more = good none l more
+absent l more = good None l more
 
 abbrev present : {A : Type 0} → A → ℕ → List ℕ → Read (Option A)
-present v l more = good (some v) l more
+present v l more = good (Some v) l more
 
 abbrev Back : {A : Type 0} → (A → Type 0) → (A → List ℕ) → (ℕ → List ℕ → Read A) → Type 0
 Back {A} P f r = (v : A) → P v → (i : ℕ) (rest : List ℕ) → r i (f v ++ rest) ≡ good v (i + length (f v)) rest
@@ -405,10 +405,10 @@ back (array n a) vs h i rest =
 back (maybe a) v h i rest = go v h (back a)
   where
     go : (v : Option (El a)) → In (maybe a) v → Back (In a) (write a) (read a) → read (maybe a) i (option_words (size a) (write a) v ++ rest) ≡ good v (i + length (option_words (size a) (write a) v)) rest
-    go none h b =
+    go None h b =
         ap (λ (z : Read Unit). then z (λ u j rest. absent {A = El a} j rest)) (zeros_back (size a) (suc i) rest)
         ∙ ap (λ (z : ℕ). absent {A = El a} z rest) (omega arith)
-    go (some v) h b =
+    go (Some v) h b =
         ap (λ (z : Read (El a)). then z (λ u j rest. present u j rest)) (b v h (suc i) rest)
         ∙ ap (λ (z : ℕ). present v z rest) (omega arith)
 back (group n a) v h i rest =

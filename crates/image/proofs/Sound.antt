@@ -1,9 +1,9 @@
 -- What was read where no word is wrong is in range: one induction over the descriptions. Assumes nothing.
+use Rattle.std.specs.Prelude.{Option, None, Some}
 use Prim.Native.Nat.{ℕ, zero, suc, ◌+◌, ◌*◌}
 use native.Mathlib.Omega.{arith}
 use mathlib.Core.Path.{◌≡◌, refl, sym, subst}
 use mathlib.Core.Bool.{Bool, true, false, cond}
-use mathlib.Core.Option.{Option, none, some}
 use mathlib.Core.List.{List, []}
 use lib.Dec.{T, eqb, ltb, leb}
 use lib.ListN.{length, get_or}
@@ -15,23 +15,23 @@ use Rattle.image.specs.Places.{word_bad, two_at, two_bad, zeros_bad, rows_bad, r
 use Rattle.image.proofs.Lists.{or_else_none, rows_length}
 
 -- ---- a test that nothing is wrong with was passed
-wrong : {A : Type 0} (i : ℕ) → some i ≡ none → A
+wrong : {A : Type 0} (i : ℕ) → Some i ≡ None → A
 wrong i h = let z : ◌≡◌ {A = ℕ} 0 1 = cc in absurd (omega arith)
 
-pub word_sound : (p : ℕ → Bool) (ws : List ℕ) (i : ℕ) → word_bad p ws i ≡ none → T (p (get_or ws i 0))
+pub word_sound : (p : ℕ → Bool) (ws : List ℕ) (i : ℕ) → word_bad p ws i ≡ None → T (p (get_or ws i 0))
 unfolding word_bad
 word_sound p ws i h = go (ltb i (length ws)) (p (get_or ws i 0)) refl h
   where
-    go : (x y : Bool) → p (get_or ws i 0) ≡ y → cond x (cond y none (some i)) (some i) ≡ none → T (p (get_or ws i 0))
+    go : (x y : Bool) → p (get_or ws i 0) ≡ y → cond x (cond y None (Some i)) (Some i) ≡ None → T (p (get_or ws i 0))
     go true true e h = subst T (sym e) tt
     go true false e h = wrong i h
     go false y e h = wrong i h
 
-two_sound : (p : ℕ → Bool) (ws : List ℕ) (i : ℕ) → two_bad p ws i ≡ none → T (p (two_at ws i))
+two_sound : (p : ℕ → Bool) (ws : List ℕ) (i : ℕ) → two_bad p ws i ≡ None → T (p (two_at ws i))
 unfolding two_bad
 two_sound p ws i h = go (ltb i (length ws)) (ltb (suc i) (length ws)) (p (two_at ws i)) refl h
   where
-    go : (x y z : Bool) → p (two_at ws i) ≡ z → cond x (cond y (cond z none (some i)) (some (suc i))) (some i) ≡ none → T (p (two_at ws i))
+    go : (x y z : Bool) → p (two_at ws i) ≡ z → cond x (cond y (cond z None (Some i)) (Some (suc i))) (Some i) ≡ None → T (p (two_at ws i))
     go true true true e h = subst T (sym e) tt
     go true true false e h = wrong i h
     go true false z e h = wrong (suc i) h
@@ -50,13 +50,13 @@ unfolding table_ok
 table_most n m s w h = and_r (eqb (header n (count_of n s w * s)) w) (leb (count_of n s w) m) h
 
 -- ---- entries
-module _ {A : Type 0} (P : A → Type 0) (s : ℕ) (b : List ℕ → ℕ → Option ℕ) (v : List ℕ → ℕ → A) (ws : List ℕ) (each : (i : ℕ) → b ws i ≡ none → P (v ws i)) where
-  rows_in : (k i : ℕ) → rows_bad s b k ws i ≡ none → Each P (rows_at s v k ws i)
+module _ {A : Type 0} (P : A → Type 0) (s : ℕ) (b : List ℕ → ℕ → Option ℕ) (v : List ℕ → ℕ → A) (ws : List ℕ) (each : (i : ℕ) → b ws i ≡ None → P (v ws i)) where
+  rows_in : (k i : ℕ) → rows_bad s b k ws i ≡ None → Each P (rows_at s v k ws i)
   unfolding rows_bad rows_at
   rows_in zero i h = tt
   rows_in (suc k) i h = let g = or_else_none _ _ h in (each i g.0, rows_in k (i + s) g.1)
 
-  keys_in : (p : List ℕ → ℕ → Bool) (k : ℕ) (seen : List ℕ) (i : ℕ) → keys_bad s p b k seen ws i ≡ none → Keyed p P seen (rows_at (2 + s) (key_at v) k ws i)
+  keys_in : (p : List ℕ → ℕ → Bool) (k : ℕ) (seen : List ℕ) (i : ℕ) → keys_bad s p b k seen ws i ≡ None → Keyed p P seen (rows_at (2 + s) (key_at v) k ws i)
   unfolding keys_bad rows_at
   keys_in p zero seen i h = tt
   keys_in p (suc k) seen i h =
@@ -79,8 +79,8 @@ sound_is_in (both a b) z ws i h = let g = or_else_none _ _ h in (sound_is_in a z
 sound_is_in (array n a) z ws i h = (rows_length (size a) (value_at a) ws n i, rows_in (In a) (size a) (bad_at a) (value_at a) ws (sound_is_in a z ws) n i h)
 sound_is_in (maybe a) z ws i h = go (eqb (get_or ws i 0) 0) (sound_is_in a z ws (suc i)) (or_else_none _ _ h).1
   where
-    go : (b : Bool) → (bad_at a ws (suc i) ≡ none → In a (value_at a ws (suc i))) → cond b (zeros_bad (size a) ws (suc i)) (bad_at a ws (suc i)) ≡ none
-        → In (maybe a) (cond b none (some (value_at a ws (suc i))))
+    go : (b : Bool) → (bad_at a ws (suc i) ≡ None → In a (value_at a ws (suc i))) → cond b (zeros_bad (size a) ws (suc i)) (bad_at a ws (suc i)) ≡ None
+        → In (maybe a) (cond b None (Some (value_at a ws (suc i))))
     go true f h = tt
     go false f h = f h
 sound_is_in (group n a) z ws i h = sound_is_in a z ws (suc i) (or_else_none _ _ h).1

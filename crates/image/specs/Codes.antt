@@ -1,7 +1,6 @@
 -- Descriptions of an image's fields (02 A.6): what is written and read is defined from them, so that both say the same. Definitions only.
 -- "names, order, fields and ranges are yours": a form is one description, and a limit or a range is an argument of it.
-use Rattle.std.specs.Prelude.{ℕ, zero, suc, ◌+◌, ◌-◌, ◌*◌, ◌/◌, ◌%◌, ◌≡◌, Bool, ◌&&◌, cond, List, [], ◌∷◌, ◌++◌, T, eqb, ltb, leb, length, Float}
-use Rattle.std.proofs.Math.Option.{Option, none, some}
+use Rattle.std.specs.Prelude.{ℕ, zero, suc, ◌+◌, ◌-◌, ◌*◌, ◌/◌, ◌%◌, ◌≡◌, Bool, ◌&&◌, cond, List, [], ◌∷◌, ◌++◌, T, eqb, ltb, leb, length, Float, Option, None, Some}
 use Rattle.std.specs.Float.{binary32, binary64}
 use Rattle.std.specs.Float.Ieee.{of_bits, to_bits, fits}
 
@@ -82,8 +81,8 @@ all f (v ∷ vs) = f v ++ all f vs
 
 -- a value or none
 unfoldable pub option_words : {A : Type 0} → ℕ → (A → List ℕ) → Option A → List ℕ
-option_words n f none = 0 ∷ zeros n
-option_words n f (some v) = 1 ∷ f v
+option_words n f None = 0 ∷ zeros n
+option_words n f (Some v) = 1 ∷ f v
 
 -- an id, and what belongs to it
 unfoldable pub entry_words : {A : Type 0} → (A → List ℕ) → ℕ × A → List ℕ
@@ -141,8 +140,8 @@ read_zeros (suc n) i ws = then (read_word (eqb 0) i ws) (λ w j rest. read_zeros
 
 -- by the flag before it
 unfoldable pub read_option : {A : Type 0} → ℕ → (ℕ → List ℕ → Read A) → ℕ → ℕ → List ℕ → Read (Option A)
-read_option n f zero i ws = then (read_zeros n i ws) (λ u j rest. good none j rest)
-read_option n f (suc k) i ws = then (f i ws) (λ v j rest. good (some v) j rest)
+read_option n f zero i ws = then (read_zeros n i ws) (λ u j rest. good None j rest)
+read_option n f (suc k) i ws = then (f i ws) (λ v j rest. good (Some v) j rest)
 
 -- so many entries
 unfoldable pub read_times : {A : Type 0} → ℕ → (ℕ → List ℕ → Read A) → ℕ → List ℕ → Read (List A)
@@ -198,8 +197,8 @@ In (double p) v = T (fits binary64 v) × T (p v)
 In (id p) v = T (p v)
 In (both a b) v = In a v.0 × In b v.1
 In (array n a) vs = (length vs ≡ n) × Each (In a) vs
-In (maybe a) none = Unit {0}
-In (maybe a) (some v) = In a v
+In (maybe a) None = Unit {0}
+In (maybe a) (Some v) = In a v
 In (group n a) v = In a v
 In (blank n) v = Unit {0}
 In (choice n f) v = T (ltb v.0 n) × In (f v.0) v.1

@@ -1,18 +1,17 @@
 -- The same by places, as code goes about it: what is wrong with the words from a place on, and the value there. Definitions only.
-use Rattle.std.specs.Prelude.{ℕ, zero, suc, ◌+◌, ◌-◌, ◌*◌, ◌≡◌, Bool, cond, List, [], ◌∷◌, ◌++◌, T, eqb, ltb, leb, length, get_or, drop}
-use Rattle.std.proofs.Math.Option.{Option, none, some}
+use Rattle.std.specs.Prelude.{ℕ, zero, suc, ◌+◌, ◌-◌, ◌*◌, ◌≡◌, Bool, cond, List, [], ◌∷◌, ◌++◌, T, eqb, ltb, leb, length, get_or, drop, Option, None, Some}
 use Rattle.std.specs.Float.{binary32, binary64}
 use Rattle.std.specs.Float.Ieee.{of_bits}
 use Rattle.image.specs.Codes.{Code, word, single, double, id, both, array, maybe, group, table, blank, choice, keyed, ranked, El, size, half, header, single_ok, double_ok, count_of, table_ok, Read, bad, good, read, write, In, Words}
 
 -- "the first word": what is wrong earlier is told
 unfoldable pub or_else : Option ℕ → Option ℕ → Option ℕ
-or_else none b = b
-or_else (some a) b = some a
+or_else None b = b
+or_else (Some a) b = Some a
 
 -- a word that is missing, or outside its range
 unfoldable pub word_bad : (ℕ → Bool) → List ℕ → ℕ → Option ℕ
-word_bad p ws i = cond (ltb i (length ws)) (cond (p (get_or ws i 0)) none (some i)) (some i)
+word_bad p ws i = cond (ltb i (length ws)) (cond (p (get_or ws i 0)) None (Some i)) (Some i)
 
 -- a field of two words, the high one first
 unfoldable pub two_at : List ℕ → ℕ → ℕ
@@ -20,16 +19,16 @@ two_at ws i = get_or ws i 0 * half + get_or ws (suc i) 0
 
 -- missing at the first word that is, outside its range at its own first word
 unfoldable pub two_bad : (ℕ → Bool) → List ℕ → ℕ → Option ℕ
-two_bad p ws i = cond (ltb i (length ws)) (cond (ltb (suc i) (length ws)) (cond (p (two_at ws i)) none (some i)) (some (suc i))) (some i)
+two_bad p ws i = cond (ltb i (length ws)) (cond (ltb (suc i) (length ws)) (cond (p (two_at ws i)) None (Some i)) (Some (suc i))) (Some i)
 
 -- the first word that is no zero
 unfoldable pub zeros_bad : ℕ → List ℕ → ℕ → Option ℕ
-zeros_bad zero ws i = none
+zeros_bad zero ws i = None
 zeros_bad (suc n) ws i = or_else (word_bad (eqb 0) ws i) (zeros_bad n ws (suc i))
 
 -- ---- entries of one size, one after the other: what is wrong with the first of them, and what they are
 unfoldable pub rows_bad : ℕ → (List ℕ → ℕ → Option ℕ) → ℕ → List ℕ → ℕ → Option ℕ
-rows_bad s f zero ws i = none
+rows_bad s f zero ws i = None
 rows_bad s f (suc k) ws i = or_else (f ws i) (rows_bad s f k ws (i + s))
 
 unfoldable pub rows_at : {A : Type 0} → ℕ → (List ℕ → ℕ → A) → ℕ → List ℕ → ℕ → List A
@@ -38,7 +37,7 @@ rows_at s f (suc k) ws i = f ws i ∷ rows_at s f k ws (i + s)
 
 -- entries by id, s words each after the id; `seen` are the ids before
 unfoldable pub keys_bad : ℕ → (List ℕ → ℕ → Bool) → (List ℕ → ℕ → Option ℕ) → ℕ → List ℕ → List ℕ → ℕ → Option ℕ
-keys_bad s p f zero seen ws i = none
+keys_bad s p f zero seen ws i = None
 keys_bad s p f (suc k) seen ws i = or_else (two_bad (p seen) ws i) (or_else (f ws (i + 2)) (keys_bad s p f k (two_at ws i ∷ seen) ws (i + (2 + s))))
 
 -- an id and what belongs to it
@@ -88,7 +87,7 @@ value_at (double p) ws i = of_bits binary64 (two_at ws i)
 value_at (id p) ws i = two_at ws i
 value_at (both a b) ws i = (value_at a ws i, value_at b ws (i + span a ws i))
 value_at (array n a) ws i = rows_at (size a) (value_at a) n ws i
-value_at (maybe a) ws i = cond (eqb (get_or ws i 0) 0) none (some (value_at a ws (suc i)))
+value_at (maybe a) ws i = cond (eqb (get_or ws i 0) 0) None (Some (value_at a ws (suc i)))
 value_at (group n a) ws i = value_at a ws (suc i)
 value_at (table n m a) ws i = rows_at (size a) (value_at a) (count_of n (size a) (get_or ws i 0)) ws (suc i)
 value_at (blank n) ws i = tt
@@ -130,8 +129,8 @@ Placed (ranked n m p a) = Fixed a
 
 -- a reading from place i of ws is told by places: it is bad there, or good with that value and goes on at k
 abbrev pub Told : {A : Type 0} → Read A → Option ℕ → A → List ℕ → ℕ → Type 0
-Told (bad j) b v ws k = b ≡ some j
-Told (good u j rest) b v ws k = (b ≡ none) × (u ≡ v) × (j ≡ k) × (rest ≡ drop k ws)
+Told (bad j) b v ws k = b ≡ Some j
+Told (good u j rest) b v ws k = (b ≡ None) × (u ≡ v) × (j ≡ k) × (rest ≡ drop k ws)
 
 -- reading a description is asking by places
 abbrev pub ReadsByPlaces : Type 0
@@ -139,7 +138,7 @@ ReadsByPlaces = (c : Code) → Placed c → (ws : List ℕ) (i : ℕ) → Told (
 
 -- what was written at a place is there
 pub record Written (c : Code) (v : El c) (ws : List ℕ) (i : ℕ) : Type 0 where
-  pub sound : bad_at c ws i ≡ none
+  pub sound : bad_at c ws i ≡ None
   pub value : value_at c ws i ≡ v
   pub next : i + span c ws i ≡ i + length (write c v)
 
@@ -149,7 +148,7 @@ WrittenIsThere = (c : Code) → Placed c → (v : El c) → In c v → (ws : Lis
 
 -- "every accepted image is the one that writing its state would produce", at any place: where no word is wrong, they are those of the value there
 abbrev pub SoundIsWritten : Type 0
-SoundIsWritten = (c : Code) → Placed c → (ws : List ℕ) (i : ℕ) → Words (drop i ws) → bad_at c ws i ≡ none → drop i ws ≡ write c (value_at c ws i) ++ drop (i + span c ws i) ws
+SoundIsWritten = (c : Code) → Placed c → (ws : List ℕ) (i : ℕ) → Words (drop i ws) → bad_at c ws i ≡ None → drop i ws ≡ write c (value_at c ws i) ++ drop (i + span c ws i) ws
 
 -- the codes whose tables have entries of some words, so that a length tells how many
 abbrev pub Sized : Code → Type 0
@@ -169,7 +168,7 @@ Sized (ranked n m p a) = Sized a
 
 -- what was read is in range: "15 at the first word outside its field's range .."
 abbrev pub SoundIsIn : Type 0
-SoundIsIn = (c : Code) → Sized c → (ws : List ℕ) (i : ℕ) → bad_at c ws i ≡ none → In c (value_at c ws i)
+SoundIsIn = (c : Code) → Sized c → (ws : List ℕ) (i : ℕ) → bad_at c ws i ≡ None → In c (value_at c ws i)
 
 -- the ids of a list pass their tests
 abbrev pub Tested : {A : Type 0} → (List ℕ → ℕ → Bool) → List ℕ → List (ℕ × A) → Type 0

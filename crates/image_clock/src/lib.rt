@@ -2,16 +2,17 @@
 #![tactic(auto)]
 
 ghost use Rattle.std.specs.Prelude.{◌≡◌};
-ghost use Rattle.image.specs.Codes.{write, In};
-ghost use Rattle.image.specs.Places.{bad_at, value_at};
+ghost use Rattle.image.specs.Codes.{write, In, single_ok, double_ok};
+ghost use Rattle.image.specs.Places.{bad_at, value_at, word_bad, two_bad};
+ghost use Rattle.data.specs.Limits.{time_ok, unit_interval_ok};
 ghost use Rattle.image_words.specs.Leaves.{found};
 ghost use Rattle.input_state.specs.View.{clock};
 ghost use Rattle.image_clock.specs.Clock.{clock_place, clock_code, clock_el, clock_of, ClockOk};
 
 use domain::{time_ok, unit_interval_ok};
 use image_words::{
-    MaybeIndex, double_at, double_bad, double_in_bad, double_word, first, header_bad, high, low,
-    single_at, single_bad, single_in_bad, single_word,
+    double_at, double_bad, double_in_bad, double_word, header_bad, high, low, single_at,
+    single_bad, single_in_bad, single_word,
 };
 use input_state::clock::Clock;
 
@@ -47,19 +48,30 @@ pub fn clock_words(c: Clock) -> [u32; 8]
     ]
 }
 
-// Each field is asked, whatever the others say.
-pub fn clock_bad(words: &[u32]) -> MaybeIndex
+fn time_bad(words: &[u32]) -> Result<(), usize>
+    ensures { found result ≡ two_bad (double_ok time_ok) words.now 2 }
+{
+    double_in_bad(words, TIME, time_ok(double_at(words, TIME)))
+}
+
+fn predicted_bad(words: &[u32]) -> Result<(), usize>
+    ensures { found result ≡ word_bad (single_ok unit_interval_ok) words.now 8 }
+{
+    let ok = unit_interval_ok(single_at(words, PREDICTED_DT));
+    single_in_bad(words, PREDICTED_DT, ok)
+}
+
+// The first wrong word of the group.
+#[tactic(auto, unfolding(image::specs::Places::bad_at, image::specs::Places::span, image::specs::Places::or_else, image::specs::Codes::size, image_words::specs::Leaves::found))]
+pub fn clock_bad(words: &[u32]) -> Result<(), usize>
     ensures { found result ≡ bad_at clock_code words.now clock_place }
 {
-    let leading = header_bad(words, CLOCK_PLACE, CLOCK);
-    let time = double_in_bad(words, TIME, time_ok(double_at(words, TIME)));
-    let pointer_time = double_bad(words, POINTER_TIME);
-    let unstable = single_bad(words, UNSTABLE_DT);
-    let stable = single_bad(words, STABLE_DT);
-    let dt = unit_interval_ok(single_at(words, PREDICTED_DT));
-    let predicted = single_in_bad(words, PREDICTED_DT, dt);
-    let dts = first(unstable, first(stable, predicted));
-    first(leading, first(time, first(pointer_time, dts)))
+    header_bad(words, CLOCK_PLACE, CLOCK)?;
+    time_bad(words)?;
+    double_bad(words, POINTER_TIME)?;
+    single_bad(words, UNSTABLE_DT)?;
+    single_bad(words, STABLE_DT)?;
+    predicted_bad(words)
 }
 
 pub fn clock_at(words: &[u32]) -> Clock

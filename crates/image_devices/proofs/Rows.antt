@@ -1,9 +1,9 @@
 -- A device's words, and a turn of each loop over the devices.
+use Rattle.std.specs.Prelude.{Option, None}
 use Prim.Native.Nat.{ℕ, zero, suc, ◌+◌, ◌*◌, ◌/◌, ◌%◌, ◌≤◌, ◌<◌}
 use native.Mathlib.Numerals.{add-one}
 use native.Mathlib.Omega.{arith}
 use mathlib.Core.Path.{◌≡◌, refl, sym, ap, ◌∙◌}
-use mathlib.Core.Option.{Option, none}
 use mathlib.Core.List.{List, [], ◌∷◌, ◌++◌, map, append-nil}
 use lib.ListN.{length, get_or, set, take, length-map, length-take, length-append}
 use lib.Seq.{sets, take-suc, take-suc-set}
@@ -110,7 +110,7 @@ module _ (f : List ℕ → ℕ → Option ℕ) (ws : List ℕ) where
       ap (λ (z : Option ℕ). or_else (two_bad (ascending (d ∷ xs)) ws i) (or_else (f ws (i + 2)) z)) (keys_last n (two_at ws i) (d ∷ xs) (d ∷ ys) (i + 86))
 
   -- where nothing is wrong, nothing is wrong with any entry
-  pub sound_entry : (n : ℕ) (seen : List ℕ) (i j : ℕ) → j < n → keys_bad 84 ascending f n seen ws i ≡ none → f ws (i + j * 86 + 2) ≡ none
+  pub sound_entry : (n : ℕ) (seen : List ℕ) (i j : ℕ) → j < n → keys_bad 84 ascending f n seen ws i ≡ None → f ws (i + j * 86 + 2) ≡ None
   unfolding keys_bad
   sound_entry zero seen i j h e = absurd (omega arith)
   sound_entry (suc n) seen i zero h e = let z : i + 0 * 86 + 2 ≡ i + 2 = omega arith in rw z (or_else_none _ _ (or_else_none _ _ e).1).0
@@ -141,14 +141,14 @@ pub value_device : (ws : List ℕ) (i : ℕ) → value_at (device_code max_touch
 unfolding value_at span size
 value_device ws i = refl
 
-devices_sound : (ws : List ℕ) (at : ℕ) → bad_at (devices_code max_devices max_touches) ws at ≡ none
-    → (word_bad (table_ok 12 4 86) ws at ≡ none) × (keys_bad 84 ascending (bad_at (device_code max_touches)) (count_of 12 86 (get_or ws at 0)) [] ws (suc at) ≡ none)
+devices_sound : (ws : List ℕ) (at : ℕ) → bad_at (devices_code max_devices max_touches) ws at ≡ None
+    → (word_bad (table_ok 12 4 86) ws at ≡ None) × (keys_bad 84 ascending (bad_at (device_code max_touches)) (count_of 12 86 (get_or ws at 0)) [] ws (suc at) ≡ None)
 unfolding bad_at size
 devices_sound ws at h = or_else_none _ _ h
 
 -- of every device the touches are right
-pub sound_touches : (ws : List ℕ) (at n i : ℕ) → bad_at (devices_code max_devices max_touches) ws at ≡ none
-    → (word_bad (table_ok 12 4 86) ws at ≡ none → n ≡ count_of 12 86 (get_or ws at 0)) → i < n → bad_at (touches_code max_touches) ws (at + 1 + i * 86 + 2) ≡ none
+pub sound_touches : (ws : List ℕ) (at n i : ℕ) → bad_at (devices_code max_devices max_touches) ws at ≡ None
+    → (word_bad (table_ok 12 4 86) ws at ≡ None → n ≡ count_of 12 86 (get_or ws at 0)) → i < n → bad_at (touches_code max_touches) ws (at + 1 + i * 86 + 2) ≡ None
 sound_touches ws at n i h k l =
     let s = devices_sound ws at h in
     let e = k s.0 in

@@ -1,8 +1,7 @@
 // Group 12 of an image (02 A.6): the touch devices by ascending id, each with its touches and its gesture.
 #![tactic(auto)]
 
-ghost use Rattle.std.specs.Prelude.{◌≡◌, [], map, ◌+◌, ◌*◌, ◌<◌, ◌≤◌, length, take};
-ghost use Rattle.std.proofs.Math.Option.{none};
+ghost use Rattle.std.specs.Prelude.{◌≡◌, [], map, ◌+◌, ◌*◌, ◌<◌, ◌≤◌, length, take, None};
 ghost use Rattle.std.proofs.lemmas.List.Edits.{sets};
 ghost use Rattle.data.specs.Limits.{max_devices, max_touches};
 ghost use Rattle.touch_device.specs.View.{device_view};
@@ -16,7 +15,7 @@ ghost use Rattle.image_devices.specs.Devices.{device_code, devices_code, device_
 use data::limits::MAX_DEVICES;
 use image_gesture::{gesture_at, gesture_bad, gesture_put};
 use image_touches::{touches_at, touches_bad, touches_put};
-use image_words::{MaybeIndex, first, high, key_bad, low, table_bad, table_count, two_at};
+use image_words::{high, key_bad, low, table_bad, table_count, two_at};
 use touch_device::Device;
 use touch_state::devices::Devices;
 
@@ -58,11 +57,9 @@ fn rows_put(places: [Device; MAX_DEVICES], n: usize, out: &mut [u32], at: usize)
     ensures { (out.new ≡ sets out.old at (all (entry_words (write (device_code max_touches))) (devices_el (map device_view (take n places)))))
         × Each DeviceIn (devices_el (map device_view (take n places))) }
 {
-    let mut i: usize = 0;
-    while i < n {
+    for i in 0..n {
         let d = places[i];
         device_put(d, out, at + i * DEVICE_WORDS);
-        i += 1;
     }
 }
 
@@ -78,11 +75,9 @@ fn rows_words(places: [Device; MAX_DEVICES], n: usize) -> usize
     ensures { (result ≡ n * 86) × (result ≡ length (all (entry_words (write (device_code max_touches))) (devices_el (map device_view (take n places))))) }
 {
     let mut words: usize = 0;
-    let mut i: usize = 0;
-    while i < n {
+    for i in 0..n {
         let d = places[i];
         words += device_words(d);
-        i += 1;
     }
     words
 }
@@ -107,55 +102,47 @@ pub fn devices_put(ds: Devices, out: &mut [u32], at: usize)
     rows_put(places, n, out, at + 1);
 }
 
-fn device_bad(words: &[u32], at: usize, start: bool, before: u64) -> MaybeIndex
+fn device_bad(words: &[u32], at: usize, before: Option<u64>) -> Result<(), usize>
     requires { at + 86 < 0x1000_0000 }
-    ensures { found result ≡ or_else (two_bad (ascending (seen_of start before)) words.now at) (bad_at (device_code max_touches) words.now (at + 2)) }
+    ensures { found result ≡ or_else (two_bad (ascending (seen_of before)) words.now at) (bad_at (device_code max_touches) words.now (at + 2)) }
 {
-    let id = key_bad(words, at, start, before);
-    let touches = touches_bad(words, at + TOUCHES, MOST_TOUCHES);
-    let gesture = gesture_bad(words, at + GESTURE);
-    first(id, first(touches, gesture))
+    key_bad(words, at, before)?;
+    touches_bad(words, at + TOUCHES, MOST_TOUCHES)?;
+    gesture_bad(words, at + GESTURE)
 }
 
-fn rows_bad(words: &[u32], at: usize, n: usize) -> MaybeIndex
+fn rows_bad(words: &[u32], at: usize, n: usize) -> Result<(), usize>
     requires { at + n * 86 + 86 < 0x1000_0000 }
     ensures { found result ≡ keys_bad 84 ascending (bad_at (device_code max_touches)) n [] words.now at }
 {
-    let mut bad = MaybeIndex::None;
-    let mut start = true;
-    let mut before: u64 = 0;
-    let mut k = at;
-    let mut left = n;
-    while 0 < left {
-        bad = first(bad, device_bad(words, k, start, before));
-        before = two_at(words, k);
-        start = false;
-        k += DEVICE_WORDS;
-        left -= 1;
+    let mut before = None;
+    for i in 0..n {
+        let k = at + i * DEVICE_WORDS;
+        device_bad(words, k, before)?;
+        before = Some(two_at(words, k));
     }
-    bad
+    Ok(())
 }
 
 // How many devices follow, where the leading word is right.
 pub fn devices_count(words: &[u32], at: usize) -> usize
-    ensures { (result ≤ max_devices) × (bad_at (devices_code max_devices max_touches) words.now at ≡ none → 1 + result * 86 ≡ span (devices_code max_devices max_touches) words.now at) }
+    ensures { (result ≤ max_devices) × (bad_at (devices_code max_devices max_touches) words.now at ≡ None → 1 + result * 86 ≡ span (devices_code max_devices max_touches) words.now at) }
 {
     table_count(words, at, DEVICES, MOST_DEVICES, DEVICE_SIZE)
 }
 
-pub fn devices_bad(words: &[u32], at: usize) -> MaybeIndex
+#[tactic(auto, unfolding(image::specs::Places::bad_at, image::specs::Places::span, image::specs::Places::or_else, image::specs::Codes::size, image_words::specs::Leaves::found))]
+pub fn devices_bad(words: &[u32], at: usize) -> Result<(), usize>
     requires { at < 0x100_0000 }
     ensures { found result ≡ bad_at (devices_code max_devices max_touches) words.now at }
 {
+    table_bad(words, at, DEVICES, MOST_DEVICES, DEVICE_SIZE)?;
     let n = table_count(words, at, DEVICES, MOST_DEVICES, DEVICE_SIZE);
-    first(
-        table_bad(words, at, DEVICES, MOST_DEVICES, DEVICE_SIZE),
-        rows_bad(words, at + 1, n),
-    )
+    rows_bad(words, at + 1, n)
 }
 
 fn device_at(words: &[u32], at: usize) -> Device
-    requires { (at + 86 < 0x1000_0000) × (bad_at (touches_code max_touches) words.now (at + 2) ≡ none) }
+    requires { (at + 86 < 0x1000_0000) × (bad_at (touches_code max_touches) words.now (at + 2) ≡ None) }
     ensures { device_view result ≡ device_of (key_at (value_at (device_code max_touches)) words.now at) }
 {
     let id = two_at(words, at);
@@ -170,16 +157,14 @@ fn device_at(words: &[u32], at: usize) -> Device
 
 // Requires that nothing is wrong, so that nothing is changed before all is checked.
 pub fn devices_at(words: &[u32], at: usize) -> Devices
-    requires { (at < 0x100_0000) × (bad_at (devices_code max_devices max_touches) words.now at ≡ none) }
+    requires { (at < 0x100_0000) × (bad_at (devices_code max_devices max_touches) words.now at ≡ None) }
     ensures { view result ≡ devices_of (value_at (devices_code max_devices max_touches) words.now at) }
 {
     let n = table_count(words, at, DEVICES, MOST_DEVICES, DEVICE_SIZE);
     let mut ds = touch_state::devices::none();
-    let mut i: usize = 0;
-    while i < n {
+    for i in 0..n {
         let d = device_at(words, at + 1 + i * DEVICE_WORDS);
         ds.places[i] = d;
-        i += 1;
     }
     ds.count = n;
     ds

@@ -1,4 +1,5 @@
 -- An event read from the value that stands for it, and every value in range stands for one.
+use Rattle.std.specs.Prelude.{None, Some}
 use Prim.Native.Nat.{ℕ, zero, suc}
 use native.Mathlib.Omega.{arith}
 use mathlib.Core.Path.{◌≡◌, refl, ap₂}
@@ -7,7 +8,7 @@ use lib.Dec.{T, ltb, leb→le, ltb→lt}
 use Rattle.data.specs.Numbers.{button_number}
 use Rattle.feed.specs.Shape.{button_of}
 use Rattle.feed.proofs.RoundTrip.{button_back}
-use Rattle.model.specs.Types.{no_click, some_click, PointerEvent, Moved, Pressed, Released}
+use Rattle.model.specs.Types.{PointerEvent, Moved, Pressed, Released}
 use Rattle.image.specs.Codes.{El, In, Each}
 use Rattle.image_words.specs.Leaves.{upto}
 use Rattle.image_options.proofs.Trip.{modifiers_again, modifiers_forth}
@@ -17,8 +18,8 @@ event_back : (e : PointerEvent) → event_of_el (event_el e) ≡ e
 unfolding event_el event_by
 event_back (Moved v) = refl
 event_back (Pressed v b) = rw (button_back b)
-event_back (Released no_click b) = rw (button_back b)
-event_back (Released (some_click k) b) = rw (button_back b, modifiers_again k.modifiers)
+event_back (Released None b) = rw (button_back b)
+event_back (Released (Some k) b) = rw (button_back b, modifiers_again k.modifiers)
 
 pub events_back : (es : List PointerEvent) → events_of_el (events_el es) ≡ es
 unfolding events_of_el events_el

@@ -1,4 +1,5 @@
 -- An event's words, and a turn of each loop over the events.
+use Rattle.std.specs.Prelude.{None, Some}
 use Prim.Native.Nat.{ℕ, zero, suc, ◌+◌, ◌*◌, ◌≤◌, ◌<◌}
 use native.Mathlib.Numerals.{add-one}
 use native.Mathlib.Omega.{arith}
@@ -16,7 +17,7 @@ use Rattle.data.specs.Numbers.{button_number}
 use Rattle.data.specs.Modifiers.{modifiers_number}
 use Rattle.data.specs.declared.modifiers.Modifiers.{Modifiers}
 use Rattle.feed.proofs.RoundTrip.{modifiers_lt}
-use Rattle.model.specs.Types.{no_click, some_click, PointerEvent, Moved, Pressed, Released, PointerButton, Primary, Secondary, Middle, Extra1, Extra2}
+use Rattle.model.specs.Types.{PointerEvent, Moved, Pressed, Released, PointerButton, Primary, Secondary, Middle, Extra1, Extra2}
 use Rattle.pointer_events.specs.Events.{event_of, entry_of, entry_at, click_of, events_from, events, counted, codes_of, positions_of, Pushed}
 use Rattle.pointer_events.proofs.Stored as stored
 use Rattle.image.specs.Codes.{write, zeros, all, size, In, Each, El}
@@ -35,8 +36,8 @@ pub words_of : (e : PointerEvent)
 unfolding write zeros event_el entry_of
 words_of (Moved v) = refl
 words_of (Pressed v b) = refl
-words_of (Released no_click b) = ap (λ (z : List ℕ). 2 ∷ button_number b ∷ 0 ∷ 0 ∷ z) zero_bits
-words_of (Released (some_click k) b) = refl
+words_of (Released None b) = ap (λ (z : List ℕ). 2 ∷ button_number b ∷ 0 ∷ 0 ∷ z) zero_bits
+words_of (Released (Some k) b) = refl
 
 -- ---- in range
 button_in : (b : PointerButton) → T (leb (button_number b) 4)
@@ -53,8 +54,8 @@ pub in_event : (e : PointerEvent) → T (fits binary32 (entry_of e).pos.x) → T
 unfolding event_el entry_of
 in_event (Moved v) p q = (tt, (tt, ((p, tt), (q, tt))))
 in_event (Pressed v b) p q = (tt, (button_in b, (tt, ((p, tt), (q, tt)))))
-in_event (Released no_click b) p q = (tt, (button_in b, tt))
-in_event (Released (some_click k) b) p q = (tt, (button_in b, (tt, (flags_in k.modifiers, ((p, tt), (q, tt))))))
+in_event (Released None b) p q = (tt, (button_in b, tt))
+in_event (Released (Some k) b) p q = (tt, (button_in b, (tt, (flags_in k.modifiers, ((p, tt), (q, tt))))))
 
 -- ---- six words each
 five : (k : ℕ) (v : El (by_kind k)) → length (write (by_kind k) v) ≡ 5

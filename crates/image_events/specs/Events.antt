@@ -1,10 +1,10 @@
 -- Group 11 of an image, the pass's pointer events: its description, and an event as its value and back.
-use Rattle.std.specs.Prelude.{ℕ, zero, suc, ◌≡◌, List, map, length, Float}
+use Rattle.std.specs.Prelude.{ℕ, zero, suc, ◌≡◌, List, map, length, Float, None, Some}
 use Rattle.std.proofs.lemmas.List.Edits.{sets}
 use Rattle.data.specs.Numbers.{button_number}
 use Rattle.data.specs.Modifiers.{modifiers_number, modifiers_of}
 use Rattle.feed.specs.Shape.{button_of}
-use Rattle.model.specs.Types.{Pos2, no_click, some_click, PointerEvent, Moved, Pressed, Released}
+use Rattle.model.specs.Types.{Pos2, PointerEvent, Moved, Pressed, Released}
 use Rattle.pointer_events.specs.Events.{events, codes_of, positions_of}
 use Rattle.image.specs.Codes.{Code, word, single, both, blank, choice, table, El}
 use Rattle.image_words.specs.Leaves.{any, any_id, upto}
@@ -44,8 +44,8 @@ events_code most = table 11 most event_code
 unfoldable pub event_el : PointerEvent → El event_code
 event_el (Moved v) = (0, (tt, (v.x, v.y)))
 event_el (Pressed v b) = (1, (button_number b, (tt, (v.x, v.y))))
-event_el (Released no_click b) = (2, (button_number b, tt))
-event_el (Released (some_click k) b) = (3, (button_number b, (k.count, (modifiers_number k.modifiers, (k.pos.x, k.pos.y)))))
+event_el (Released None b) = (2, (button_number b, tt))
+event_el (Released (Some k) b) = (3, (button_number b, (k.count, (modifiers_number k.modifiers, (k.pos.x, k.pos.y)))))
 
 -- and back
 abbrev pub pos_of : El pos_code → Pos2
@@ -54,8 +54,8 @@ pos_of v = record { x = v.0; y = v.1 }
 unfoldable pub event_by : (k : ℕ) → El (by_kind k) → PointerEvent
 event_by zero v = Moved (pos_of v.1)
 event_by (suc zero) v = Pressed (pos_of v.1.1) (button_of v.0)
-event_by (suc (suc zero)) v = Released no_click (button_of v.0)
-event_by (suc (suc (suc k))) v = Released (some_click (record { pos = pos_of v.1.1.1; count = v.1.0; modifiers = modifiers_of v.1.1.0 })) (button_of v.0)
+event_by (suc (suc zero)) v = Released None (button_of v.0)
+event_by (suc (suc (suc k))) v = Released (Some (record { pos = pos_of v.1.1.1; count = v.1.0; modifiers = modifiers_of v.1.1.0 })) (button_of v.0)
 
 abbrev pub event_of_el : El event_code → PointerEvent
 event_of_el v = event_by v.0 v.1

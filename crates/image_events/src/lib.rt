@@ -1,8 +1,7 @@
 // Group 11 of an image (02 A.6): the pass's pointer events. Six words each: kind, button, count and flags, position.
 #![tactic(auto)]
 
-ghost use Rattle.std.specs.Prelude.{◌≡◌, ◌+◌, ◌*◌, ◌<◌, ◌≤◌, length};
-ghost use Rattle.std.proofs.Math.Option.{none};
+ghost use Rattle.std.specs.Prelude.{◌≡◌, ◌+◌, ◌*◌, ◌<◌, ◌≤◌, length, None};
 ghost use Rattle.std.proofs.lemmas.List.Edits.{sets};
 ghost use Rattle.data.specs.Limits.{max_events};
 ghost use Rattle.pointer_events.specs.Events.{events, events_from, counted};
@@ -15,9 +14,10 @@ ghost use Rattle.image_events.specs.Events.{pos_code, clicked_code, by_kind, eve
 use data::limits::MAX_EVENTS;
 use data::pointer::PointerEvent;
 use emath::pos2::Pos2;
+use image_options::pair_bad;
 use image_words::{
-    MaybeIndex, copy, first, header_bad, single_at, single_bad, single_word, table_bad,
-    table_count, word_at, word_bad, zeros_bad,
+    copy, header_bad, single_at, single_bad, single_word, table_bad, table_count, word_at,
+    word_bad, zeros_bad,
 };
 use pointer_events::{CODES, Entry, PLACES, counted, entry_at, entry_of, event_of, push};
 
@@ -57,12 +57,10 @@ fn rows_put(codes: &[u32; CODES], positions: &[f32; PLACES], n: usize, out: &mut
     requires { (n ≤ max_events) × (at + n * 6 ≤ length out.old) }
     ensures { (out.new ≡ sets out.old at (all (write event_code) (events_el (events_from codes.now positions.now 0 n)))) × Each (In event_code) (events_el (events_from codes.now positions.now 0 n)) }
 {
-    let mut i: usize = 0;
-    while i < n {
+    for i in 0..n {
         let x = entry_at(codes, positions, i);
         let part = event_words(event_of(x));
         copy(out, at + i * EVENT_WORDS, &part);
-        i += 1;
     }
 }
 
@@ -81,86 +79,103 @@ pub fn events_put(
     rows_put(codes, positions, n, out, at + 1);
 }
 
-fn pos_bad(words: &[u32], at: usize) -> MaybeIndex
-    requires { at + 1 < 0x1_0000_0000_0000_0000 }
-    ensures { found result ≡ bad_at pos_code words.now at }
-{
-    first(single_bad(words, at), single_bad(words, at + 1))
-}
-
 // Any count: it is wrong only where it is missing.
-fn count_bad(words: &[u32], at: usize) -> MaybeIndex
+fn count_bad(words: &[u32], at: usize) -> Result<(), usize>
     ensures { found result ≡ places.word_bad any_id words.now at }
 {
     header_bad(words, at, word_at(words, at))
 }
 
-fn clicked_bad(words: &[u32], at: usize) -> MaybeIndex
+// The place of a click's position, after its button, its count and its flags.
+const CLICK_POS: usize = 3;
+
+#[tactic(auto, unfolding(image::specs::Places::bad_at, image::specs::Places::span, image::specs::Places::or_else, image::specs::Codes::size, image_words::specs::Leaves::found))]
+fn clicked_bad(words: &[u32], at: usize) -> Result<(), usize>
     requires { at < 0x1_0000_0000 }
     ensures { found result ≡ bad_at clicked_code words.now at }
 {
-    let button = word_bad(words, at, MAX_BUTTON);
-    let count = count_bad(words, at + 1);
-    let flags = word_bad(words, at + 2, MAX_FLAGS);
-    first(button, first(count, first(flags, pos_bad(words, at + 3))))
+    word_bad(words, at, MAX_BUTTON)?;
+    count_bad(words, at + 1)?;
+    word_bad(words, at + 2, MAX_FLAGS)?;
+    pair_bad(words, at + CLICK_POS)
+}
+
+#[tactic(auto, unfolding(image::specs::Places::bad_at, image::specs::Places::span, image::specs::Places::or_else, image::specs::Codes::size, image_words::specs::Leaves::found))]
+fn moved_bad(words: &[u32], at: usize) -> Result<(), usize>
+    requires { at < 0x1_0000_0000 }
+    ensures { found result ≡ bad_at (by_kind 0) words.now at }
+{
+    zeros_bad(words, at, 3)?;
+    pair_bad(words, at + 3)
+}
+
+#[tactic(auto, unfolding(image::specs::Places::bad_at, image::specs::Places::span, image::specs::Places::or_else, image::specs::Codes::size, image_words::specs::Leaves::found))]
+fn pressed_bad(words: &[u32], at: usize) -> Result<(), usize>
+    requires { at < 0x1_0000_0000 }
+    ensures { found result ≡ bad_at (by_kind 1) words.now at }
+{
+    word_bad(words, at, MAX_BUTTON)?;
+    zeros_bad(words, at + 1, 2)?;
+    pair_bad(words, at + 3)
+}
+
+#[tactic(auto, unfolding(image::specs::Places::bad_at, image::specs::Places::span, image::specs::Places::or_else, image::specs::Codes::size, image_words::specs::Leaves::found))]
+fn released_bad(words: &[u32], at: usize) -> Result<(), usize>
+    requires { at < 0x1_0000_0000 }
+    ensures { found result ≡ bad_at (by_kind 2) words.now at }
+{
+    word_bad(words, at, MAX_BUTTON)?;
+    zeros_bad(words, at + 1, 4)
 }
 
 // The five words after the kind.
-fn fields_bad(words: &[u32], at: usize, kind: u32) -> MaybeIndex
+fn fields_bad(words: &[u32], at: usize, kind: u32) -> Result<(), usize>
     requires { at < 0x1_0000_0000 }
     ensures { found result ≡ bad_at (by_kind kind) words.now at }
 {
-    let button = word_bad(words, at, MAX_BUTTON);
-    let pos = pos_bad(words, at + 3);
     match kind {
-        0 => first(zeros_bad(words, at, 3), pos),
-        1 => first(button, first(zeros_bad(words, at + 1, 2), pos)),
-        2 => first(button, zeros_bad(words, at + 1, 4)),
+        0 => moved_bad(words, at),
+        1 => pressed_bad(words, at),
+        2 => released_bad(words, at),
         _ => clicked_bad(words, at),
     }
 }
 
-fn event_bad(words: &[u32], at: usize) -> MaybeIndex
+fn event_bad(words: &[u32], at: usize) -> Result<(), usize>
     requires { at + 6 < 0x1_0000_0000 }
     ensures { found result ≡ bad_at event_code words.now at }
 {
-    let kind = word_bad(words, at, MAX_KIND);
-    first(kind, fields_bad(words, at + 1, word_at(words, at)))
+    word_bad(words, at, MAX_KIND)?;
+    fields_bad(words, at + 1, word_at(words, at))
 }
 
-// Every event is looked at: the first wrong word is kept.
-fn rows_bad(words: &[u32], at: usize, n: usize) -> MaybeIndex
+// The first wrong word of n events.
+fn rows_bad(words: &[u32], at: usize, n: usize) -> Result<(), usize>
     requires { at + n * 6 + 6 < 0x1_0000_0000 }
     ensures { found result ≡ rows_bad 6 (bad_at event_code) n words.now at }
 {
-    let mut bad = MaybeIndex::None;
-    let mut k = at;
-    let mut left = n;
-    while 0 < left {
-        bad = first(bad, event_bad(words, k));
-        k += EVENT_WORDS;
-        left -= 1;
+    for i in 0..n {
+        event_bad(words, at + i * EVENT_WORDS)?;
     }
-    bad
+    Ok(())
 }
 
 // How many events follow, where the leading word is right. A form holds at most `most`.
 pub fn events_count(words: &[u32], at: usize, most: u32) -> usize
     requires { most ≤ max_events }
-    ensures { (result ≤ most) × (bad_at (events_code most) words.now at ≡ none → 1 + result * 6 ≡ span (events_code most) words.now at) }
+    ensures { (result ≤ most) × (bad_at (events_code most) words.now at ≡ None → 1 + result * 6 ≡ span (events_code most) words.now at) }
 {
     table_count(words, at, EVENTS, most, EVENT_SIZE)
 }
 
-pub fn events_bad(words: &[u32], at: usize, most: u32) -> MaybeIndex
+#[tactic(auto, unfolding(image::specs::Places::bad_at, image::specs::Places::span, image::specs::Places::or_else, image::specs::Codes::size, image_words::specs::Leaves::found))]
+pub fn events_bad(words: &[u32], at: usize, most: u32) -> Result<(), usize>
     requires { (at < 0x1000_0000) × (most ≤ max_events) }
     ensures { found result ≡ bad_at (events_code most) words.now at }
 {
+    table_bad(words, at, EVENTS, most, EVENT_SIZE)?;
     let n = table_count(words, at, EVENTS, most, EVENT_SIZE);
-    first(
-        table_bad(words, at, EVENTS, most, EVENT_SIZE),
-        rows_bad(words, at + 1, n),
-    )
+    rows_bad(words, at + 1, n)
 }
 
 fn event_at(words: &[u32], at: usize) -> PointerEvent
@@ -192,11 +207,9 @@ fn rows_at(
     ensures { Stored (events_of_el (rows_at 6 (value_at event_code) n words.now at)) codes.old positions.old result codes.new positions.new }
 {
     let mut count: usize = 0;
-    let mut i: usize = 0;
-    while i < n {
+    for i in 0..n {
         let e = event_at(words, at + i * EVENT_WORDS);
         count = push(codes, positions, count, e);
-        i += 1;
     }
     count
 }
@@ -209,7 +222,7 @@ pub fn events_at(
     at: usize,
     most: u32,
 ) -> usize
-    requires { (at < 0x1000_0000) × (most ≤ max_events) × (bad_at (events_code most) words.now at ≡ none) }
+    requires { (at < 0x1000_0000) × (most ≤ max_events) × (bad_at (events_code most) words.now at ≡ None) }
     ensures { Stored (events_of_el (value_at (events_code most) words.now at)) codes.old positions.old result codes.new positions.new }
 {
     let n = table_count(words, at, EVENTS, most, EVENT_SIZE);

@@ -1,7 +1,7 @@
 -- Groups one after the other, each at its place. Assumes nothing.
+use Rattle.std.specs.Prelude.{Option}
 use Prim.Native.Nat.{ℕ, ◌+◌}
 use mathlib.Core.Path.{◌≡◌, refl, sym, ap, ap₂, ◌∙◌}
-use mathlib.Core.Option.{Option}
 use mathlib.Core.List.{List, ◌++◌}
 use lib.ListN.{length}
 use lib.Seq.{sets}
@@ -59,7 +59,7 @@ module _ (ws : List ℕ) where
   unfolding span size
   interaction_end = refl
 
-  pub groups_bad : (a b c d e f g h i : Option ℕ)
+  groups_bad : (a b c d e f g h i : Option ℕ)
       → a ≡ bad_at clock_code ws clock_place → b ≡ bad_at screen_code ws screen_place → c ≡ bad_at place_code ws place_place → d ≡ bad_at press_code ws press_place
       → e ≡ bad_at wheel_code ws wheel_place → f ≡ bad_at keys_code ws keys_place → g ≡ bad_at sums_code ws sums_place
       → h ≡ bad_at interaction_code ws interaction_place → i ≡ bad_at tally_code ws tally_place
@@ -72,6 +72,12 @@ module _ (ws : List ℕ) where
       (both_bad _ _ ws wheel_place keys_place e _ wheel_end ee
       (both_bad _ _ ws keys_place sums_place f _ keys_end ef
       (both_bad _ _ ws sums_place interaction_place g _ sums_end eg (both_bad _ _ ws interaction_place tally_place h i interaction_end eh ei)))))))
+
+  pub fixed_chain : bad_at fixed_code ws fixed_place
+      ≡ or_else (bad_at clock_code ws clock_place) (or_else (bad_at screen_code ws screen_place) (or_else (bad_at place_code ws place_place) (or_else (bad_at press_code ws press_place)
+      (or_else (bad_at wheel_code ws wheel_place) (or_else (bad_at keys_code ws keys_place) (or_else (bad_at sums_code ws sums_place)
+      (or_else (bad_at interaction_code ws interaction_place) (bad_at tally_code ws tally_place))))))))
+  fixed_chain = sym (groups_bad _ _ _ _ _ _ _ _ _ refl refl refl refl refl refl refl refl refl)
 
 -- ---- writing: how long each group is
 pub clock_length : (v : El clock_code) → length (write clock_code v) ≡ 8

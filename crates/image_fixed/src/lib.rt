@@ -21,7 +21,6 @@ ghost use Rattle.image_interaction.specs.Groups.{sums_place, sums_code, sums_el,
 ghost use Rattle.image_fixed.specs.Fixed.{fixed_place, fixed_end, fixed_code, Puts};
 
 use data::mouse_wheel::WheelState;
-use data::pointer::MaybeF64;
 use image_clock::{clock_bad, clock_words};
 use image_interaction::{
     interaction_bad, interaction_words, sums_bad, sums_words, tally_bad, tally_words,
@@ -31,7 +30,7 @@ use image_pointer::place::{place_bad, place_words};
 use image_pointer::press::{press_bad, press_words};
 use image_screen::{screen_bad, screen_words};
 use image_wheel::{wheel_bad, wheel_words};
-use image_words::{MaybeIndex, copy, first};
+use image_words::copy;
 use input_state::clock::Clock;
 use input_state::screen::Screen;
 use input_state::sums::Sums;
@@ -70,7 +69,7 @@ pub fn screen_put(clock: Clock, screen: Screen, out: &mut [u32])
 }
 
 // Groups 3 and 4.
-pub fn pointer_put(place: Place, press: Press, started: bool, moved: MaybeF64, out: &mut [u32])
+pub fn pointer_put(place: Place, press: Press, started: bool, moved: Option<f64>, out: &mut [u32])
     requires { fixed_end ≤ length out.old }
     ensures { Puts place_place (write place_code (place_el (view_place [] [] place)) ++ write press_code (press_el (view_press [] [] press) started moved)) out.old out.new
         × In place_code (place_el (view_place [] [] place)) × In press_code (press_el (view_press [] [] press) started moved) }
@@ -107,21 +106,16 @@ pub fn sums_put(sums: Sums, interaction: Interaction, tally: u32, out: &mut [u32
 }
 
 // What is wrong first with all nine.
-pub fn fixed_bad(words: &[u32]) -> MaybeIndex
+pub fn fixed_bad(words: &[u32]) -> Result<(), usize>
     ensures { found result ≡ bad_at fixed_code words.now fixed_place }
 {
-    let clock = clock_bad(words);
-    let screen = screen_bad(words);
-    let place = place_bad(words);
-    let press = press_bad(words);
-    let wheel = wheel_bad(words);
-    let keys = keys_bad(words);
-    let sums = sums_bad(words);
-    let interaction = interaction_bad(words);
-    let tally = tally_bad(words);
-    let last = first(keys, first(sums, first(interaction, tally)));
-    first(
-        clock,
-        first(screen, first(place, first(press, first(wheel, last)))),
-    )
+    clock_bad(words)?;
+    screen_bad(words)?;
+    place_bad(words)?;
+    press_bad(words)?;
+    wheel_bad(words)?;
+    keys_bad(words)?;
+    sums_bad(words)?;
+    interaction_bad(words)?;
+    tally_bad(words)
 }

@@ -1,9 +1,9 @@
 -- A whole image: reading it is asking by places; reading gives what writing wrote, and takes only that. Assumes nothing.
+use Rattle.std.specs.Prelude.{Option, None, Some}
 use Prim.Native.Nat.{ℕ, zero, suc, ◌+◌, ◌≤◌, ◌<◌}
 use native.Mathlib.Omega.{arith}
 use mathlib.Core.Path.{◌≡◌, refl, sym, ap, ap₂, ◌∙◌}
 use mathlib.Core.Bool.{Bool, true, false, cond}
-use mathlib.Core.Option.{Option, none, some}
 use mathlib.Core.List.{List, [], ◌∷◌, ◌++◌, append-nil}
 use lib.Dec.{eqb, ltb}
 use lib.ListN.{length, get_or, drop, length-drop, drop_of_length-le}
@@ -79,7 +79,7 @@ image_reads_back p h k n =
 -- ---- a panel that was taken is that of the value there, whose words are all there are
 pub record Taken (ws : List ℕ) (p : Panel) : Type 0 where
   pub first : first_word ≡ get_or ws 0 0
-  pub sound : image_bad ws ≡ none
+  pub sound : image_bad ws ≡ None
   pub is : p ≡ panel_of (value_at panel_code ws groups_place)
 
 panel_in : Panel → Answer → Panel
@@ -107,27 +107,27 @@ image_taken ws p h = go (eqb first_word (get_or ws 0 0)) (image_bad ws) refl ref
 
     go : (b : Bool) (o : Option ℕ) → eqb first_word (get_or ws 0 0) ≡ b → image_bad ws ≡ o → cond b (answer o v) no_image ≡ taken p → Taken ws p
     go false o e f g = none_taken p g
-    go true (some i) e f g = wrong_taken i p g
-    go true none e f g = record { first = eqb-true first_word (get_or ws 0 0) e; sound = f; is = sym (same_panel _ p g) }
+    go true (Some i) e f g = wrong_taken i p g
+    go true None e f g = record { first = eqb-true first_word (get_or ws 0 0) e; sound = f; is = sym (same_panel _ p g) }
 
 -- nothing is wrong with the groups, and nothing is behind them
-groups_sound : (ws : List ℕ) → image_bad ws ≡ none → bad_at panel_code ws groups_place ≡ none
+groups_sound : (ws : List ℕ) → image_bad ws ≡ None → bad_at panel_code ws groups_place ≡ None
 unfolding image_bad
 groups_sound ws h = (or_else_none _ _ h).0
 
-groups_end : (ws : List ℕ) → image_bad ws ≡ none → drop (groups_place + span panel_code ws groups_place) ws ≡ []
+groups_end : (ws : List ℕ) → image_bad ws ≡ None → drop (groups_place + span panel_code ws groups_place) ws ≡ []
 unfolding image_bad
 groups_end ws h = go (ltb k (length ws)) refl (or_else_none (bad_at panel_code ws groups_place) (end_bad ws k) h).1
   where
     k : ℕ
     k = groups_place + span panel_code ws groups_place
 
-    go : (b : Bool) → ltb k (length ws) ≡ b → cond b (some k) none ≡ none → drop k ws ≡ []
+    go : (b : Bool) → ltb k (length ws) ≡ b → cond b (Some k) None ≡ None → drop k ws ≡ []
     go true e g = let z : ◌≡◌ {A = ℕ} 0 1 = cc in absurd (omega arith)
     go false e g = drop_of_length-le ws (ltb-false k (length ws) e)
 
 -- the value there is in range
-pub value_in : (ws : List ℕ) → image_bad ws ≡ none → In panel_code (value_at panel_code ws groups_place)
+pub value_in : (ws : List ℕ) → image_bad ws ≡ None → In panel_code (value_at panel_code ws groups_place)
 value_in ws h = sound_is_in panel_code panel_sized ws groups_place (groups_sound ws h)
 
 pub image_is_written : ImageIsWritten

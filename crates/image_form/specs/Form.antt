@@ -1,6 +1,5 @@
 -- Form 1 of an image (02 A.6): its description, a panel as its value and back, the words of a panel, and what reading words answers. Definitions only.
-use Rattle.std.specs.Prelude.{ℕ, ◌≡◌, cond, List, [], ◌∷◌, eqb}
-use Rattle.std.proofs.Math.Option.{Option, none, some}
+use Rattle.std.specs.Prelude.{ℕ, ◌≡◌, cond, List, [], ◌∷◌, eqb, Option, None, Some}
 use Rattle.data.specs.Limits.{max_events, max_devices, max_touches}
 use Rattle.data.specs.Numbers.{Row}
 use Rattle.model.specs.Pass.{Panel}
@@ -89,13 +88,13 @@ read_image (w ∷ ws) = cond (eqb first_word w) (ended (read panel_code 1 ws)) n
 
 -- the rows of these refusals
 abbrev pub image_row : Answer → Option Row
-image_row (taken p) = none
-image_row no_image = some (record { number = 14; index = none })
-image_row (wrong i) = some (record { number = 15; index = some i })
+image_row (taken p) = None
+image_row no_image = Some (record { number = 14; index = None })
+image_row (wrong i) = Some (record { number = 15; index = Some i })
 
 -- "writing gives only 8, for a buffer too short"
 abbrev pub short_row : Row
-short_row = record { number = 8; index = none }
+short_row = record { number = 8; index = None }
 
 -- what is known of every panel that the operations gave: its numbers are in the fields' ranges, its devices and their touches go by ascending id,
 -- and the number of buttons down is that of the flags

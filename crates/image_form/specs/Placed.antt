@@ -1,6 +1,5 @@
 -- Reading an image by places, as code goes about it. Definitions only.
-use Rattle.std.specs.Prelude.{ℕ, ◌+◌, ◌≡◌, cond, List, eqb, ltb, length, get_or}
-use Rattle.std.proofs.Math.Option.{Option, none, some}
+use Rattle.std.specs.Prelude.{ℕ, ◌+◌, ◌≡◌, cond, List, eqb, ltb, length, get_or, Option, None, Some}
 use Rattle.data.specs.Limits.{max_events, max_devices, max_touches}
 use Rattle.image.specs.Codes.{El}
 use Rattle.image.specs.Places.{or_else, bad_at, value_at, span}
@@ -30,15 +29,15 @@ end_place ws = devices_place ws + span (devices_code max_devices max_touches) ws
 
 -- a word after the last group
 abbrev pub end_bad : List ℕ → ℕ → Option ℕ
-end_bad ws i = cond (ltb i (length ws)) (some i) none
+end_bad ws i = cond (ltb i (length ws)) (Some i) None
 
 -- the first wrong word behind the first
 unfoldable pub image_bad : List ℕ → Option ℕ
 image_bad ws = or_else (bad_at panel_code ws groups_place) (end_bad ws (groups_place + span panel_code ws groups_place))
 
 unfoldable pub answer : Option ℕ → El panel_code → Answer
-answer none v = taken (panel_of v)
-answer (some i) v = wrong i
+answer None v = taken (panel_of v)
+answer (Some i) v = wrong i
 
 -- reading an image is asking by places
 abbrev pub ReadsImage : Type 0

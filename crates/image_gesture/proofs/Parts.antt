@@ -1,9 +1,9 @@
 -- The words of a gesture's parts, one after the other.
+use Rattle.std.specs.Prelude.{None, Some}
 use Prim.Native.Nat.{ℕ, suc, ◌+◌}
 use native.Mathlib.Numerals.{add-one}
 use native.Mathlib.Omega.{arith}
 use mathlib.Core.Path.{◌≡◌, refl, ap, ◌∙◌}
-use mathlib.Core.Option.{none, some}
 use mathlib.Core.List.{List, ◌++◌, append_assoc}
 use lib.Dec.{T, leb}
 use lib.ListN.{length, set, length-append}
@@ -25,8 +25,8 @@ five v = refl
 
 pub nine : (v : El previous_code) → length (write previous_code v) ≡ 9
 unfolding write option_words zeros size
-nine none = refl
-nine (some v) = refl
+nine None = refl
+nine (Some v) = refl
 
 pub pinch_in : (p : PinchType) → T (leb (pinch_number p) 2)
 pinch_in Horizontal = tt
@@ -41,19 +41,19 @@ three_parts l i xs ys zs a b =
     ∙ ap (sets l i) (append_assoc xs ys zs)
 
 joined : (l : List ℕ) (at : ℕ) (s : El start_code) (p : El previous_code) (a : El averages_code)
-    → sets (set l at 1) (suc at) (write start_code s ++ (write previous_code p ++ write averages_code a)) ≡ sets l at (write gesture_code (some (s, (p, a))))
+    → sets (set l at 1) (suc at) (write start_code s ++ (write previous_code p ++ write averages_code a)) ≡ sets l at (write gesture_code (Some (s, (p, a))))
 unfolding write option_words
 joined l at s p a = refl
 
 -- the flag, the start, the averages of the pass before or none, those of this one
 pub put_fields : (l : List ℕ) (at : ℕ) (s : El start_code) (p : El previous_code) (a : El averages_code)
-    → sets (sets (sets (set l at 1) (at + 1) (write start_code s)) (at + 1 + 5) (write previous_code p)) (at + 1 + 14) (write averages_code a) ≡ sets l at (write gesture_code (some (s, (p, a))))
+    → sets (sets (sets (set l at 1) (at + 1) (write start_code s)) (at + 1 + 5) (write previous_code p)) (at + 1 + 14) (write averages_code a) ≡ sets l at (write gesture_code (Some (s, (p, a))))
 put_fields l at s p a = three_parts (set l at 1) (at + 1) (write start_code s) (write previous_code p) (write averages_code a) (five s) (nine p) ∙ rw add-one (joined l at s p a)
 
 pub gesture_length : (v : El gesture_code) → length (write gesture_code v) ≡ 23
 unfolding write option_words zeros size
-gesture_length none = refl
-gesture_length (some v) =
+gesture_length None = refl
+gesture_length (Some v) =
     let s = write start_code v.0 in
     let p = write previous_code v.1.0 in
     let a = write averages_code v.1.1 in

@@ -1,10 +1,9 @@
 -- A device's gesture in an image: its description, and a gesture as its value and back.
-use Rattle.std.specs.Prelude.{ℕ, cond, eqb}
-use Rattle.std.proofs.Math.Option.{none, some}
+use Rattle.std.specs.Prelude.{ℕ, cond, eqb, Option, None, Some}
 use Rattle.data.specs.Numbers.{pinch_number}
 use Rattle.data.specs.declared.touch.PinchType.{PinchType}
 use Rattle.data.specs.declared.touch.PinchType.TheVariants.{Horizontal, Vertical, Proportional}
-use Rattle.model.specs.Types.{DynGestureState, MaybeDynGestureState, no_state, some_state, GestureState, MaybeGestureState, no_gesture, some_gesture}
+use Rattle.model.specs.Types.{DynGestureState, GestureState}
 use Rattle.image.specs.Codes.{Code, word, single, double, both, maybe, El}
 use Rattle.image_words.specs.Leaves.{any, upto}
 use Rattle.image_options.specs.Options.{pair, pos_el, pos_of, vec_el, vec_of}
@@ -30,13 +29,13 @@ averages_of v =
 abbrev pub previous_code : Code
 previous_code = maybe averages_code
 
-unfoldable pub previous_el : MaybeDynGestureState → El previous_code
-previous_el no_state = none
-previous_el (some_state d) = some (averages_el d)
+unfoldable pub previous_el : Option DynGestureState → El previous_code
+previous_el None = None
+previous_el (Some d) = Some (averages_el d)
 
-unfoldable pub previous_of : El previous_code → MaybeDynGestureState
-previous_of none = no_state
-previous_of (some v) = some_state (averages_of v)
+unfoldable pub previous_of : El previous_code → Option DynGestureState
+previous_of None = None
+previous_of (Some v) = Some (averages_of v)
 
 -- three pinches
 abbrev pub max_pinch : ℕ
@@ -72,10 +71,10 @@ fields_of v =
 abbrev pub gesture_code : Code
 gesture_code = maybe fields_code
 
-unfoldable pub gesture_el : MaybeGestureState → El gesture_code
-gesture_el no_gesture = none
-gesture_el (some_gesture g) = some (fields_el g)
+unfoldable pub gesture_el : Option GestureState → El gesture_code
+gesture_el None = None
+gesture_el (Some g) = Some (fields_el g)
 
-unfoldable pub gesture_of : El gesture_code → MaybeGestureState
-gesture_of none = no_gesture
-gesture_of (some v) = some_gesture (fields_of v)
+unfoldable pub gesture_of : El gesture_code → Option GestureState
+gesture_of None = None
+gesture_of (Some v) = Some (fields_of v)

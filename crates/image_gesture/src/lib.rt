@@ -1,21 +1,18 @@
 // A device's gesture in an image (02 A.6): written, checked, read.
 #![tactic(auto)]
 
-ghost use Rattle.std.specs.Prelude.{◌≡◌, ◌+◌, ◌<◌, ◌≤◌, length};
+ghost use Rattle.std.specs.Prelude.{◌≡◌, ◌+◌, ◌<◌, ◌≤◌, length, Some};
 ghost use Rattle.std.proofs.lemmas.List.Edits.{sets};
 ghost use Rattle.image.specs.Codes.{write, In};
-ghost use Rattle.model.specs.Types.{some_gesture};
 ghost use Rattle.image.specs.Places.{bad_at, value_at};
 ghost use Rattle.image_words.specs.Leaves.{found};
 ghost use Rattle.image_gesture.specs.Gesture.{averages_code, averages_el, averages_of, previous_code, previous_el, previous_of, pinch_of, start_code, start_el, fields_code, fields_of, gesture_code, gesture_el, gesture_of};
 
-use data::touch::{
-    DynGestureState, GestureState, MaybeDynGestureState, MaybeGestureState, PinchType,
-};
+use data::touch::{DynGestureState, GestureState, PinchType};
 use image_options::{maybe_bad, pair_bad, pos_at, vec_at};
 use image_words::{
-    MaybeIndex, copy, double_at, double_bad, double_word, first, high, low, single_at, single_bad,
-    single_word, word_at, word_bad, zeros_put,
+    copy, double_at, double_bad, double_word, high, low, single_at, single_bad, single_word,
+    word_at, word_bad, zeros_put,
 };
 
 // The words of a gesture, with the flag before it; of its averages; where they stand.
@@ -68,13 +65,13 @@ fn start_words(g: GestureState) -> [u32; 5]
     ]
 }
 
-fn previous_put(p: MaybeDynGestureState, out: &mut [u32], at: usize)
+fn previous_put(p: Option<DynGestureState>, out: &mut [u32], at: usize)
     requires { at + 9 ≤ length out.old }
     ensures { (out.new ≡ sets out.old at (write previous_code (previous_el p))) × In previous_code (previous_el p) }
 {
     match p {
-        MaybeDynGestureState::None => zeros_put(out, at, PREVIOUS_WORDS),
-        MaybeDynGestureState::Some(d) => {
+        None => zeros_put(out, at, PREVIOUS_WORDS),
+        Some(d) => {
             let part = averages_words(d);
             out[at] = 1;
             copy(out, at + 1, &part);
@@ -85,7 +82,7 @@ fn previous_put(p: MaybeDynGestureState, out: &mut [u32], at: usize)
 // A gesture that is there: the flag, and its fields.
 fn fields_put(g: GestureState, out: &mut [u32], at: usize)
     requires { at + 23 ≤ length out.old }
-    ensures { (out.new ≡ sets out.old at (write gesture_code (gesture_el (some_gesture g)))) × In gesture_code (gesture_el (some_gesture g)) }
+    ensures { (out.new ≡ sets out.old at (write gesture_code (gesture_el (Some g)))) × In gesture_code (gesture_el (Some g)) }
 {
     let start = start_words(g);
     let previous = g.previous;
@@ -97,58 +94,58 @@ fn fields_put(g: GestureState, out: &mut [u32], at: usize)
     copy(out, at + 1 + CURRENT, &averages);
 }
 
-pub fn gesture_put(g: MaybeGestureState, out: &mut [u32], at: usize)
+pub fn gesture_put(g: Option<GestureState>, out: &mut [u32], at: usize)
     requires { at + 23 ≤ length out.old }
     ensures { (out.new ≡ sets out.old at (write gesture_code (gesture_el g))) × In gesture_code (gesture_el g) }
 {
     match g {
-        MaybeGestureState::None => zeros_put(out, at, GESTURE_WORDS),
-        MaybeGestureState::Some(s) => fields_put(s, out, at),
+        None => zeros_put(out, at, GESTURE_WORDS),
+        Some(s) => fields_put(s, out, at),
     }
 }
 
 // ---- checks
 
-fn averages_bad(words: &[u32], at: usize) -> MaybeIndex
+#[tactic(auto, unfolding(image::specs::Places::bad_at, image::specs::Places::span, image::specs::Places::or_else, image::specs::Codes::size, image_words::specs::Leaves::found))]
+fn averages_bad(words: &[u32], at: usize) -> Result<(), usize>
     requires { at + 8 < 0x1_0000_0000 }
     ensures { found result ≡ bad_at averages_code words.now at }
 {
-    let distance = single_bad(words, at);
-    let abs = pair_bad(words, at + 1);
-    let pos = pair_bad(words, at + 3);
-    let force = single_bad(words, at + 5);
-    let heading = pair_bad(words, at + 6);
-    first(distance, first(abs, first(pos, first(force, heading))))
+    single_bad(words, at)?;
+    pair_bad(words, at + 1)?;
+    pair_bad(words, at + 3)?;
+    single_bad(words, at + 5)?;
+    pair_bad(words, at + 6)
 }
 
-fn start_bad(words: &[u32], at: usize) -> MaybeIndex
+#[tactic(auto, unfolding(image::specs::Places::bad_at, image::specs::Places::span, image::specs::Places::or_else, image::specs::Codes::size, image_words::specs::Leaves::found))]
+fn start_bad(words: &[u32], at: usize) -> Result<(), usize>
     requires { at + 5 < 0x1_0000_0000 }
     ensures { found result ≡ bad_at start_code words.now at }
 {
-    let time = double_bad(words, at);
-    let pos = pair_bad(words, at + 2);
-    let pinch = word_bad(words, at + 4, MAX_PINCH);
-    first(time, first(pos, pinch))
+    double_bad(words, at)?;
+    pair_bad(words, at + 2)?;
+    word_bad(words, at + 4, MAX_PINCH)
 }
 
-fn previous_bad(words: &[u32], at: usize) -> MaybeIndex
+fn previous_bad(words: &[u32], at: usize) -> Result<(), usize>
     requires { at + 9 < 0x1_0000_0000 }
     ensures { found result ≡ bad_at previous_code words.now at }
 {
     maybe_bad(words, at, AVERAGES_WORDS, averages_bad(words, at + 1))
 }
 
-fn fields_bad(words: &[u32], at: usize) -> MaybeIndex
+#[tactic(auto, unfolding(image::specs::Places::bad_at, image::specs::Places::span, image::specs::Places::or_else, image::specs::Codes::size, image_words::specs::Leaves::found))]
+fn fields_bad(words: &[u32], at: usize) -> Result<(), usize>
     requires { at + 22 < 0x1_0000_0000 }
     ensures { found result ≡ bad_at fields_code words.now at }
 {
-    let start = start_bad(words, at);
-    let previous = previous_bad(words, at + PREVIOUS);
-    let current = averages_bad(words, at + CURRENT);
-    first(start, first(previous, current))
+    start_bad(words, at)?;
+    previous_bad(words, at + PREVIOUS)?;
+    averages_bad(words, at + CURRENT)
 }
 
-pub fn gesture_bad(words: &[u32], at: usize) -> MaybeIndex
+pub fn gesture_bad(words: &[u32], at: usize) -> Result<(), usize>
     requires { at + 23 < 0x1_0000_0000 }
     ensures { found result ≡ bad_at gesture_code words.now at }
 {
@@ -175,14 +172,14 @@ fn averages_at(words: &[u32], at: usize) -> DynGestureState
     }
 }
 
-fn previous_at(words: &[u32], at: usize) -> MaybeDynGestureState
+fn previous_at(words: &[u32], at: usize) -> Option<DynGestureState>
     requires { at + 9 < 0x1_0000_0000 }
     ensures { result ≡ previous_of (value_at previous_code words.now at) }
 {
     if word_at(words, at) == 0 {
-        return MaybeDynGestureState::None;
+        return None;
     }
-    MaybeDynGestureState::Some(averages_at(words, at + 1))
+    Some(averages_at(words, at + 1))
 }
 
 fn pinch_of(w: u32) -> PinchType
@@ -213,12 +210,12 @@ fn fields_at(words: &[u32], at: usize) -> GestureState
     }
 }
 
-pub fn gesture_at(words: &[u32], at: usize) -> MaybeGestureState
+pub fn gesture_at(words: &[u32], at: usize) -> Option<GestureState>
     requires { at + 23 < 0x1_0000_0000 }
     ensures { result ≡ gesture_of (value_at gesture_code words.now at) }
 {
     if word_at(words, at) == 0 {
-        return MaybeGestureState::None;
+        return None;
     }
-    MaybeGestureState::Some(fields_at(words, at + 1))
+    Some(fields_at(words, at + 1))
 }

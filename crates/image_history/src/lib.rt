@@ -1,8 +1,7 @@
 // Group 10 of an image (02 A.6): the history, a list over the ring's lent arrays, the oldest sample first.
 #![tactic(auto)]
 
-ghost use Rattle.std.specs.Prelude.{◌≡◌, ◌+◌, ◌*◌, ◌<◌, ◌≤◌, length, set};
-ghost use Rattle.std.proofs.Math.Option.{none};
+ghost use Rattle.std.specs.Prelude.{◌≡◌, ◌+◌, ◌*◌, ◌<◌, ◌≤◌, length, set, None};
 ghost use Rattle.std.proofs.lemmas.List.Edits.{sets};
 ghost use Rattle.image.specs.Codes.{write, In, Each, all};
 ghost use Rattle.image.specs.Places.{bad_at, value_at, rows_bad, rows_at, span};
@@ -13,8 +12,8 @@ ghost use Rattle.image_history.specs.History.{sample_code, sample_el, history_co
 
 use emath_history::history::{History, MAX_LEN, PARTS};
 use image_words::{
-    MaybeIndex, copy, double_at, double_bad, double_word, first, high, low, single_at, single_bad,
-    single_word, table_bad, table_count,
+    copy, double_at, double_bad, double_word, high, low, single_at, single_bad, single_word,
+    table_bad, table_count,
 };
 
 // The group's name and its leading word of length 0; each sample has a time of two words and a position of two.
@@ -47,12 +46,10 @@ fn samples_put(
     requires { (start < max_len) × (n ≤ max_len) × (at + n * 4 ≤ length out.old) }
     ensures { (out.new ≡ sets out.old at (all (write sample_code) (history_el (samples times.now positions.now start n)))) × Each (In sample_code) (history_el (samples times.now positions.now start n)) }
 {
-    let mut i: usize = 0;
-    while i < n {
+    for i in 0..n {
         let k = (start + i) % MAX_LEN;
         let part = sample_words(times[k], positions[k * 2], positions[k * 2 + 1]);
         copy(out, at + i * SAMPLE_WORDS, &part);
-        i += 1;
     }
 }
 
@@ -71,50 +68,45 @@ pub fn history_put(
     samples_put(h.start % MAX_LEN, n, times, positions, out, at + 1);
 }
 
-fn sample_bad(words: &[u32], at: usize) -> MaybeIndex
+#[tactic(auto, unfolding(image::specs::Places::bad_at, image::specs::Places::span, image::specs::Places::or_else, image::specs::Codes::size, image_words::specs::Leaves::found))]
+fn sample_bad(words: &[u32], at: usize) -> Result<(), usize>
     requires { at + 3 < 0x1_0000_0000_0000_0000 }
     ensures { found result ≡ bad_at sample_code words.now at }
 {
-    first(
-        double_bad(words, at),
-        first(single_bad(words, at + 2), single_bad(words, at + 3)),
-    )
+    double_bad(words, at)?;
+    single_bad(words, at + 2)?;
+    single_bad(words, at + 3)
 }
 
-// Every sample is looked at: the first wrong word is kept.
-fn samples_bad(words: &[u32], at: usize, n: usize) -> MaybeIndex
+// The first wrong word of n samples.
+fn samples_bad(words: &[u32], at: usize, n: usize) -> Result<(), usize>
     requires { at + n * 4 + 4 < 0x1_0000_0000_0000_0000 }
     ensures { found result ≡ rows_bad 4 (bad_at sample_code) n words.now at }
 {
-    let mut bad = MaybeIndex::None;
-    let mut k = at;
-    let mut left = n;
-    while 0 < left {
-        bad = first(bad, sample_bad(words, k));
-        k += SAMPLE_WORDS;
-        left -= 1;
+    for i in 0..n {
+        sample_bad(words, at + i * SAMPLE_WORDS)?;
     }
-    bad
+    Ok(())
 }
 
 // How many samples follow, where the leading word is right.
 pub fn history_count(words: &[u32], at: usize) -> usize
-    ensures { (result ≤ max_len) × (bad_at history_code words.now at ≡ none → 1 + result * 4 ≡ span history_code words.now at) }
+    ensures { (result ≤ max_len) × (bad_at history_code words.now at ≡ None → 1 + result * 4 ≡ span history_code words.now at) }
 {
     table_count(words, at, HISTORY, MAX_SAMPLES, SAMPLE_SIZE)
 }
 
-pub fn history_bad(words: &[u32], at: usize) -> MaybeIndex
+#[tactic(auto, unfolding(image::specs::Places::bad_at, image::specs::Places::span, image::specs::Places::or_else, image::specs::Codes::size, image_words::specs::Leaves::found))]
+pub fn history_bad(words: &[u32], at: usize) -> Result<(), usize>
     requires { at < 0x1_0000_0000 }
     ensures { found result ≡ bad_at history_code words.now at }
 {
+    table_bad(words, at, HISTORY, MAX_SAMPLES, SAMPLE_SIZE)?;
     let n = table_count(words, at, HISTORY, MAX_SAMPLES, SAMPLE_SIZE);
-    first(
-        table_bad(words, at, HISTORY, MAX_SAMPLES, SAMPLE_SIZE),
-        samples_bad(words, at + 1, n),
-    )
+    samples_bad(words, at + 1, n)
 }
 
+// Two lent arrays and no ring of one type: the host lends both as plain numbers.
 // Over slices: a slice's length is known to its caller's proof, an array's behind a reference is not.
 fn set_sample(times: &mut [f64], positions: &mut [f32], i: usize, time: f64, x: f32, y: f32)
     requires { (i < length times.old) × (i * 2 + 1 < length positions.old) }
@@ -135,14 +127,12 @@ fn samples_at(
     requires { (n ≤ max_len) × (at < 0x1_0000_0000) }
     ensures { Filled n (rows_at 4 (value_at sample_code) n words.now at) times.old positions.old result times.new positions.new × (result.len ≡ n) }
 {
-    let mut i: usize = 0;
-    while i < n {
+    for i in 0..n {
         let k = at + i * SAMPLE_WORDS;
         let time = double_at(words, k);
         let x = single_at(words, k + 2);
         let y = single_at(words, k + 3);
         set_sample(times, positions, i, time, x, y);
-        i += 1;
     }
     History { start: 0, len: n }
 }
@@ -154,7 +144,7 @@ pub fn history_at(
     words: &[u32],
     at: usize,
 ) -> History
-    requires { (at < 0x1000_0000) × (bad_at history_code words.now at ≡ none) }
+    requires { (at < 0x1000_0000) × (bad_at history_code words.now at ≡ None) }
     ensures { (result.len ≤ max_len) × Filled result.len (value_at history_code words.now at) times.old positions.old result times.new positions.new }
 {
     let n = table_count(words, at, HISTORY, MAX_SAMPLES, SAMPLE_SIZE);

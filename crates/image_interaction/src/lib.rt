@@ -11,9 +11,7 @@ ghost use Rattle.image_interaction.specs.Groups.{sums_place, sums_code, sums_el,
 ghost use Rattle.image_interaction.specs.Groups as groups;
 
 use image_options::{maybe_id_at, maybe_id_bad, maybe_id_words, pair_bad, vec_at};
-use image_words::{
-    MaybeIndex, first, header_bad, single_at, single_bad, single_word, word_at, word_bad,
-};
+use image_words::{header_bad, single_at, single_bad, single_word, word_at, word_bad};
 use input_state::sums::Sums;
 use interaction_state::state::Interaction;
 
@@ -91,35 +89,33 @@ pub fn tally_words(tally: u32) -> [u32; 2]
     [TALLY, tally]
 }
 
-pub fn sums_bad(words: &[u32]) -> MaybeIndex
+#[tactic(auto, unfolding(image::specs::Places::bad_at, image::specs::Places::span, image::specs::Places::or_else, image::specs::Codes::size, image_words::specs::Leaves::found))]
+pub fn sums_bad(words: &[u32]) -> Result<(), usize>
     ensures { found result ≡ bad_at sums_code words.now sums_place }
 {
-    let leading = header_bad(words, SUMS_PLACE, SUMS);
-    let factor = single_bad(words, ZOOM_FACTOR);
-    let exponent = single_bad(words, ZOOM_EXPONENT);
-    let radians = single_bad(words, ROTATION_RADIANS);
-    let smooth = pair_bad(words, SMOOTH_SCROLL_DELTA);
-    first(
-        leading,
-        first(factor, first(exponent, first(radians, smooth))),
-    )
+    header_bad(words, SUMS_PLACE, SUMS)?;
+    single_bad(words, ZOOM_FACTOR)?;
+    single_bad(words, ZOOM_EXPONENT)?;
+    single_bad(words, ROTATION_RADIANS)?;
+    pair_bad(words, SMOOTH_SCROLL_DELTA)
 }
 
-pub fn interaction_bad(words: &[u32]) -> MaybeIndex
+#[tactic(auto, unfolding(image::specs::Places::bad_at, image::specs::Places::span, image::specs::Places::or_else, image::specs::Codes::size, image_words::specs::Leaves::found))]
+pub fn interaction_bad(words: &[u32]) -> Result<(), usize>
     ensures { found result ≡ bad_at interaction_code words.now interaction_place }
 {
-    let leading = header_bad(words, INTERACTION_PLACE, INTERACTION);
-    let click = maybe_id_bad(words, POTENTIAL_CLICK_ID);
-    let drag = maybe_id_bad(words, POTENTIAL_DRAG_ID);
-    let dragged = maybe_id_bad(words, DRAGGED);
-    first(leading, first(click, first(drag, dragged)))
+    header_bad(words, INTERACTION_PLACE, INTERACTION)?;
+    maybe_id_bad(words, POTENTIAL_CLICK_ID)?;
+    maybe_id_bad(words, POTENTIAL_DRAG_ID)?;
+    maybe_id_bad(words, DRAGGED)
 }
 
-pub fn tally_bad(words: &[u32]) -> MaybeIndex
+#[tactic(auto, unfolding(image::specs::Places::bad_at, image::specs::Places::span, image::specs::Places::or_else, image::specs::Codes::size, image_words::specs::Leaves::found))]
+pub fn tally_bad(words: &[u32]) -> Result<(), usize>
     ensures { found result ≡ bad_at tally_code words.now tally_place }
 {
-    let leading = header_bad(words, TALLY_PLACE, TALLY);
-    first(leading, word_bad(words, STARTS, MAX_WORD))
+    header_bad(words, TALLY_PLACE, TALLY)?;
+    word_bad(words, STARTS, MAX_WORD)
 }
 
 pub fn sums_at(words: &[u32]) -> Sums

@@ -1,9 +1,9 @@
 -- The presses as words, and the words of the group put together. Assumes nothing.
+use Rattle.std.specs.Prelude.{None, Some}
 use Prim.Native.Nat.{ℕ, zero, suc, ◌+◌, ◌*◌, ◌%◌, ◌≤◌, ◌<◌}
 use native.Mathlib.Omega.{arith}
 use mathlib.Core.Path.{◌≡◌, refl, sym, ap, ap₂, subst, ◌∙◌}
 use mathlib.Core.Bool.{Bool, true, false, cond}
-use mathlib.Core.Option.{none, some}
 use mathlib.Core.List.{List, [], ◌∷◌, ◌++◌}
 use lib.Dec.{ltb, leb, le→leb}
 use lib.ListN.{length, get_or, take, set, length-append, get_or-append}
@@ -36,17 +36,17 @@ head_then s =
     write_head z = 0x6000_0098 ∷ (write down_code (down_el s.keys_down) ++ (modifiers_number s.modifiers ∷ bit_number s.feed_empty ∷ z))
 
 -- a word that is sound is a byte
-sound_word : (ws : List ℕ) (i : ℕ) → bad_at press_code ws i ≡ none → get_or ws i 0 ≤ max_presses
+sound_word : (ws : List ℕ) (i : ℕ) → bad_at press_code ws i ≡ None → get_or ws i 0 ≤ max_presses
 unfolding bad_at word_bad
 sound_word ws i h = go (ltb i (length ws)) (leb (get_or ws i 0) max_presses) refl h
   where
-    go : (x y : Bool) → leb (get_or ws i 0) max_presses ≡ y → cond x (cond y none (some i)) (some i) ≡ none → get_or ws i 0 ≤ max_presses
+    go : (x y : Bool) → leb (get_or ws i 0) max_presses ≡ y → cond x (cond y None (Some i)) (Some i) ≡ None → get_or ws i 0 ≤ max_presses
     go true true e h = leb-true (get_or ws i 0) max_presses e
     go true false e h = let z : ◌≡◌ {A = ℕ} 0 1 = cc in absurd (omega arith)
     go false y e h = let z : ◌≡◌ {A = ℕ} 0 1 = cc in absurd (omega arith)
 
 -- no row is wrong: none of them is
-row_sound : (ws : List ℕ) (n i : ℕ) → rows_bad 1 (bad_at press_code) n ws i ≡ none → (j : ℕ) → j < n → bad_at press_code ws (i + j) ≡ none
+row_sound : (ws : List ℕ) (n i : ℕ) → rows_bad 1 (bad_at press_code) n ws i ≡ None → (j : ℕ) → j < n → bad_at press_code ws (i + j) ≡ None
 unfolding rows_bad
 row_sound ws zero i h j l = absurd (omega arith)
 row_sound ws (suc n) i h zero l =
@@ -56,7 +56,7 @@ row_sound ws (suc n) i h (suc j) l =
     let e : i + suc j ≡ i + 1 + j = omega arith in
     rw e (row_sound ws n (i + 1) (or_else_none (bad_at press_code ws i) (rows_bad 1 (bad_at press_code) n ws (i + 1)) h).1 j (omega arith))
 
-pub byte_of : (ws : List ℕ) (n i : ℕ) → rows_bad 1 (bad_at press_code) n ws i ≡ none → (j : ℕ) → j < n → get_or ws (i + j) 0 % 256 ≡ get_or ws (i + j) 0
+pub byte_of : (ws : List ℕ) (n i : ℕ) → rows_bad 1 (bad_at press_code) n ws i ≡ None → (j : ℕ) → j < n → get_or ws (i + j) 0 % 256 ≡ get_or ws (i + j) 0
 byte_of ws n i h j l = let k = sound_word ws (i + j) (row_sound ws n i h j l) in omega (arith, k)
 
 -- a turn of the loop that reads
@@ -76,7 +76,7 @@ each_take xs i w h e l k =
     rw (a, take-suc xs i 0 h) (each_more (In press_code) (take i xs) (get_or xs i 0) k (le→leb (get_or xs i 0) max_presses b))
 
 -- what a sound group says of its presses
-pub presses_sound : (ws : List ℕ) → bad_at keys_code ws keys_place ≡ none → rows_bad 1 (bad_at press_code) key_count ws presses_place ≡ none
+pub presses_sound : (ws : List ℕ) → bad_at keys_code ws keys_place ≡ None → rows_bad 1 (bad_at press_code) key_count ws presses_place ≡ None
 unfolding bad_at span size
 presses_sound ws h =
     let a = (or_else_none _ _ h).1 in

@@ -6,7 +6,7 @@ ghost use Rattle.image_words.specs.Leaves.{found};
 ghost use Rattle.key_state.specs.View.{down_of};
 ghost use Rattle.image_keys.specs.Keys.{down_place, down_code, down_el, keys_down_of, last_word};
 
-use image_words::{MaybeIndex, first, low, word_at, word_bad};
+use image_words::{low, word_at, word_bad};
 use key_state::bits::Set256;
 
 // The places of the five words, and the most of each: the last has 17 keys.
@@ -28,6 +28,7 @@ const HALF: u64 = 0x1_0000_0000;
 
 const LAST: u64 = 0x2_0000;
 
+// Halves by / and %, as the clauses say them.
 fn upper(w: u64) -> u32
     ensures { (result ≡ w / half) × (result < half) }
 {
@@ -51,15 +52,15 @@ pub fn down_words(s: Set256) -> [u32; 5]
     [low(a), upper(a), low(b), upper(b), last(c)]
 }
 
-pub fn down_bad(words: &[u32]) -> MaybeIndex
+#[tactic(auto, unfolding(image::specs::Places::bad_at, image::specs::Places::span, image::specs::Places::or_else, image::specs::Codes::size, image_words::specs::Leaves::found))]
+pub fn down_bad(words: &[u32]) -> Result<(), usize>
     ensures { found result ≡ bad_at down_code words.now down_place }
 {
-    let a = word_bad(words, DOWN_0, MAX_WORD);
-    let b = word_bad(words, DOWN_1, MAX_WORD);
-    let c = word_bad(words, DOWN_2, MAX_WORD);
-    let d = word_bad(words, DOWN_3, MAX_WORD);
-    let e = word_bad(words, DOWN_4, MAX_LAST);
-    first(a, first(b, first(c, first(d, e))))
+    word_bad(words, DOWN_0, MAX_WORD)?;
+    word_bad(words, DOWN_1, MAX_WORD)?;
+    word_bad(words, DOWN_2, MAX_WORD)?;
+    word_bad(words, DOWN_3, MAX_WORD)?;
+    word_bad(words, DOWN_4, MAX_LAST)
 }
 
 fn joined(low: u32, high: u32) -> u64

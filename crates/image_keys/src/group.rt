@@ -1,6 +1,5 @@
 // The group: keys that are down, modifiers, whether the feed was empty, the presses.
-ghost use Rattle.std.specs.Prelude.{◌≡◌, List, ℕ, ◌≤◌, length};
-ghost use Rattle.std.proofs.Math.Option.{none};
+ghost use Rattle.std.specs.Prelude.{◌≡◌, List, ℕ, ◌≤◌, length, None};
 ghost use Rattle.std.proofs.lemmas.List.Edits.{sets};
 ghost use Rattle.image.specs.Codes.{write, In};
 ghost use Rattle.image.specs.Places.{bad_at, value_at};
@@ -12,7 +11,7 @@ use crate::down::{down_at, down_bad, down_words};
 use crate::presses::{presses_at, presses_bad, presses_put};
 use data::bits::bit_number;
 use data::modifiers::Modifiers;
-use image_words::{MaybeIndex, copy, first, flag_bad, header_bad, word_at, word_bad};
+use image_words::{copy, flag_bad, header_bad, word_at, word_bad};
 use key_state::keys::{Keys, PRESSES};
 
 // The group's leading word, the places of its fields, their number, and the most of a word of flags.
@@ -56,22 +55,19 @@ pub fn keys_put(k: Keys, presses: &[u8; PRESSES], out: &mut [u32])
     presses_put(presses, out, PRESSES_PLACE);
 }
 
-pub fn keys_bad(words: &[u32]) -> MaybeIndex
+#[tactic(auto, unfolding(image::specs::Places::bad_at, image::specs::Places::span, image::specs::Places::or_else, image::specs::Codes::size, image_words::specs::Leaves::found))]
+pub fn keys_bad(words: &[u32]) -> Result<(), usize>
     ensures { found result ≡ bad_at keys_code words.now keys_place }
 {
-    let leading = header_bad(words, KEYS_PLACE, KEYS);
-    let down = down_bad(words);
-    let modifiers = word_bad(words, MODIFIERS, FIVE_BITS);
-    let empty = flag_bad(words, FEED_EMPTY);
-    let presses = presses_bad(words, PRESSES_PLACE, PRESSES);
-    first(
-        leading,
-        first(down, first(modifiers, first(empty, presses))),
-    )
+    header_bad(words, KEYS_PLACE, KEYS)?;
+    down_bad(words)?;
+    word_bad(words, MODIFIERS, FIVE_BITS)?;
+    flag_bad(words, FEED_EMPTY)?;
+    presses_bad(words, PRESSES_PLACE, PRESSES)
 }
 
 pub fn keys_at(words: &[u32], presses: &mut [u8; PRESSES]) -> Keys
-    requires { bad_at keys_code words.now keys_place ≡ none }
+    requires { bad_at keys_code words.now keys_place ≡ None }
     ensures { keys presses.new result ≡ keys_of (value_at keys_code words.now keys_place) }
 {
     let down = down_at(words);

@@ -1,6 +1,5 @@
 // How often each key was pressed in the pass, a word each.
-ghost use Rattle.std.specs.Prelude.{◌≡◌, ◌+◌, ◌%◌, ◌<◌, ◌≤◌, length};
-ghost use Rattle.std.proofs.Math.Option.{none};
+ghost use Rattle.std.specs.Prelude.{◌≡◌, ◌+◌, ◌%◌, ◌<◌, ◌≤◌, length, None};
 ghost use Rattle.std.proofs.lemmas.List.Edits.{sets};
 ghost use Rattle.data.specs.Limits.{key_count};
 ghost use Rattle.image.specs.Codes.{In, Each};
@@ -9,7 +8,7 @@ ghost use Rattle.image_words.specs.Leaves.{found};
 ghost use Rattle.image_options.specs.Options.{Near};
 ghost use Rattle.image_keys.specs.Keys.{press_code};
 
-use image_words::{MaybeIndex, first, word_at, word_bad};
+use image_words::{word_at, word_bad};
 
 const MAX_PRESSES: u32 = 255;
 
@@ -24,26 +23,19 @@ pub fn presses_put(presses: &[u8], out: &mut [u32], at: usize)
     requires { (length presses.now ≡ key_count) × (at + key_count ≤ length out.old) }
     ensures { (out.new ≡ sets out.old at presses.now) × Each (In press_code) presses.now × (length presses.now ≡ key_count) }
 {
-    let mut i: usize = 0;
-    while i < presses.len() {
+    for i in 0..presses.len() {
         out[at + i] = wide(presses[i]);
-        i += 1;
     }
 }
 
-pub fn presses_bad(words: &[u32], at: usize, n: usize) -> MaybeIndex
+pub fn presses_bad(words: &[u32], at: usize, n: usize) -> Result<(), usize>
     requires { Near (at + n) }
     ensures { found result ≡ rows_bad 1 (bad_at press_code) n words.now at }
 {
-    let mut bad = MaybeIndex::None;
-    let mut k = at;
-    let mut left = n;
-    while 0 < left {
-        bad = first(bad, word_bad(words, k, MAX_PRESSES));
-        k += 1;
-        left -= 1;
+    for i in 0..n {
+        word_bad(words, at + i, MAX_PRESSES)?;
     }
-    bad
+    Ok(())
 }
 
 fn byte(w: u32) -> u8
@@ -54,12 +46,10 @@ fn byte(w: u32) -> u8
 
 // Every place is written.
 pub fn presses_at(words: &[u32], at: usize, presses: &mut [u8])
-    requires { (length presses.old ≡ key_count) × Near at × (rows_bad 1 (bad_at press_code) key_count words.now at ≡ none) }
+    requires { (length presses.old ≡ key_count) × Near at × (rows_bad 1 (bad_at press_code) key_count words.now at ≡ None) }
     ensures { presses.new ≡ rows_at 1 (value_at press_code) key_count words.now at }
 {
-    let mut i: usize = 0;
-    while i < presses.len() {
+    for i in 0..presses.len() {
         presses[i] = byte(word_at(words, at + i));
-        i += 1;
     }
 }

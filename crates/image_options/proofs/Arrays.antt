@@ -1,8 +1,8 @@
 -- Words that stand in an array of their own, put into a larger one by their places. Assumes nothing.
+use Rattle.std.specs.Prelude.{None, Some}
 use Prim.Native.Nat.{ℕ}
 use native.Mathlib.Omega.{arith}
 use mathlib.Core.Path.{◌≡◌, refl}
-use mathlib.Core.Option.{none, some}
 use mathlib.Core.List.{List, [], ◌∷◌, ◌++◌}
 use lib.ListN.{length, get_or}
 use Rattle.image.specs.Codes.{El, write, option_words, zeros, size}
@@ -20,15 +20,15 @@ words_3 xs vs ys ws e h f = rw (e, f) (spread_3 vs ws h)
 
 pub pair_length : (v : El maybe_pair) → length (write maybe_pair v) ≡ 3
 unfolding write option_words zeros size
-pair_length none = refl
-pair_length (some v) = refl
+pair_length None = refl
+pair_length (Some v) = refl
 
 pub time_length : (v : El maybe_time) → length (write maybe_time v) ≡ 3
 unfolding write option_words zeros size
-time_length none = refl
-time_length (some v) = refl
+time_length None = refl
+time_length (Some v) = refl
 
 pub id_length : (v : El maybe_id) → length (write maybe_id v) ≡ 3
 unfolding write option_words zeros size
-id_length none = refl
-id_length (some v) = refl
+id_length None = refl
+id_length (Some v) = refl

@@ -1,48 +1,48 @@
 -- The shared fields: what stands for a record gives it back, and every value in range stands for one. Assumes nothing.
+use Rattle.std.specs.Prelude.{Option, None, Some, Float}
 use Prim.Native.Nat.{ℕ, zero, suc, ◌+◌, ◌*◌, ◌/◌, ◌%◌, ◌≤◌}
 use native.Mathlib.Omega.{arith}
 use mathlib.Core.Path.{◌≡◌, refl}
 use mathlib.Core.Bool.{Bool, true, false}
-use mathlib.Core.Option.{none, some}
 use lib.Dec.{T, eqb, leb→le, le→leb, ltb→lt}
 use Rattle.data.specs.Bits.{bit_number}
 use Rattle.data.specs.Modifiers.{modifiers_number, modifiers_of}
 use Rattle.feed.proofs.RoundTrip.{modifiers_lt, modifiers_back}
-use Rattle.model.specs.Types.{Modifiers, MaybePos2, no_pos, some_pos, MaybeVec2, no_vec, some_vec, MaybeF64, no_time, some_time}
+use Rattle.model.specs.Types.{Modifiers, Pos2, Vec2}
 use Rattle.image.specs.Codes.{El}
 use Rattle.image_words.specs.Leaves.{flag, upto}
 use Rattle.image_options.specs.Options.{boolean_of, five_bits, maybe_pair, maybe_time, maybe_pos_el, maybe_pos_of, maybe_vec_el, maybe_vec_of, maybe_time_el, maybe_time_of}
 
 -- ---- values that may be absent
-pub pos_back : (p : MaybePos2) → maybe_pos_of (maybe_pos_el p) ≡ p
+pub pos_back : (p : Option Pos2) → maybe_pos_of (maybe_pos_el p) ≡ p
 unfolding maybe_pos_el maybe_pos_of
-pos_back no_pos = refl
-pos_back (some_pos p) = refl
+pos_back None = refl
+pos_back (Some p) = refl
 
 pub pos_forth : (v : El maybe_pair) → maybe_pos_el (maybe_pos_of v) ≡ v
 unfolding maybe_pos_el maybe_pos_of
-pos_forth none = refl
-pos_forth (some v) = refl
+pos_forth None = refl
+pos_forth (Some v) = refl
 
-pub vec_back : (p : MaybeVec2) → maybe_vec_of (maybe_vec_el p) ≡ p
+pub vec_back : (p : Option Vec2) → maybe_vec_of (maybe_vec_el p) ≡ p
 unfolding maybe_vec_el maybe_vec_of
-vec_back no_vec = refl
-vec_back (some_vec p) = refl
+vec_back None = refl
+vec_back (Some p) = refl
 
 pub vec_forth : (v : El maybe_pair) → maybe_vec_el (maybe_vec_of v) ≡ v
 unfolding maybe_vec_el maybe_vec_of
-vec_forth none = refl
-vec_forth (some v) = refl
+vec_forth None = refl
+vec_forth (Some v) = refl
 
-pub time_back : (t : MaybeF64) → maybe_time_of (maybe_time_el t) ≡ t
+pub time_back : (t : Option Float) → maybe_time_of (maybe_time_el t) ≡ t
 unfolding maybe_time_el maybe_time_of
-time_back no_time = refl
-time_back (some_time t) = refl
+time_back None = refl
+time_back (Some t) = refl
 
 pub time_forth : (v : El maybe_time) → maybe_time_el (maybe_time_of v) ≡ v
 unfolding maybe_time_el maybe_time_of
-time_forth none = refl
-time_forth (some t) = refl
+time_forth None = refl
+time_forth (Some t) = refl
 
 -- ---- bits
 pub boolean_in : (b : Bool) → T (flag (bit_number b))

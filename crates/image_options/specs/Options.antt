@@ -1,7 +1,6 @@
 -- Fields that several groups share: the code of each, the value that stands for a record, and back.
-use Rattle.std.specs.Prelude.{ℕ, ◌<◌, Bool, eqb}
-use Rattle.std.proofs.Math.Option.{none, some}
-use Rattle.model.specs.Types.{Pos2, Vec2, MaybePos2, no_pos, some_pos, MaybeVec2, no_vec, some_vec, MaybeF64, no_time, some_time}
+use Rattle.std.specs.Prelude.{ℕ, ◌<◌, Bool, eqb, Option, None, Some, Float}
+use Rattle.model.specs.Types.{Pos2, Vec2}
 use Rattle.image.specs.Codes.{Code, word, single, double, id, both, maybe, El}
 use Rattle.image_words.specs.Leaves.{flag, upto, any, any_id}
 
@@ -43,33 +42,33 @@ vec_of v = record { x = v.0; y = v.1 }
 abbrev pub maybe_pair : Code
 maybe_pair = maybe pair
 
-unfoldable pub maybe_pos_el : MaybePos2 → El maybe_pair
-maybe_pos_el no_pos = none
-maybe_pos_el (some_pos p) = some (pos_el p)
+unfoldable pub maybe_pos_el : Option Pos2 → El maybe_pair
+maybe_pos_el None = None
+maybe_pos_el (Some p) = Some (pos_el p)
 
-unfoldable pub maybe_pos_of : El maybe_pair → MaybePos2
-maybe_pos_of none = no_pos
-maybe_pos_of (some v) = some_pos (pos_of v)
+unfoldable pub maybe_pos_of : El maybe_pair → Option Pos2
+maybe_pos_of None = None
+maybe_pos_of (Some v) = Some (pos_of v)
 
-unfoldable pub maybe_vec_el : MaybeVec2 → El maybe_pair
-maybe_vec_el no_vec = none
-maybe_vec_el (some_vec p) = some (vec_el p)
+unfoldable pub maybe_vec_el : Option Vec2 → El maybe_pair
+maybe_vec_el None = None
+maybe_vec_el (Some p) = Some (vec_el p)
 
-unfoldable pub maybe_vec_of : El maybe_pair → MaybeVec2
-maybe_vec_of none = no_vec
-maybe_vec_of (some v) = some_vec (vec_of v)
+unfoldable pub maybe_vec_of : El maybe_pair → Option Vec2
+maybe_vec_of None = None
+maybe_vec_of (Some v) = Some (vec_of v)
 
 -- a time or none
 abbrev pub maybe_time : Code
 maybe_time = maybe (double any)
 
-unfoldable pub maybe_time_el : MaybeF64 → El maybe_time
-maybe_time_el no_time = none
-maybe_time_el (some_time t) = some t
+unfoldable pub maybe_time_el : Option Float → El maybe_time
+maybe_time_el None = None
+maybe_time_el (Some t) = Some t
 
-unfoldable pub maybe_time_of : El maybe_time → MaybeF64
-maybe_time_of none = no_time
-maybe_time_of (some t) = some_time t
+unfoldable pub maybe_time_of : El maybe_time → Option Float
+maybe_time_of None = None
+maybe_time_of (Some t) = Some t
 
 -- an id or none, which the model keeps as it stands
 abbrev pub maybe_id : Code

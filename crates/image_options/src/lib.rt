@@ -1,20 +1,17 @@
 // Fields that several groups of an image (02 A.6) share: positions and vectors, and values that may be absent.
 #![tactic(auto)]
 
-ghost use Rattle.std.specs.Prelude.{◌≡◌, suc};
+ghost use Rattle.std.specs.Prelude.{◌≡◌, ◌+◌, ◌<◌, suc};
 ghost use Rattle.image.specs.Codes.{Code, maybe, size, write, In};
 ghost use Rattle.image.specs.Places.{bad_at, value_at};
 ghost use Rattle.image_words.specs.Leaves.{found};
-ghost use Rattle.id_set.specs.Ids.{option_of};
 ghost use Rattle.image_options.specs.Options.{Near, pair, maybe_pair, maybe_time, maybe_id, pos_of, vec_of, pos_el, vec_el, maybe_pos_el, maybe_pos_of, maybe_vec_el, maybe_vec_of, maybe_time_el, maybe_time_of};
 
-use data::pointer::MaybeF64;
-use emath::pos2::{MaybePos2, Pos2};
-use emath::vec2::{MaybeVec2, Vec2};
-use id_set::MaybeId;
+use emath::pos2::Pos2;
+use emath::vec2::Vec2;
 use image_words::{
-    MaybeIndex, double_at, double_bad, double_word, first, flag_bad, high, id_bad, low, single_at,
-    single_bad, single_word, two_at, word_at, zeros_bad,
+    double_at, double_bad, double_word, flag_bad, high, id_bad, low, single_at, single_bad,
+    single_word, two_at, word_at, zeros_bad,
 };
 
 // How many words follow the flag.
@@ -26,83 +23,86 @@ const ID_WORDS: usize = 2;
 
 // ---- words
 
-pub fn maybe_pos_words(p: MaybePos2) -> [u32; 3]
+// One for each type: a position, a vector, a time and an id have definitions of their own, and one generic form would need a trait with four laws for these few lines.
+
+pub fn maybe_pos_words(p: Option<Pos2>) -> [u32; 3]
     ensures { (result ≡ write maybe_pair (maybe_pos_el p)) × In maybe_pair (maybe_pos_el p) }
 {
     match p {
-        MaybePos2::None => [0, 0, 0],
-        MaybePos2::Some(v) => [1, single_word(v.x), single_word(v.y)],
+        None => [0, 0, 0],
+        Some(v) => [1, single_word(v.x), single_word(v.y)],
     }
 }
 
-pub fn maybe_vec_words(p: MaybeVec2) -> [u32; 3]
+pub fn maybe_vec_words(p: Option<Vec2>) -> [u32; 3]
     ensures { (result ≡ write maybe_pair (maybe_vec_el p)) × In maybe_pair (maybe_vec_el p) }
 {
     match p {
-        MaybeVec2::None => [0, 0, 0],
-        MaybeVec2::Some(v) => [1, single_word(v.x), single_word(v.y)],
+        None => [0, 0, 0],
+        Some(v) => [1, single_word(v.x), single_word(v.y)],
     }
 }
 
-pub fn maybe_time_words(t: MaybeF64) -> [u32; 3]
+pub fn maybe_time_words(t: Option<f64>) -> [u32; 3]
     ensures { (result ≡ write maybe_time (maybe_time_el t)) × In maybe_time (maybe_time_el t) }
 {
     match t {
-        MaybeF64::None => [0, 0, 0],
-        MaybeF64::Some(x) => {
+        None => [0, 0, 0],
+        Some(x) => {
             let b = double_word(x);
             [1, high(b), low(b)]
         }
     }
 }
 
-pub fn maybe_id_words(id: MaybeId) -> [u32; 3]
-    ensures { (result ≡ write maybe_id (option_of id)) × In maybe_id (option_of id) }
+pub fn maybe_id_words(id: Option<u64>) -> [u32; 3]
+    ensures { (result ≡ write maybe_id id) × In maybe_id id }
 {
     match id {
-        MaybeId::None => [0, 0, 0],
-        MaybeId::Some(d) => [1, high(d), low(d)],
+        None => [0, 0, 0],
+        Some(d) => [1, high(d), low(d)],
     }
 }
 
 // ---- checks
 
-pub fn pair_bad(words: &[u32], at: usize) -> MaybeIndex
-    requires { Near at }
+#[tactic(auto, unfolding(image::specs::Places::bad_at, image::specs::Places::span, image::specs::Places::or_else, image::specs::Codes::size, image_words::specs::Leaves::found))]
+pub fn pair_bad(words: &[u32], at: usize) -> Result<(), usize>
+    requires { at + 1 < 0x1_0000_0000_0000_0000 }
     ensures { found result ≡ bad_at pair words.now at }
 {
-    first(single_bad(words, at), single_bad(words, at + 1))
+    single_bad(words, at)?;
+    single_bad(words, at + 1)
 }
 
 // A flag, then the value, of which `value` tells what is wrong, or as many zeros: of every description.
-pub fn maybe_bad(words: &[u32], at: usize, n: usize, value: MaybeIndex) -> MaybeIndex
+#[tactic(auto, unfolding(image::specs::Places::bad_at, image::specs::Places::span, image::specs::Places::or_else, image::specs::Codes::size, image_words::specs::Leaves::found))]
+pub fn maybe_bad(words: &[u32], at: usize, n: usize, value: Result<(), usize>) -> Result<(), usize>
     requires { Near at }
     ensures { (a : Code) → size a ≡ n → found value ≡ bad_at a words.now (suc at) → found result ≡ bad_at (maybe a) words.now at }
 {
-    let flag = flag_bad(words, at);
+    flag_bad(words, at)?;
     if word_at(words, at) == 0 {
-        return first(flag, zeros_bad(words, at + 1, n));
+        return zeros_bad(words, at + 1, n);
     }
-    first(flag, value)
+    value
 }
 
-pub fn maybe_pair_bad(words: &[u32], at: usize) -> MaybeIndex
+pub fn maybe_pair_bad(words: &[u32], at: usize) -> Result<(), usize>
     requires { Near at }
     ensures { found result ≡ bad_at maybe_pair words.now at }
 {
-    let x = single_bad(words, at + 1);
-    let y = single_bad(words, at + 2);
-    maybe_bad(words, at, PAIR_WORDS, first(x, y))
+    maybe_bad(words, at, PAIR_WORDS, pair_bad(words, at + 1))
 }
 
-pub fn maybe_time_bad(words: &[u32], at: usize) -> MaybeIndex
+pub fn maybe_time_bad(words: &[u32], at: usize) -> Result<(), usize>
     requires { Near at }
     ensures { found result ≡ bad_at maybe_time words.now at }
 {
     maybe_bad(words, at, DOUBLE_WORDS, double_bad(words, at + 1))
 }
 
-pub fn maybe_id_bad(words: &[u32], at: usize) -> MaybeIndex
+pub fn maybe_id_bad(words: &[u32], at: usize) -> Result<(), usize>
     requires { Near at }
     ensures { found result ≡ bad_at maybe_id words.now at }
 {
@@ -131,46 +131,46 @@ pub fn vec_at(words: &[u32], at: usize) -> Vec2
     }
 }
 
-pub fn maybe_pos_at(words: &[u32], at: usize) -> MaybePos2
+pub fn maybe_pos_at(words: &[u32], at: usize) -> Option<Pos2>
     requires { Near at }
     ensures { result ≡ maybe_pos_of (value_at maybe_pair words.now at) }
 {
     if word_at(words, at) == 0 {
-        return MaybePos2::None;
+        return None;
     }
     let x = single_at(words, at + 1);
     let y = single_at(words, at + 2);
-    MaybePos2::Some(Pos2 { x, y })
+    Some(Pos2 { x, y })
 }
 
-pub fn maybe_vec_at(words: &[u32], at: usize) -> MaybeVec2
+pub fn maybe_vec_at(words: &[u32], at: usize) -> Option<Vec2>
     requires { Near at }
     ensures { result ≡ maybe_vec_of (value_at maybe_pair words.now at) }
 {
     if word_at(words, at) == 0 {
-        return MaybeVec2::None;
+        return None;
     }
     let x = single_at(words, at + 1);
     let y = single_at(words, at + 2);
-    MaybeVec2::Some(Vec2 { x, y })
+    Some(Vec2 { x, y })
 }
 
-pub fn maybe_time_at(words: &[u32], at: usize) -> MaybeF64
+pub fn maybe_time_at(words: &[u32], at: usize) -> Option<f64>
     requires { Near at }
     ensures { result ≡ maybe_time_of (value_at maybe_time words.now at) }
 {
     if word_at(words, at) == 0 {
-        return MaybeF64::None;
+        return None;
     }
-    MaybeF64::Some(double_at(words, at + 1))
+    Some(double_at(words, at + 1))
 }
 
-pub fn maybe_id_at(words: &[u32], at: usize) -> MaybeId
+pub fn maybe_id_at(words: &[u32], at: usize) -> Option<u64>
     requires { Near at }
-    ensures { option_of result ≡ value_at maybe_id words.now at }
+    ensures { result ≡ value_at maybe_id words.now at }
 {
     if word_at(words, at) == 0 {
-        return MaybeId::None;
+        return None;
     }
-    MaybeId::Some(two_at(words, at + 1))
+    Some(two_at(words, at + 1))
 }

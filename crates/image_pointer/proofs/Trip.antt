@@ -1,4 +1,5 @@
 -- Groups 3 and 4: what stands for a record gives it back, and every value in range stands for one. Assumes nothing.
+use Rattle.std.specs.Prelude.{Option, Float}
 use Prim.Native.Nat.{ℕ}
 use mathlib.Core.Path.{◌≡◌, refl, sym, ap, ◌∙◌}
 use mathlib.Core.Bool.{Bool}
@@ -6,7 +7,7 @@ use mathlib.Core.List.{List}
 use lib.Dec.{T}
 use Rattle.emath.specs.History.{Sample}
 use Rattle.data.specs.Modifiers.{modifiers_number, modifiers_of}
-use Rattle.model.specs.Types.{ButtonsDown, Modifiers, PointerEvent, MaybeF64}
+use Rattle.model.specs.Types.{ButtonsDown, Modifiers, PointerEvent}
 use Rattle.model.specs.Pointer.{Place, Press, buttons, flags_down, CountTrue}
 use Rattle.image.specs.Codes.{El, In}
 use Rattle.image_words.specs.Leaves.{upto}
@@ -50,7 +51,7 @@ pub place_forth : (v : El place_code) (samples : List Sample) → place_el (plac
 place_forth v samples = rw (pos_forth v.0, pos_forth v.1.0, vec_forth v.1.1.1.0)
 
 -- ---- presses and clicks
-pub press_back : (p : Press) (started : Bool) (moved : MaybeF64) → CountTrue p.held.down → press_of (press_el p started moved) p.held.pointer_events ≡ p
+pub press_back : (p : Press) (started : Bool) (moved : Option Float) → CountTrue p.held.down → press_of (press_el p started moved) p.held.pointer_events ≡ p
 press_back p started moved h =
     rw (
       buttons_back p.held.down h,
@@ -60,10 +61,10 @@ press_back p started moved h =
       pos_back p.past.last_click_pos,
     )
 
-pub started_back : (p : Press) (started : Bool) (moved : MaybeF64) → started_of (press_el p started moved) ≡ started
+pub started_back : (p : Press) (started : Bool) (moved : Option Float) → started_of (press_el p started moved) ≡ started
 started_back p started moved = boolean_back started
 
-pub moved_back : (p : Press) (started : Bool) (moved : MaybeF64) → moved_of (press_el p started moved) ≡ moved
+pub moved_back : (p : Press) (started : Bool) (moved : Option Float) → moved_of (press_el p started moved) ≡ moved
 moved_back p started moved = time_back moved
 
 pub press_forth : (v : El press_code) → In press_code v → (events : List PointerEvent) → press_el (press_of v events) (started_of v) (moved_of v) ≡ v

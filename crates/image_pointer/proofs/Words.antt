@@ -1,4 +1,5 @@
 -- Groups 3 and 4: the words put together are those of the record. Assumes nothing.
+use Rattle.std.specs.Prelude.{Option, Float}
 use Prim.Native.Nat.{ℕ, ◌/◌, ◌%◌}
 use mathlib.Core.Path.{◌≡◌, ap, ◌∙◌}
 use mathlib.Core.Bool.{Bool}
@@ -6,7 +7,6 @@ use mathlib.Core.List.{List, [], ◌∷◌, ◌++◌, append-nil}
 use lib.ListN.{get_or}
 use lib.Ieee.{binary32, binary64, to_bits}
 use Rattle.data.specs.Bits.{bit_number}
-use Rattle.model.specs.Types.{MaybeF64}
 use Rattle.model.specs.Pointer.{Place, Press}
 use Rattle.image.specs.Codes.{write, size, half}
 use Rattle.image_options.specs.Options.{maybe_pair, maybe_time, maybe_pos_el, maybe_vec_el, maybe_time_el}
@@ -30,7 +30,7 @@ place_list p l i m a b d e f g el ei em ea eb ed ee ef eg =
     ∙ ap (λ (z : List ℕ). write maybe_pair (maybe_pos_el p.interact_pos) ++ (to_bits binary32 p.delta.x ∷ to_bits binary32 p.delta.y ∷ z))
     (spread_3 (write maybe_pair (maybe_vec_el p.motion)) _ (pair_length (maybe_vec_el p.motion))))))
 
-pub press_list : (p : Press) (started : Bool) (moved : MaybeF64) (o s c m : List ℕ) (d b g last before h l k n : ℕ)
+pub press_list : (p : Press) (started : Bool) (moved : Option Float) (o s c m : List ℕ) (d b g last before h l k n : ℕ)
     → o ≡ write maybe_pair (maybe_pos_el p.held.press_origin) → s ≡ write maybe_time (maybe_time_el p.held.press_start_time)
     → c ≡ write maybe_pair (maybe_pos_el p.past.last_click_pos) → m ≡ write maybe_time (maybe_time_el moved)
     → d ≡ buttons_number p.held.down → b ≡ bit_number p.past.has_moved_too_much_for_a_click → g ≡ bit_number started

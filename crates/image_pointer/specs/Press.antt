@@ -1,7 +1,7 @@
 -- Group 4, buttons, presses and clicks: its code, the value that stands for the model's record without its events, and back.
-use Rattle.std.specs.Prelude.{ℕ, ◌+◌, ◌*◌, Bool, List}
+use Rattle.std.specs.Prelude.{ℕ, ◌+◌, ◌*◌, Bool, List, Option, Float}
 use Rattle.data.specs.Bits.{bit_number, bit_of}
-use Rattle.model.specs.Types.{ButtonsDown, PointerEvent, MaybeF64}
+use Rattle.model.specs.Types.{ButtonsDown, PointerEvent}
 use Rattle.model.specs.Pointer.{Press, buttons}
 use Rattle.image.specs.Codes.{Code, double, both, group, El}
 use Rattle.image_words.specs.Leaves.{any}
@@ -26,7 +26,7 @@ abbrev pub press_code : Code
 press_code =
     group 4 (both flags (both maybe_pair (both maybe_time (both boolean (both maybe_pair (both (double any) (both (double any) (both boolean maybe_time))))))))
 
-abbrev pub press_el : Press → Bool → MaybeF64 → El press_code
+abbrev pub press_el : Press → Bool → Option Float → El press_code
 press_el p started moved = (
   buttons_number p.held.down,
   (
@@ -67,5 +67,5 @@ press_of v events =
 abbrev pub started_of : El press_code → Bool
 started_of v = boolean_of v.1.1.1.1.1.1.1.0
 
-abbrev pub moved_of : El press_code → MaybeF64
+abbrev pub moved_of : El press_code → Option Float
 moved_of v = maybe_time_of v.1.1.1.1.1.1.1.1

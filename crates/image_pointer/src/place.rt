@@ -11,7 +11,7 @@ use emath_history::history::History;
 use image_options::{
     maybe_pair_bad, maybe_pos_at, maybe_pos_words, maybe_vec_at, maybe_vec_words, pair_bad, vec_at,
 };
-use image_words::{MaybeIndex, first, header_bad, single_word};
+use image_words::{header_bad, single_word};
 use pointer_place::Place;
 
 // The group's leading word, and the places of its fields.
@@ -63,18 +63,17 @@ pub fn place_words(p: Place) -> [u32; 16]
     ]
 }
 
-pub fn place_bad(words: &[u32]) -> MaybeIndex
+#[tactic(auto, unfolding(image::specs::Places::bad_at, image::specs::Places::span, image::specs::Places::or_else, image::specs::Codes::size, image_words::specs::Leaves::found))]
+pub fn place_bad(words: &[u32]) -> Result<(), usize>
     ensures { found result ≡ bad_at place_code words.now place_place }
 {
-    let leading = header_bad(words, PLACE_PLACE, PLACE);
-    let latest = maybe_pair_bad(words, LATEST_POS);
-    let interact = maybe_pair_bad(words, INTERACT_POS);
-    let delta = pair_bad(words, DELTA);
-    let motion = maybe_pair_bad(words, MOTION);
-    let velocity = pair_bad(words, VELOCITY);
-    let direction = pair_bad(words, DIRECTION);
-    let moves = first(delta, first(motion, first(velocity, direction)));
-    first(leading, first(latest, first(interact, moves)))
+    header_bad(words, PLACE_PLACE, PLACE)?;
+    maybe_pair_bad(words, LATEST_POS)?;
+    maybe_pair_bad(words, INTERACT_POS)?;
+    pair_bad(words, DELTA)?;
+    maybe_pair_bad(words, MOTION)?;
+    pair_bad(words, VELOCITY)?;
+    pair_bad(words, DIRECTION)
 }
 
 // With the history that is read by itself.

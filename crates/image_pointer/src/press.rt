@@ -8,13 +8,12 @@ ghost use Rattle.pointer_state.specs.View.{press};
 ghost use Rattle.image_pointer.specs.Press.{press_place, press_code, press_el, press_of, started_of, moved_of, buttons_number, buttons_of};
 
 use data::bits::bit_number;
-use data::pointer::{ButtonsDown, MaybeF64};
+use data::pointer::ButtonsDown;
 use image_options::{
     maybe_pair_bad, maybe_pos_at, maybe_pos_words, maybe_time_at, maybe_time_bad, maybe_time_words,
 };
 use image_words::{
-    MaybeIndex, double_at, double_bad, double_word, first, flag_bad, header_bad, high, low,
-    word_at, word_bad,
+    double_at, double_bad, double_word, flag_bad, header_bad, high, low, word_at, word_bad,
 };
 use pointer_clicks::{ClickPast, Held, buttons};
 use pointer_state::press::Press;
@@ -68,7 +67,7 @@ fn buttons_of(w: u32) -> ButtonsDown
     buttons(primary, secondary, middle, extra1, extra2)
 }
 
-pub fn press_words(p: Press, started: bool, moved: MaybeF64) -> [u32; 20]
+pub fn press_words(p: Press, started: bool, moved: Option<f64>) -> [u32; 20]
     ensures { (codes : List ℕ) (places : List Float) → (result ≡ write press_code (press_el (press codes places p) started moved)) × In press_code (press_el (press codes places p) started moved) }
 {
     let held = p.held;
@@ -107,22 +106,20 @@ pub fn press_words(p: Press, started: bool, moved: MaybeF64) -> [u32; 20]
     ]
 }
 
-pub fn press_bad(words: &[u32]) -> MaybeIndex
+#[tactic(auto, unfolding(image::specs::Places::bad_at, image::specs::Places::span, image::specs::Places::or_else, image::specs::Codes::size, image_words::specs::Leaves::found))]
+pub fn press_bad(words: &[u32]) -> Result<(), usize>
     ensures { found result ≡ bad_at press_code words.now press_place }
 {
-    let leading = header_bad(words, PRESS_PLACE, PRESS);
-    let down = word_bad(words, DOWN, FIVE_BITS);
-    let origin = maybe_pair_bad(words, PRESS_ORIGIN);
-    let start = maybe_time_bad(words, PRESS_START_TIME);
-    let spoilt = flag_bad(words, HAS_MOVED);
-    let click = maybe_pair_bad(words, LAST_CLICK_POS);
-    let last = double_bad(words, LAST_CLICK_TIME);
-    let before = double_bad(words, LAST_LAST_CLICK_TIME);
-    let started = flag_bad(words, STARTED);
-    let moved = maybe_time_bad(words, LAST_MOVE_TIME);
-    let ends = first(before, first(started, moved));
-    let clicks = first(spoilt, first(click, first(last, ends)));
-    first(leading, first(down, first(origin, first(start, clicks))))
+    header_bad(words, PRESS_PLACE, PRESS)?;
+    word_bad(words, DOWN, FIVE_BITS)?;
+    maybe_pair_bad(words, PRESS_ORIGIN)?;
+    maybe_time_bad(words, PRESS_START_TIME)?;
+    flag_bad(words, HAS_MOVED)?;
+    maybe_pair_bad(words, LAST_CLICK_POS)?;
+    double_bad(words, LAST_CLICK_TIME)?;
+    double_bad(words, LAST_LAST_CLICK_TIME)?;
+    flag_bad(words, STARTED)?;
+    maybe_time_bad(words, LAST_MOVE_TIME)
 }
 
 // With the number of pointer events, which are read by themselves.
@@ -154,7 +151,7 @@ pub fn started_at(words: &[u32]) -> bool
     word_at(words, STARTED) == 1
 }
 
-pub fn last_move_time_at(words: &[u32]) -> MaybeF64
+pub fn last_move_time_at(words: &[u32]) -> Option<f64>
     ensures { result ≡ moved_of (value_at press_code words.now press_place) }
 {
     maybe_time_at(words, LAST_MOVE_TIME)

@@ -1,7 +1,7 @@
 -- Every call stays in range: a taken pass by its own numbers, which are in 01's domain; nothing else writes these fields. Assumes nothing.
+use Rattle.std.specs.Prelude.{Option, None, Some}
 use mathlib.Core.Path.{◌≡◌, refl}
 use mathlib.Core.Bool.{Bool, true, false, ◌&&◌, cond}
-use mathlib.Core.Option.{Option, none, some}
 use mathlib.Core.List.{[], ◌∷◌}
 use lib.Dec.{T}
 use lib.Ieee.{Float, lt}
@@ -45,8 +45,8 @@ own i t h =
 
 rect_kept : (g : Option Rect) (old : Rect) → T (rect_given_ok g) → T (rect_ok old) → T (rect_ok (rect_or g old))
 unfolding rect_given_ok rect_or
-rect_kept none old h k = k
-rect_kept (some r) old h k = h
+rect_kept None old h k = k
+rect_kept (Some r) old h k = h
 
 begun : (p : Panel) (i : PassInput) → Ranged p → T (own_numbers_ok i (time_of i p.clock.time)) → Ranged (begin_pass p i)
 unfolding begin_pass clock_pass screen_pass
@@ -55,12 +55,12 @@ begun p i r h =
     ((o.time, o.dt), (rect_kept i.screen_rect p.screen.viewport_rect o.rect r.1.0, o.scale, o.options))
 
 -- ---- a call
-numbers_taken : (a b : Bool) (s : Option PassRefusal) → or_else (cond a (cond b (some TimeBelow) none) (some (OutsideDomain 0))) s ≡ none → T a
+numbers_taken : (a b : Bool) (s : Option PassRefusal) → or_else (cond a (cond b (Some TimeBelow) None) (Some (OutsideDomain 0))) s ≡ None → T a
 unfolding or_else
 numbers_taken true b s h = tt
 numbers_taken false b s h = impossible (cc)
 
-taken_numbers : (p : Panel) (i : PassInput) → pass_refusal p i ≡ none → T (own_numbers_ok i (time_of i p.clock.time))
+taken_numbers : (p : Panel) (i : PassInput) → pass_refusal p i ≡ None → T (own_numbers_ok i (time_of i p.clock.time))
 unfolding pass_refusal own_refusal
 taken_numbers p i e =
     let t = time_of i p.clock.time in
@@ -71,8 +71,8 @@ unfolding after call OfPass pass pass_by
 passed p i r = go (pass_refusal p i) refl
   where
     go : (o : Option PassRefusal) → pass_refusal p i ≡ o → Ranged (after p (OfPass (pass_by o p i)))
-    go (some q) e = r
-    go none e = begun p i r (taken_numbers p i e)
+    go (Some q) e = r
+    go None e = begun p i r (taken_numbers p i e)
 
 -- an interact writes interaction and tally alone
 interacted : (p : Panel) (x : InteractInput) → Ranged p → Ranged (after p (call p (interacts x)))
@@ -80,12 +80,12 @@ unfolding after call OfInteract interact interact_seen interact_by tallied talli
 interacted p x r = go (input_refusal x)
   where
     full : (o : Option InteractRefusal) → Ranged (after p (OfInteract (tallied_by o p (snapshot (seen p) x p.interaction) (interaction_after (seen p) x p.interaction))))
-    full (some q) = r
-    full none = r
+    full (Some q) = r
+    full None = r
 
     go : (o : Option InteractRefusal) → Ranged (after p (OfInteract (interact_by o (seen p) p x)))
-    go (some q) = r
-    go none = full (tally_refusal (snapshot (seen p) x p.interaction) p.tally)
+    go (Some q) = r
+    go None = full (tally_refusal (snapshot (seen p) x p.interaction) p.tally)
 
 call_ranged : (p : Panel) (c : Call) → Ranged p → Ranged (after p (call p c))
 call_ranged p (passes i) r = passed p i r

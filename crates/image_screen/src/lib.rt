@@ -2,9 +2,10 @@
 #![tactic(auto)]
 
 ghost use Rattle.std.specs.Prelude.{◌≡◌, T};
-ghost use Rattle.data.specs.Limits.{options_ok, rect_ok};
-ghost use Rattle.image.specs.Codes.{write, In};
+ghost use Rattle.data.specs.Limits.{options_ok, rect_ok, coordinate_ok, duration_ok, length_ok, scale_ok, unit_interval_ok};
+ghost use Rattle.image.specs.Codes.{write, In, single_ok, double_ok};
 ghost use Rattle.image.specs.Places.{bad_at, value_at};
+ghost use Rattle.image.specs.Places as places;
 ghost use Rattle.image_words.specs.Leaves.{found};
 ghost use Rattle.input_state.specs.View.{screen};
 ghost use Rattle.image_screen.specs.Screen.{screen_place, rect_place, options_place, screen_code, rect_code, options_code, screen_el, screen_of, rect_el, rect_of, options_el, options_of, ScreenOk};
@@ -16,8 +17,8 @@ use domain::{coordinate_ok, duration_ok, length_ok, scale_ok, unit_interval_ok};
 use emath::pos2::Pos2;
 use emath::rect::Rect;
 use image_words::{
-    MaybeIndex, double_at, double_in_bad, double_word, first, flag_bad, header_bad, high, low,
-    single_at, single_in_bad, single_word, word_at, word_bad,
+    double_at, double_in_bad, double_word, flag_bad, header_bad, high, low, single_at,
+    single_in_bad, single_word, word_at, word_bad,
 };
 use input_state::screen::Screen;
 
@@ -119,49 +120,70 @@ pub fn screen_words(s: Screen) -> [u32; 17]
     ]
 }
 
-fn rect_bad(words: &[u32]) -> MaybeIndex
+// ---- a field in its range
+fn coordinate_bad(words: &[u32], at: usize) -> Result<(), usize>
+    ensures { found result ≡ places.word_bad (single_ok coordinate_ok) words.now at }
+{
+    single_in_bad(words, at, coordinate_ok(single_at(words, at)))
+}
+
+fn scale_bad(words: &[u32], at: usize) -> Result<(), usize>
+    ensures { found result ≡ places.word_bad (single_ok scale_ok) words.now at }
+{
+    single_in_bad(words, at, scale_ok(single_at(words, at)))
+}
+
+fn length_bad(words: &[u32], at: usize) -> Result<(), usize>
+    ensures { found result ≡ places.word_bad (single_ok length_ok) words.now at }
+{
+    single_in_bad(words, at, length_ok(single_at(words, at)))
+}
+
+fn unit_interval_bad(words: &[u32], at: usize) -> Result<(), usize>
+    ensures { found result ≡ places.word_bad (single_ok unit_interval_ok) words.now at }
+{
+    single_in_bad(words, at, unit_interval_ok(single_at(words, at)))
+}
+
+fn duration_bad(words: &[u32], at: usize) -> Result<(), usize>
+    ensures { found result ≡ places.two_bad (double_ok duration_ok) words.now at }
+{
+    double_in_bad(words, at, duration_ok(double_at(words, at)))
+}
+
+#[tactic(auto, unfolding(image::specs::Places::bad_at, image::specs::Places::span, image::specs::Places::or_else, image::specs::Codes::size, image_words::specs::Leaves::found))]
+fn rect_bad(words: &[u32]) -> Result<(), usize>
     ensures { found result ≡ bad_at rect_code words.now rect_place }
 {
-    let min_x = single_in_bad(words, MIN_X, coordinate_ok(single_at(words, MIN_X)));
-    let min_y = single_in_bad(words, MIN_Y, coordinate_ok(single_at(words, MIN_Y)));
-    let max_x = single_in_bad(words, MAX_X, coordinate_ok(single_at(words, MAX_X)));
-    let max_y = single_in_bad(words, MAX_Y, coordinate_ok(single_at(words, MAX_Y)));
-    first(min_x, first(min_y, first(max_x, max_y)))
+    coordinate_bad(words, MIN_X)?;
+    coordinate_bad(words, MIN_Y)?;
+    coordinate_bad(words, MAX_X)?;
+    coordinate_bad(words, MAX_Y)
 }
 
-fn options_bad(words: &[u32]) -> MaybeIndex
+#[tactic(auto, unfolding(image::specs::Places::bad_at, image::specs::Places::span, image::specs::Places::or_else, image::specs::Codes::size, image_words::specs::Leaves::found))]
+fn options_bad(words: &[u32]) -> Result<(), usize>
     ensures { found result ≡ bad_at options_code words.now options_place }
 {
-    let line_ok = length_ok(single_at(words, LINE_SCROLL_SPEED));
-    let line = single_in_bad(words, LINE_SCROLL_SPEED, line_ok);
-    let speed_ok = unit_interval_ok(single_at(words, SCROLL_ZOOM_SPEED));
-    let speed = single_in_bad(words, SCROLL_ZOOM_SPEED, speed_ok);
-    let dist_ok = length_ok(single_at(words, MAX_CLICK_DIST));
-    let dist = single_in_bad(words, MAX_CLICK_DIST, dist_ok);
-    let long_ok = duration_ok(double_at(words, MAX_CLICK_DURATION));
-    let long = double_in_bad(words, MAX_CLICK_DURATION, long_ok);
-    let delay_ok = duration_ok(double_at(words, MAX_DOUBLE_CLICK_DELAY));
-    let delay = double_in_bad(words, MAX_DOUBLE_CLICK_DELAY, delay_ok);
-    let zoom = word_bad(words, ZOOM_MODIFIER, FIVE_BITS);
-    let horizontal = word_bad(words, HORIZONTAL_SCROLL_MODIFIER, FIVE_BITS);
-    let vertical = word_bad(words, VERTICAL_SCROLL_MODIFIER, FIVE_BITS);
-    let modifiers = first(zoom, first(horizontal, vertical));
-    first(
-        line,
-        first(speed, first(dist, first(long, first(delay, modifiers)))),
-    )
+    length_bad(words, LINE_SCROLL_SPEED)?;
+    unit_interval_bad(words, SCROLL_ZOOM_SPEED)?;
+    length_bad(words, MAX_CLICK_DIST)?;
+    duration_bad(words, MAX_CLICK_DURATION)?;
+    duration_bad(words, MAX_DOUBLE_CLICK_DELAY)?;
+    word_bad(words, ZOOM_MODIFIER, FIVE_BITS)?;
+    word_bad(words, HORIZONTAL_SCROLL_MODIFIER, FIVE_BITS)?;
+    word_bad(words, VERTICAL_SCROLL_MODIFIER, FIVE_BITS)
 }
 
-pub fn screen_bad(words: &[u32]) -> MaybeIndex
+#[tactic(auto, unfolding(image::specs::Places::bad_at, image::specs::Places::span, image::specs::Places::or_else, image::specs::Codes::size, image_words::specs::Leaves::found))]
+pub fn screen_bad(words: &[u32]) -> Result<(), usize>
     ensures { found result ≡ bad_at screen_code words.now screen_place }
 {
-    let leading = header_bad(words, SCREEN_PLACE, SCREEN);
-    let rect = rect_bad(words);
-    let scale = scale_ok(single_at(words, PIXELS_PER_POINT));
-    let points = single_in_bad(words, PIXELS_PER_POINT, scale);
-    let focused = flag_bad(words, FOCUSED);
-    let options = options_bad(words);
-    first(leading, first(rect, first(points, first(focused, options))))
+    header_bad(words, SCREEN_PLACE, SCREEN)?;
+    rect_bad(words)?;
+    scale_bad(words, PIXELS_PER_POINT)?;
+    flag_bad(words, FOCUSED)?;
+    options_bad(words)
 }
 
 fn rect_at(words: &[u32]) -> Rect

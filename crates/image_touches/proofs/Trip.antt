@@ -1,26 +1,23 @@
 -- The touches: what stands for them gives them back, every value stands for some, and ids ascend exactly if they pass their tests. Assumes nothing.
+use Rattle.std.specs.Prelude.{Option, None, Some}
 use Prim.Native.Nat.{ℕ, ◌≤◌, ◌<◌}
 use mathlib.Core.Path.{◌≡◌, refl, sym, ap₂, subst}
-use mathlib.Core.Option.{Option, none, some}
 use mathlib.Core.List.{List, [], ◌∷◌, map}
 use lib.Dec.{T, leb, lt→ltb, ltb→lt, leb→le}
 use lib.ListN.{length, length-map}
 use lib.Ieee.{Float}
 use Rattle.data.specs.Limits.{max_touches}
 use Rattle.data.specs.declared.touch.ActiveTouch.{ActiveTouch}
-use Rattle.data.specs.declared.touch.MaybeF32.{MaybeF32}
-use Rattle.data.specs.declared.touch.MaybeF32.TheVariants.{None as no_force, Some as some_force}
 use Rattle.model.specs.Touch.{Above, Ascending, touch_id_of}
 use Rattle.model.proofs.Ids.{above_down}
 use Rattle.image.specs.Codes.{El, In}
 use Rattle.image.specs.Places.{Tested}
 use Rattle.image.proofs.Lists.{keyed_tested}
-use Rattle.image_touches.specs.Touches.{ascending, touch_code, touches_code, force_el, force_of, touch_el, touch_of, touches_el, touches_of}
+use Rattle.image_touches.specs.Touches.{ascending, touch_code, touches_code, touch_el, touch_of, touches_el, touches_of}
 
-force_back : (o : MaybeF32) → force_of (force_el o) ≡ o
-unfolding force_of force_el
-force_back no_force = refl
-force_back (some_force x) = refl
+force_back : (o : Option Float) → o ≡ o
+force_back None = refl
+force_back (Some x) = refl
 
 touch_back : (t : ActiveTouch) → touch_of (touch_el t) ≡ t
 touch_back t = rw (force_back t.force)
@@ -30,10 +27,9 @@ unfolding touches_of touches_el
 touches_back [] = refl
 touches_back (u ∷ us) = ap₂ (λ (x : ActiveTouch) (xs : List ActiveTouch). x ∷ xs) (touch_back u) (touches_back us)
 
-force_forth : (o : Option Float) → force_el (force_of o) ≡ o
-unfolding force_el force_of
-force_forth none = refl
-force_forth (some x) = refl
+force_forth : (o : Option Float) → o ≡ o
+force_forth None = refl
+force_forth (Some x) = refl
 
 pub touches_forth : (vs : List (ℕ × El touch_code)) → touches_el (touches_of vs) ≡ vs
 unfolding touches_el touches_of

@@ -1,9 +1,8 @@
 -- A turn of each loop over the touches.
+use Rattle.std.specs.Prelude.{Option, None, Some}
 use Prim.Native.Nat.{ℕ, zero, suc, ◌+◌, ◌-◌, ◌*◌, ◌≤◌, ◌<◌}
 use native.Mathlib.Omega.{arith}
 use mathlib.Core.Path.{◌≡◌, refl, sym, ap, ◌∙◌, subst}
-use mathlib.Core.Bool.{Bool, true, false}
-use mathlib.Core.Option.{Option, none, some}
 use mathlib.Core.List.{List, [], ◌∷◌, ◌++◌, map}
 use lib.Dec.{T, leb, le→leb}
 use lib.ListN.{length, get_or, set, take, length-map, length-take, length-set, length-append}
@@ -14,13 +13,12 @@ use Rattle.data.specs.declared.touch.ActiveTouch.{ActiveTouch}
 use Rattle.image.specs.Codes.{write, entry_words, option_words, zeros, all, size, In, Each, El}
 use Rattle.image.specs.Places.{or_else, two_at, two_bad, value_at, rows_at, key_at, keys_bad, Tested}
 use Rattle.image.proofs.Lists.{put_row, all_length, sets_at, read_row, map-append, each_more, zeros_length, keyed_of}
-use Rattle.image_words.specs.Leaves.{after}
-use Rattle.image_touches.specs.Touches.{ascending, force_code, touch_code, touches_code, touch_el, touch_of, touches_el, touches_of, seen_of}
+use Rattle.image_touches.specs.Touches.{ascending, force_code, touch_code, touches_code, touch_el, touch_of, touches_el, touches_of}
 
 force_length : (o : Option Float) → length (write force_code o) ≡ 2
 unfolding write option_words zeros size
-force_length none = refl
-force_length (some x) = refl
+force_length None = refl
+force_length (Some x) = refl
 
 pub six : (v : ℕ × El touch_code) → length (entry_words (write touch_code) v) ≡ 6
 unfolding write entry_words
@@ -67,11 +65,6 @@ put_all l at n c a e t =
     rw (m, t, f) (sets_at (set l at n) (suc at) (suc at + n * 6) (all (entry_words (write touch_code)) (map touch_el (take c a))) (zeros ((10 - n) * 6)) (ap (λ (z : ℕ). suc at + z) (sym k)))
 
 -- ---- checking
-pub test_same : (s : Bool) (b : ℕ) → after s b ≡ ascending (seen_of s b)
-unfolding ascending seen_of
-test_same true b = refl
-test_same false b = refl
-
 -- of the ids before only the last is looked at
 module _ (f : List ℕ → ℕ → Option ℕ) (ws : List ℕ) where
   pub keys_last : (n : ℕ) (d : ℕ) (xs ys : List ℕ) (i : ℕ) → keys_bad 4 ascending f n (d ∷ xs) ws i ≡ keys_bad 4 ascending f n (d ∷ ys) ws i

@@ -1,27 +1,30 @@
 // The touches of a device in an image (02 A.6): a count, so many by ascending id, zeros up to the most.
 #![tactic(auto)]
 
-ghost use Rattle.std.specs.Prelude.{◌≡◌, [], ◌+◌, ◌*◌, ◌-◌, ◌<◌, ◌≤◌, length, take};
-ghost use Rattle.std.proofs.Math.Option.{none};
+ghost use Rattle.std.specs.Prelude.{◌≡◌, [], ◌+◌, ◌*◌, ◌-◌, ◌<◌, ◌≤◌, length, take, None};
 ghost use Rattle.std.proofs.lemmas.List.Edits.{sets};
 ghost use Rattle.data.specs.Limits.{max_touches};
 ghost use Rattle.image.specs.Codes.{write, entry_words, In, Each, all};
 ghost use Rattle.image.specs.Places.{or_else, two_bad, bad_at, value_at, keys_bad, key_at};
-ghost use Rattle.image_words.specs.Leaves.{found, after};
+ghost use Rattle.image_words.specs.Leaves.{found};
 ghost use Rattle.touches.specs.Touches.{list};
-ghost use Rattle.image_touches.specs.Touches.{ascending, force_code, force_of, touch_code, touches_code, touch_el, touch_of, touches_el, touches_of, seen_of};
+ghost use Rattle.image_touches.specs.Touches.{ascending, force_code, touch_code, touches_code, touch_el, touch_of, touches_el, touches_of, seen_of};
 
 use data::limits::MAX_TOUCHES;
-use data::touch::{ActiveTouch, MaybeF32};
+use data::touch::ActiveTouch;
 use emath::pos2::Pos2;
+use image_options::maybe_bad;
 use image_words::{
-    MaybeIndex, copy, count_at, first, flag_bad, high, key_bad, low, single_at, single_bad,
-    single_word, two_at, word_at, word_bad, zeros_bad, zeros_put,
+    copy, count_at, flag_bad, high, key_bad, low, single_at, single_bad, single_word, two_at,
+    word_at, word_bad, zeros_bad, zeros_put,
 };
 use touches::Touches;
 
 // An id of two words, a position of two, a force or none of two.
 pub const TOUCH_WORDS: usize = 6;
+
+// Of a force, after its flag.
+const FORCE_WORDS: usize = 1;
 
 pub fn touch_words(t: ActiveTouch) -> [u32; 6]
     ensures { (result ≡ entry_words (write touch_code) (touch_el t)) × In touch_code (touch_el t).1 }
@@ -33,8 +36,8 @@ pub fn touch_words(t: ActiveTouch) -> [u32; 6]
     let y = single_word(pos.y);
     let force = t.force;
     match force {
-        MaybeF32::None => [h, l, x, y, 0, 0],
-        MaybeF32::Some(f) => [h, l, x, y, 1, single_word(f)],
+        None => [h, l, x, y, 0, 0],
+        Some(f) => [h, l, x, y, 1, single_word(f)],
     }
 }
 
@@ -43,12 +46,10 @@ fn places_put(places: [ActiveTouch; MAX_TOUCHES], n: usize, out: &mut [u32], at:
     requires { (n ≤ max_touches) × (at + n * 6 ≤ length out.old) }
     ensures { (out.new ≡ sets out.old at (all (entry_words (write touch_code)) (touches_el (take n places)))) × Each (λ v. In touch_code v.1) (touches_el (take n places)) }
 {
-    let mut i: usize = 0;
-    while i < n {
+    for i in 0..n {
         let t = places[i];
         let part = touch_words(t);
         copy(out, at + i * TOUCH_WORDS, &part);
-        i += 1;
     }
 }
 
@@ -67,67 +68,58 @@ pub fn touches_put(ts: Touches, out: &mut [u32], at: usize)
     );
 }
 
-fn force_bad(words: &[u32], at: usize) -> MaybeIndex
+fn force_bad(words: &[u32], at: usize) -> Result<(), usize>
     requires { at < 0x1_0000_0000 }
     ensures { found result ≡ bad_at force_code words.now at }
 {
-    let flag = flag_bad(words, at);
-    if word_at(words, at) == 0 {
-        return first(flag, zeros_bad(words, at + 1, 1));
-    }
-    first(flag, single_bad(words, at + 1))
+    maybe_bad(words, at, FORCE_WORDS, single_bad(words, at + 1))
 }
 
-fn touch_bad(words: &[u32], at: usize, start: bool, before: u64) -> MaybeIndex
+#[tactic(auto, unfolding(image::specs::Places::bad_at, image::specs::Places::span, image::specs::Places::or_else, image::specs::Codes::size, image_words::specs::Leaves::found))]
+fn touch_bad(words: &[u32], at: usize, before: Option<u64>) -> Result<(), usize>
     requires { at + 6 < 0x1_0000_0000 }
-    ensures { found result ≡ or_else (two_bad (ascending (seen_of start before)) words.now at) (bad_at touch_code words.now (at + 2)) }
+    ensures { found result ≡ or_else (two_bad (ascending (seen_of before)) words.now at) (bad_at touch_code words.now (at + 2)) }
 {
-    let id = key_bad(words, at, start, before);
-    let x = single_bad(words, at + 2);
-    let y = single_bad(words, at + 3);
-    first(id, first(x, first(y, force_bad(words, at + 4))))
+    key_bad(words, at, before)?;
+    single_bad(words, at + 2)?;
+    single_bad(words, at + 3)?;
+    force_bad(words, at + 4)
 }
 
-fn keys_bad(words: &[u32], at: usize, n: usize) -> MaybeIndex
+fn keys_bad(words: &[u32], at: usize, n: usize) -> Result<(), usize>
     requires { at + n * 6 + 6 < 0x1_0000_0000 }
     ensures { found result ≡ keys_bad 4 ascending (bad_at touch_code) n [] words.now at }
 {
-    let mut bad = MaybeIndex::None;
-    let mut start = true;
-    let mut before: u64 = 0;
-    let mut k = at;
-    let mut left = n;
-    while 0 < left {
-        bad = first(bad, touch_bad(words, k, start, before));
-        before = two_at(words, k);
-        start = false;
-        k += TOUCH_WORDS;
-        left -= 1;
+    let mut before = None;
+    for i in 0..n {
+        let k = at + i * TOUCH_WORDS;
+        touch_bad(words, k, before)?;
+        before = Some(two_at(words, k));
     }
-    bad
+    Ok(())
 }
 
 // A form holds at most `most` touches.
-pub fn touches_bad(words: &[u32], at: usize, most: u32) -> MaybeIndex
+#[tactic(auto, unfolding(image::specs::Places::bad_at, image::specs::Places::span, image::specs::Places::or_else, image::specs::Codes::size, image_words::specs::Leaves::found))]
+pub fn touches_bad(words: &[u32], at: usize, most: u32) -> Result<(), usize>
     requires { (at < 0x1000_0000) × (most ≤ max_touches) }
     ensures { found result ≡ bad_at (touches_code most) words.now at }
 {
-    let count = word_bad(words, at, most);
+    word_bad(words, at, most)?;
     let n = count_at(words, at, most);
-    let keys = keys_bad(words, at + 1, n);
+    keys_bad(words, at + 1, n)?;
     let unused = (most as usize - n) * TOUCH_WORDS;
-    let zeros = zeros_bad(words, at + 1 + n * TOUCH_WORDS, unused);
-    first(count, first(keys, zeros))
+    zeros_bad(words, at + 1 + n * TOUCH_WORDS, unused)
 }
 
-fn force_at(words: &[u32], at: usize) -> MaybeF32
+fn force_at(words: &[u32], at: usize) -> Option<f32>
     requires { at < 0x1_0000_0000 }
-    ensures { result ≡ force_of (value_at force_code words.now at) }
+    ensures { result ≡ (value_at force_code words.now at) }
 {
     if word_at(words, at) == 0 {
-        return MaybeF32::None;
+        return None;
     }
-    MaybeF32::Some(single_at(words, at + 1))
+    Some(single_at(words, at + 1))
 }
 
 fn touch_at(words: &[u32], at: usize) -> ActiveTouch
@@ -143,16 +135,14 @@ fn touch_at(words: &[u32], at: usize) -> ActiveTouch
 }
 
 pub fn touches_at(words: &[u32], at: usize, most: u32) -> Touches
-    requires { (at < 0x1000_0000) × (most ≤ max_touches) × (bad_at (touches_code most) words.now at ≡ none) }
+    requires { (at < 0x1000_0000) × (most ≤ max_touches) × (bad_at (touches_code most) words.now at ≡ None) }
     ensures { list result ≡ touches_of (value_at (touches_code most) words.now at) }
 {
     let n = count_at(words, at, most);
     let mut ts = touches::none();
-    let mut i: usize = 0;
-    while i < n {
+    for i in 0..n {
         let t = touch_at(words, at + 1 + i * TOUCH_WORDS);
         ts.places[i] = t;
-        i += 1;
     }
     ts.count = n;
     ts

@@ -12,8 +12,7 @@ use data::mouse_wheel::{Status, WheelState};
 use feed::fields::source_of;
 use image_options::{pair_bad, vec_at};
 use image_words::{
-    MaybeIndex, double_at, double_bad, double_word, first, header_bad, high, low, single_word,
-    word_at, word_bad,
+    double_at, double_bad, double_word, header_bad, high, low, single_word, word_at, word_bad,
 };
 
 // The group's leading word, the places of its fields, and the most of those that are no float.
@@ -62,21 +61,17 @@ pub fn wheel_words(w: WheelState) -> [u32; 10]
     ]
 }
 
-pub fn wheel_bad(words: &[u32]) -> MaybeIndex
+#[tactic(auto, unfolding(image::specs::Places::bad_at, image::specs::Places::span, image::specs::Places::or_else, image::specs::Codes::size, image_words::specs::Leaves::found))]
+pub fn wheel_bad(words: &[u32]) -> Result<(), usize>
     ensures { found result ≡ bad_at wheel_code words.now wheel_place }
 {
-    let leading = header_bad(words, WHEEL_PLACE, WHEEL);
-    let status = word_bad(words, STATUS, MAX_STATUS);
-    let source = word_bad(words, SOURCE, MAX_SOURCE);
-    let modifiers = word_bad(words, MODIFIERS, FIVE_BITS);
-    let last = double_bad(words, LAST_WHEEL_EVENT);
-    let unprocessed = pair_bad(words, UNPROCESSED);
-    let smooth = pair_bad(words, SMOOTH);
-    let deltas = first(last, first(unprocessed, smooth));
-    first(
-        leading,
-        first(status, first(source, first(modifiers, deltas))),
-    )
+    header_bad(words, WHEEL_PLACE, WHEEL)?;
+    word_bad(words, STATUS, MAX_STATUS)?;
+    word_bad(words, SOURCE, MAX_SOURCE)?;
+    word_bad(words, MODIFIERS, FIVE_BITS)?;
+    double_bad(words, LAST_WHEEL_EVENT)?;
+    pair_bad(words, UNPROCESSED)?;
+    pair_bad(words, SMOOTH)
 }
 
 // By its place in the enum.

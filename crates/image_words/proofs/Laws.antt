@@ -1,18 +1,19 @@
 -- Laws of the leaves. Assumes nothing.
+use Rattle.std.specs.Prelude.{None, Some}
 use Prim.Native.Nat.{ℕ, zero, suc, ◌+◌, ◌*◌, ◌/◌, ◌≤◌, ◌<◌, ◌-◌}
 use native.Mathlib.Omega.{arith}
 use native.Mathlib.Nat.{div-mul-le_self, zero-div}
 use mathlib.Core.Path.{◌≡◌, refl, sym, ap, ◌∙◌}
 use mathlib.Core.Bool.{Bool, true, false, ◌&&◌, cond}
-use mathlib.Core.Option.{none, some}
-use mathlib.Core.List.{List, [], ◌∷◌}
+use mathlib.Core.List.{List, [], ◌∷◌, append_assoc}
 use lib.Dec.{eqb, ltb, leb}
-use lib.ListN.{length, get_or, set, take, length-take, get_or-eq_default}
-use lib.Seq.{sets, take-suc}
+use lib.ListN.{length, get_or, set, take, drop, length-take, get_or-eq_default}
+use lib.Seq.{sets, sets-eq, take-suc, drop-drop}
+use Rattle.image.proofs.Lists.{sets_append}
+use borrow.Rule.Slice.PartMut.{put_mid}
 use mir.Val.{Fits}
 use mir.Syntax.{w64}
 use borrow.Author.Tests.{lt-ltb, le-ltb, leb-true}
-use Rattle.image.proofs.Lists.{sets_append}
 use lib.Ieee.{Float, binary32, binary64, of_bits, to_bits}
 use Rattle.image_words.specs.Leaves.{any}
 use Rattle.image.specs.Codes.{header, single_ok, double_ok, count_of, table_ok}
@@ -37,36 +38,36 @@ double_both p b = one_form (eqb (to_bits binary64 (of_bits binary64 b)) b) (p (o
 
 -- a field of one word
 module _ (p : ℕ → Bool) (ws : List ℕ) (i : ℕ) where
-  pub one_good : i < length ws → true ≡ p (get_or ws i 0) → none ≡ word_bad p ws i
+  pub one_good : i < length ws → true ≡ p (get_or ws i 0) → None ≡ word_bad p ws i
   unfolding word_bad
   one_good h e = rw (lt-ltb i (length ws) h, ← e)
 
-  pub one_wrong : false ≡ p (get_or ws i 0) → some i ≡ word_bad p ws i
+  pub one_wrong : false ≡ p (get_or ws i 0) → Some i ≡ word_bad p ws i
   unfolding word_bad
   one_wrong e = rw (← e) (either (ltb i (length ws)))
     where
-      either : (b : Bool) → some i ≡ cond b (some i) (some i)
+      either : (b : Bool) → Some i ≡ cond b (Some i) (Some i)
       either true = refl
       either false = refl
 
-  pub one_missing : length ws ≤ i → some i ≡ word_bad p ws i
+  pub one_missing : length ws ≤ i → Some i ≡ word_bad p ws i
   unfolding word_bad
   one_missing h = rw (le-ltb i (length ws) h)
 
   -- and of two
-  pub two_good : i + 1 < length ws → true ≡ p (two_at ws i) → none ≡ two_bad p ws i
+  pub two_good : i + 1 < length ws → true ≡ p (two_at ws i) → None ≡ two_bad p ws i
   unfolding two_bad
   two_good h e = rw (lt-ltb i (length ws) (omega arith), lt-ltb (suc i) (length ws) (omega arith), ← e)
 
-  pub two_wrong : i + 1 < length ws → false ≡ p (two_at ws i) → some i ≡ two_bad p ws i
+  pub two_wrong : i + 1 < length ws → false ≡ p (two_at ws i) → Some i ≡ two_bad p ws i
   unfolding two_bad
   two_wrong h e = rw (lt-ltb i (length ws) (omega arith), lt-ltb (suc i) (length ws) (omega arith), ← e)
 
-  pub two_cut : i < length ws → length ws ≤ i + 1 → some (i + 1) ≡ two_bad p ws i
+  pub two_cut : i < length ws → length ws ≤ i + 1 → Some (i + 1) ≡ two_bad p ws i
   unfolding two_bad
   two_cut h l = let e : i + 1 ≡ suc i = omega arith in rw (lt-ltb i (length ws) h, le-ltb (suc i) (length ws) (omega arith), e)
 
-  pub two_missing : length ws ≤ i → some i ≡ two_bad p ws i
+  pub two_missing : length ws ≤ i → Some i ≡ two_bad p ws i
   unfolding two_bad
   two_missing h = rw (le-ltb i (length ws) h)
 
@@ -81,20 +82,27 @@ module _ (ws : List ℕ) where
       let g : true ≡ eqb 0 (get_or ws i 0) = rw e in
       rw (a, b, ← one_good (eqb 0) ws i l g)
 
-  pub zeros_wrong : (n i : ℕ) → 0 < n → eqb 0 (get_or ws i 0) ≡ false → some i ≡ zeros_bad n ws i
+  pub zeros_wrong : (n i : ℕ) → 0 < n → eqb 0 (get_or ws i 0) ≡ false → Some i ≡ zeros_bad n ws i
   unfolding zeros_bad or_else
   zeros_wrong zero i h e = absurd (omega arith)
   zeros_wrong (suc n) i h e = rw (← one_wrong (eqb 0) ws i (sym e))
 
-  pub zeros_missing : (n i : ℕ) → 0 < n → length ws ≤ i → some i ≡ zeros_bad n ws i
+  pub zeros_missing : (n i : ℕ) → 0 < n → length ws ≤ i → Some i ≡ zeros_bad n ws i
   unfolding zeros_bad or_else
   zeros_missing zero i h l = absurd (omega arith)
   zeros_missing (suc n) i h l = rw (← one_missing (eqb 0) ws i l)
 
-  pub zeros_done : (n i : ℕ) → n ≤ 0 → none ≡ zeros_bad n ws i
+  pub zeros_done : (n i : ℕ) → n ≤ 0 → None ≡ zeros_bad n ws i
   unfolding zeros_bad
   zeros_done zero i h = refl
   zeros_done (suc n) i h = absurd (omega arith)
+
+  -- a turn of the loop that looks for one
+  pub zeros_next : (n a i : ℕ) → i < n → a + i < length ws → get_or ws (a + i) 0 ≡ 0 → zeros_bad (n - i) ws (a + i) ≡ zeros_bad (n - (i + 1)) ws (a + (i + 1))
+  zeros_next n a i h l e =
+      let p : n - i - 1 ≡ n - (i + 1) = omega arith in
+      let q : a + i + 1 ≡ a + (i + 1) = omega arith in
+      rw (← p, ← q) (zeros_step (n - i) (a + i) (omega arith) l e)
 
   -- a value of no words
   pub two_none : (i : ℕ) → length ws ≤ i → 0 ≡ two_at ws i
@@ -103,21 +111,23 @@ module _ (ws : List ℕ) where
       let l : length ws ≤ suc i = omega arith in
       rw (get_or-eq_default ws 0 h, get_or-eq_default ws 0 l)
 
--- one word more
-module _ {A : Type 0} where
-  -- a turn of the loop that copies
-  pub sets_more : (l : List A) (i n : ℕ) (xs : List A) (z : A) → n < length xs → set (sets l i (take n xs)) (i + n) (get_or xs n z) ≡ sets l i (take (n + 1) xs)
-  sets_more l i n xs z h =
-      let e : i + n ≡ i + length (take n xs) = omega (arith, length-take n xs) in
-      let f : n + 1 ≡ suc n = omega arith in
-      rw (f, take-suc xs n z h) (ap (λ (k : ℕ). set (sets l i (take n xs)) k (get_or xs n z)) e ∙ sets_append l i (take n xs) (get_or xs n z ∷ []))
+-- a turn of a loop that writes one word after the other
+pub sets_more : {A : Type 0} (l : List A) (i n : ℕ) (xs : List A) (z : A) → n < length xs → set (sets l i (take n xs)) (i + n) (get_or xs n z) ≡ sets l i (take (n + 1) xs)
+sets_more l i n xs z h =
+    let e : i + n ≡ i + length (take n xs) = omega (arith, length-take n xs) in
+    let f : n + 1 ≡ suc n = omega arith in
+    rw (f, take-suc xs n z h) (ap (λ (k : ℕ). set (sets l i (take n xs)) k (get_or xs n z)) e ∙ sets_append l i (take n xs) (get_or xs n z ∷ []))
+
+-- a part written over with words of its length
+pub put_part : {A : Type 0} (l : List A) (i k : ℕ) (xs ys : List A) → ys ≡ xs → k ≡ length xs → i + length xs ≤ length l → put_mid i k l ys ≡ sets l i xs
+put_part l i k xs ys e n h = let d = drop-drop (length xs) i l in rw (e, n, d, sets-eq xs l i h) (sym (append_assoc (take i l) xs (drop (i + length xs) l)))
 
 -- a word that is not wrong passed its test
-pub passed : (p : ℕ → Bool) (ws : List ℕ) (i : ℕ) → word_bad p ws i ≡ none → p (get_or ws i 0) ≡ true
+pub passed : (p : ℕ → Bool) (ws : List ℕ) (i : ℕ) → word_bad p ws i ≡ None → p (get_or ws i 0) ≡ true
 unfolding word_bad
 passed p ws i h = go (ltb i (length ws)) (p (get_or ws i 0)) h
   where
-    go : (x y : Bool) → cond x (cond y none (some i)) (some i) ≡ none → y ≡ true
+    go : (x y : Bool) → cond x (cond y None (Some i)) (Some i) ≡ None → y ≡ true
     go true true h = refl
     go true false h = let z : ◌≡◌ {A = ℕ} 0 1 = cc in absurd (omega arith)
     go false y h = let z : ◌≡◌ {A = ℕ} 0 1 = cc in absurd (omega arith)

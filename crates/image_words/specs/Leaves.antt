@@ -1,13 +1,10 @@
 -- What the leaves test and answer. Definitions only.
-use Rattle.std.specs.Prelude.{ℕ, Bool, true, ◌||◌, leb, ltb, Float}
-use Rattle.std.proofs.Math.Option.{Option, none, some}
-use Rattle.image_words.specs.declared.MaybeIndex.{MaybeIndex}
-use Rattle.image_words.specs.declared.MaybeIndex.TheVariants.{None as no_index, Some as some_index}
+use Rattle.std.specs.Prelude.{ℕ, Bool, true, leb, ltb, Float, List, [], ◌∷◌, Option, None, Some, Ok, Err, Result, ⊤}
 
 -- the code's answer
-unfoldable pub found : MaybeIndex → Option ℕ
-found no_index = none
-found (some_index i) = some i
+unfoldable pub found : Result ⊤ ℕ → Option ℕ
+found (Ok tt) = None
+found (Err i) = Some i
 
 -- ---- ranges
 
@@ -27,6 +24,12 @@ any x = true
 abbrev pub any_id : ℕ → Bool
 any_id d = true
 
--- an id after the one before it, or the first
-abbrev pub after : Bool → ℕ → ℕ → Bool
-after first before d = first || ltb before d
+-- "touch ids out of ascending order or .. twice": each id is above the one before it
+unfoldable pub ascending : List ℕ → ℕ → Bool
+ascending [] d = true
+ascending (b ∷ seen) d = ltb b d
+
+-- the ids before, as a loop keeps them: none, or the last
+unfoldable pub seen_of : Option ℕ → List ℕ
+seen_of None = []
+seen_of (Some b) = b ∷ []

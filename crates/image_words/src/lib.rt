@@ -2,14 +2,13 @@
 // Checking and reading ask nothing of the place, and a word that is missing reads as 0.
 #![tactic(auto)]
 
-ghost use Rattle.std.specs.Prelude.{◌≡◌, Bool, ℕ, ◌+◌, ◌*◌, ◌/◌, ◌%◌, ◌≤◌, ◌<◌, T, eqb, Float, length, get_or};
+ghost use Rattle.std.specs.Prelude.{◌≡◌, Bool, ℕ, ◌+◌, ◌*◌, ◌/◌, ◌%◌, ◌≤◌, ◌<◌, T, eqb, Float, length, get_or, None};
 ghost use Rattle.std.specs.Float.{binary32, binary64};
 ghost use Rattle.std.specs.Float.Ieee.{of_bits, to_bits, fits};
 ghost use Rattle.std.proofs.lemmas.List.Edits.{sets};
-ghost use Rattle.std.proofs.Math.Option.{none};
 ghost use Rattle.image.specs.Codes.{zeros, single_ok, double_ok, count_of, table_ok};
 ghost use Rattle.image.specs.Places.{or_else, word_bad, two_at, two_bad, zeros_bad};
-ghost use Rattle.image_words.specs.Leaves.{found, flag, upto, any, any_id, after};
+ghost use Rattle.image_words.specs.Leaves.{found, flag, upto, any, any_id, ascending, seen_of};
 
 use ieee::bits::{from_bits32, from_bits64, to_bits32, to_bits64};
 
@@ -18,13 +17,6 @@ const HALF: u64 = 0x1_0000_0000;
 
 // The weight of a name: the top 4 bits of a word.
 const NAME: u64 = 0x1000_0000;
-
-// The index of a wrong word, or none.
-#[derive(Clone, Copy)]
-pub enum MaybeIndex {
-    None,
-    Some(usize),
-}
 
 pub fn high(b: u64) -> u32
     ensures { result ≡ b / 0x1_0000_0000 }
@@ -38,6 +30,7 @@ pub fn low(b: u64) -> u32
     (b % HALF) as u32
 }
 
+// u64::from, under a name that the proofs of the sums cite.
 fn wide(x: u32) -> u64
     ensures { result ≡ x }
 {
@@ -58,17 +51,9 @@ pub fn double_word(x: f64) -> u64
     to_bits64(x)
 }
 
-// "the first word": a, or b where a is None.
-pub fn first(a: MaybeIndex, b: MaybeIndex) -> MaybeIndex
-    ensures { found result ≡ or_else (found a) (found b) }
-{
-    match a {
-        MaybeIndex::None => b,
-        MaybeIndex::Some(i) => MaybeIndex::Some(i),
-    }
-}
-
 // ---- values
+
+// Two of each for f32 and f64: a float's words are of its own format and number, and a generic one would need a trait with laws for two short bodies.
 pub fn word_at(words: &[u32], at: usize) -> u32
     ensures { result ≡ get_or words.now at 0 }
 {
@@ -114,111 +99,113 @@ fn double_one_form(b: u64) -> bool
 }
 
 // The answer for a field of one word whose test, whichever it is, gave `ok`.
-fn one(words: &[u32], at: usize, ok: bool) -> MaybeIndex
+fn one(words: &[u32], at: usize, ok: bool) -> Result<(), usize>
     ensures { (p : ℕ → Bool) → ok ≡ p (get_or words.now at 0) → found result ≡ word_bad p words.now at }
 {
     if at < words.len() {
         if ok {
-            return MaybeIndex::None;
+            return Ok(());
         }
     }
-    MaybeIndex::Some(at)
+    Err(at)
 }
 
 // And for one of two words.
-fn two(words: &[u32], at: usize, ok: bool) -> MaybeIndex
+fn two(words: &[u32], at: usize, ok: bool) -> Result<(), usize>
     ensures { (p : ℕ → Bool) → ok ≡ p (two_at words.now at) → found result ≡ two_bad p words.now at }
 {
     if at < words.len() {
         if at + 1 < words.len() {
             if ok {
-                return MaybeIndex::None;
+                return Ok(());
             }
-            return MaybeIndex::Some(at);
+            return Err(at);
         }
-        return MaybeIndex::Some(at + 1);
+        return Err(at + 1);
     }
-    MaybeIndex::Some(at)
+    Err(at)
 }
 
 // A group's leading word.
-pub fn header_bad(words: &[u32], at: usize, header: u32) -> MaybeIndex
+pub fn header_bad(words: &[u32], at: usize, header: u32) -> Result<(), usize>
     ensures { found result ≡ word_bad (eqb header) words.now at }
 {
     one(words, at, header == word_at(words, at))
 }
 
 // A word up to the most.
-pub fn word_bad(words: &[u32], at: usize, most: u32) -> MaybeIndex
+pub fn word_bad(words: &[u32], at: usize, most: u32) -> Result<(), usize>
     ensures { found result ≡ word_bad (upto most) words.now at }
 {
     one(words, at, word_at(words, at) <= most)
 }
 
-pub fn flag_bad(words: &[u32], at: usize) -> MaybeIndex
+pub fn flag_bad(words: &[u32], at: usize) -> Result<(), usize>
     ensures { found result ≡ word_bad flag words.now at }
 {
     one(words, at, word_at(words, at) < 2)
 }
 
-pub fn single_bad(words: &[u32], at: usize) -> MaybeIndex
+pub fn single_bad(words: &[u32], at: usize) -> Result<(), usize>
     ensures { found result ≡ word_bad (single_ok any) words.now at }
 {
     one(words, at, single_one_form(word_at(words, at)))
 }
 
 // In its one form, and in the range whose test gave `ok` for the value there.
-pub fn single_in_bad(words: &[u32], at: usize, ok: bool) -> MaybeIndex
+// The test's answer and no closure: the clause then needs no law of the closure's calls.
+pub fn single_in_bad(words: &[u32], at: usize, ok: bool) -> Result<(), usize>
     ensures { (p : Float → Bool) → ok ≡ p (of_bits binary32 (get_or words.now at 0)) → found result ≡ word_bad (single_ok p) words.now at }
 {
     one(words, at, single_one_form(word_at(words, at)) & ok)
 }
 
-pub fn double_bad(words: &[u32], at: usize) -> MaybeIndex
+pub fn double_bad(words: &[u32], at: usize) -> Result<(), usize>
     ensures { found result ≡ two_bad (double_ok any) words.now at }
 {
     two(words, at, double_one_form(two_at(words, at)))
 }
 
-pub fn double_in_bad(words: &[u32], at: usize, ok: bool) -> MaybeIndex
+pub fn double_in_bad(words: &[u32], at: usize, ok: bool) -> Result<(), usize>
     ensures { (p : Float → Bool) → ok ≡ p (of_bits binary64 (two_at words.now at)) → found result ≡ two_bad (double_ok p) words.now at }
 {
     two(words, at, double_one_form(two_at(words, at)) & ok)
 }
 
-pub fn id_bad(words: &[u32], at: usize) -> MaybeIndex
+pub fn id_bad(words: &[u32], at: usize) -> Result<(), usize>
     ensures { found result ≡ two_bad any_id words.now at }
 {
     two(words, at, true)
 }
 
 // An id of a list by ascending id: after the one before it, if it is not the first.
-pub fn key_bad(words: &[u32], at: usize, first: bool, before: u64) -> MaybeIndex
-    ensures { found result ≡ two_bad (after first before) words.now at }
+pub fn key_bad(words: &[u32], at: usize, before: Option<u64>) -> Result<(), usize>
+    ensures { found result ≡ two_bad (ascending (seen_of before)) words.now at }
 {
-    two(words, at, first | (before < two_at(words, at)))
+    match before {
+        None => two(words, at, true),
+        Some(b) => two(words, at, b < two_at(words, at)),
+    }
 }
 
 // n words of 0.
-pub fn zeros_bad(words: &[u32], at: usize, n: usize) -> MaybeIndex
+pub fn zeros_bad(words: &[u32], at: usize, n: usize) -> Result<(), usize>
     ensures { found result ≡ zeros_bad n words.now at }
 {
-    let mut k = at;
-    let mut left = n;
-    while 0 < left {
-        if words.len() <= k {
-            return MaybeIndex::Some(k);
+    for i in 0..n {
+        if words.len() <= at + i {
+            return Err(at + i);
         }
-        if words[k] != 0 {
-            return MaybeIndex::Some(k);
+        if words[at + i] != 0 {
+            return Err(at + i);
         }
-        k += 1;
-        left -= 1;
     }
-    MaybeIndex::None
+    Ok(())
 }
 
 // ---- lists
+
+// A list's name, most and size are three arguments: four functions take them, and a struct with their bound would be longer than the bound.
 
 // How many entries of `size` words a header announces.
 fn count_of(w: u32, name: u32, size: u32) -> u64
@@ -243,7 +230,7 @@ fn table_ok(w: u32, name: u32, most: u32, size: u32) -> bool
 }
 
 // The leading word of a list.
-pub fn table_bad(words: &[u32], at: usize, name: u32, most: u32, size: u32) -> MaybeIndex
+pub fn table_bad(words: &[u32], at: usize, name: u32, most: u32, size: u32) -> Result<(), usize>
     requires { (name < 16) × (0 < size) }
     ensures { found result ≡ word_bad (table_ok name most size) words.now at }
 {
@@ -253,7 +240,7 @@ pub fn table_bad(words: &[u32], at: usize, name: u32, most: u32, size: u32) -> M
 // How many entries follow, where the leading word is right; at most the most in any case, so that places behind it don't wrap.
 pub fn table_count(words: &[u32], at: usize, name: u32, most: u32, size: u32) -> usize
     requires { (name < 16) × (0 < size) }
-    ensures { (result ≤ most) × (word_bad (table_ok name most size) words.now at ≡ none → result ≡ count_of name size (get_or words.now at 0)) }
+    ensures { (result ≤ most) × (word_bad (table_ok name most size) words.now at ≡ None → result ≡ count_of name size (get_or words.now at 0)) }
 {
     let n = count_of(word_at(words, at), name, size);
     if n <= wide(most) {
@@ -264,7 +251,7 @@ pub fn table_count(words: &[u32], at: usize, name: u32, most: u32, size: u32) ->
 
 // The count, where it is right; at most the most in any case.
 pub fn count_at(words: &[u32], at: usize, most: u32) -> usize
-    ensures { (result ≤ most) × (word_bad (upto most) words.now at ≡ none → result ≡ get_or words.now at 0) }
+    ensures { (result ≤ most) × (word_bad (upto most) words.now at ≡ None → result ≡ get_or words.now at 0) }
 {
     let n = word_at(words, at);
     if n <= most {
@@ -280,20 +267,14 @@ pub fn copy(out: &mut [u32], at: usize, part: &[u32])
     requires { at + length part.now ≤ length out.old }
     ensures { out.new ≡ sets out.old at part.now }
 {
-    let mut i: usize = 0;
-    while i < part.len() {
-        out[at + i] = part[i];
-        i += 1;
-    }
+    out[at..at + part.len()].copy_from_slice(part);
 }
 
 pub fn zeros_put(out: &mut [u32], at: usize, n: usize)
     requires { at + n ≤ length out.old }
     ensures { out.new ≡ sets out.old at (zeros n) }
 {
-    let mut i: usize = 0;
-    while i < n {
+    for i in 0..n {
         out[at + i] = 0;
-        i += 1;
     }
 }

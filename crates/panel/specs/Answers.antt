@@ -1,12 +1,11 @@
 -- When an answer is the model's: its reply to the question, of every panel that shows these values, whatever else it shows.
-use Rattle.std.specs.Prelude.{ℕ, ◌≡◌, List, Float, length}
+use Rattle.std.specs.Prelude.{ℕ, ◌≡◌, List, Float, length, Option, Some}
 use Rattle.data.specs.Numbers.{rotation_number, rotation_values, source_number}
 use Rattle.data.specs.Numbers.{pointer_event_number, pointer_event_position, pointer_event_button, pointer_event_click}
-use Rattle.model.specs.Types.{WheelState, PointerEvent, Rotation, MouseWheelSource, MaybeMouseWheelSource, some_source}
+use Rattle.model.specs.Types.{WheelState, PointerEvent, Rotation, MouseWheelSource}
 use Rattle.model.specs.Pass as Model
 use Rattle.model.specs.Questions.{Question, settled, pointer_events, events, rotation_delta, rotation, scroll_source, source, Reply, ask}
-use Rattle.pointer_events.specs.declared.MaybePointerEvent.{MaybePointerEvent}
-use Rattle.pointer_events.specs.declared.MaybePointerEvent.TheVariants.{Some as some_event}
+use Rattle.data.specs.declared.pointer.PointerEvent.{PointerEvent}
 use Rattle.pointer_place.specs.declared.Place.{Place}
 use Rattle.pointer_state.specs.declared.press.Press.{Press}
 use Rattle.pointer_events.specs.Events.{event_or_none}
@@ -69,7 +68,7 @@ OfEventCount s n =
     (codes : List ℕ) (places : List Float) (p : Model.Panel) → p.press ≡ press codes places s
     → (l : List PointerEvent) → ask (settled pointer_events) p ≡ events l → n ≡ length l
 
-abbrev pub OfEventAt : Press → List ℕ → List Float → ℕ → MaybePointerEvent → Type 0
+abbrev pub OfEventAt : Press → List ℕ → List Float → ℕ → Option PointerEvent → Type 0
 OfEventAt s codes places i a =
     (p : Model.Panel) → p.press ≡ press codes places s → (l : List PointerEvent) → ask (settled pointer_events) p ≡ events l → a ≡ event_or_none l i
 
@@ -132,10 +131,10 @@ NumberedRotation ds s r =
     (p : Model.Panel) → p.touch_states ≡ view ds → p.sums ≡ sums s → (x : Rotation) → ask (settled rotation_delta) p ≡ rotation x → SameRotation r x
 
 -- the number of what drives the scrolling, where something does
-abbrev pub NumberedSource : WheelState → MaybeMouseWheelSource → Type 0
+abbrev pub NumberedSource : WheelState → Option MouseWheelSource → Type 0
 NumberedSource w a =
-    (p : Model.Panel) → p.wheel ≡ w → (x : MouseWheelSource) → ask (settled scroll_source) p ≡ source (some_source x)
-    → (s : MouseWheelSource) → a ≡ some_source s → source_number s ≡ source_number x
+    (p : Model.Panel) → p.wheel ≡ w → (x : MouseWheelSource) → ask (settled scroll_source) p ≡ source (Some x)
+    → (s : MouseWheelSource) → a ≡ Some s → source_number s ≡ source_number x
 
 -- the number of a pointer event; its position, the number of its button, and its click, or none where its case has none
 pub record SameEvent (e x : PointerEvent) : Type 0 where
@@ -144,7 +143,7 @@ pub record SameEvent (e x : PointerEvent) : Type 0 where
   pub button : pointer_event_button e ≡ pointer_event_button x
   pub click : pointer_event_click e ≡ pointer_event_click x
 
-abbrev pub NumberedEventAt : Press → List ℕ → List Float → ℕ → MaybePointerEvent → Type 0
+abbrev pub NumberedEventAt : Press → List ℕ → List Float → ℕ → Option PointerEvent → Type 0
 NumberedEventAt s codes places i a =
     (p : Model.Panel) → p.press ≡ press codes places s → (l : List PointerEvent) → ask (settled pointer_events) p ≡ events l
-    → (x : PointerEvent) → event_or_none l i ≡ some_event x → (e : PointerEvent) → a ≡ some_event e → SameEvent e x
+    → (x : PointerEvent) → event_or_none l i ≡ Some x → (e : PointerEvent) → a ≡ Some e → SameEvent e x

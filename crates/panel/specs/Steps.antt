@@ -1,6 +1,5 @@
 -- What a pass and an interact promise of every panel that shows what they are given.
-use Rattle.std.specs.Prelude.{ℕ, ◌≡◌, List, Float, length}
-use Rattle.std.proofs.Math.Option.{Option}
+use Rattle.std.specs.Prelude.{ℕ, ◌≡◌, List, Float, length, Option, Result}
 use Rattle.model.specs.Types.{WidgetRect}
 use Rattle.model.specs.Pass.{Panel}
 use Rattle.model.specs.Interact as Model
@@ -11,13 +10,14 @@ use Rattle.touch_state.specs.declared.devices.Devices.{Devices}
 use Rattle.touch_state.specs.View.{view}
 use Rattle.key_state.specs.declared.keys.Keys.{Keys}
 use Rattle.key_state.specs.View.{keys}
-use Rattle.hit_lists.specs.declared.MaybeHit.{MaybeHit}
+use Rattle.hit_lists.specs.declared.Hit.{Hit}
 use Rattle.hit_refusals.specs.Refusals.{input}
 use Rattle.widget_index.specs.declared.table.WidgetRects.{WidgetRects}
 use Rattle.widget_index.specs.Table as Table
 use Rattle.widget_rect.specs.WellFormed.{WellFormed}
 use Rattle.interaction_state.specs.declared.state.Interaction.{Interaction}
-use Rattle.interaction_state.specs.declared.state.Interacted.{Interacted}
+use Rattle.interaction_state.specs.declared.state.Answer.{Answer}
+use Rattle.data.specs.declared.refusal.InteractRefusal.{InteractRefusal}
 use Rattle.interaction_state.specs.declared.state.Seen.{Seen}
 use Rattle.interaction_state.specs.View.{interaction_of}
 use Rattle.interaction_events.specs.View.{seen_of}
@@ -53,8 +53,8 @@ widgets_of set words numbers edges d = Widgets.get d (Table.view set words numbe
 
 -- An interact of every panel p that shows these records: the model's `interact`, refused or taken.
 pub record Interacts (c : Clock) (s : Screen) (x : Pointer) (ds : Devices) (codes presses : List ℕ) (n : Interaction) (tally : ℕ)
-    (set : WidgetRects) (words numbers close within : List ℕ) (click drag : MaybeHit) (hovered contains : List ℕ)
-    (r : Interacted) (hovered' contains' : List ℕ) : Type 0 where
+    (set : WidgetRects) (words numbers close within : List ℕ) (click drag : Option Hit) (hovered contains : List ℕ)
+    (r : Result Answer InteractRefusal) (hovered' contains' : List ℕ) : Type 0 where
   -- of any set, by its own lookup, whatever its rectangles
   pub own : (p : Panel) → ShowsInput c s x ds codes presses p → p.interaction ≡ interaction_of n → p.tally ≡ tally → (edges : List Float)
       → Post.Interacts p (Model.interact p (input (lookup set words numbers edges) close within click drag (length hovered) (length contains))) r hovered contains hovered' contains'

@@ -1,11 +1,11 @@
 -- What the records of src/ and the lent arrays show: the model's panel. And the panel that a fresh start, a pass and an interact leave.
-use Rattle.std.specs.Prelude.{ℕ, ◌≡◌, List, replicate}
+use Rattle.std.specs.Prelude.{ℕ, ◌≡◌, List, replicate, Ok, Err, Result}
 use Rattle.data.specs.Limits.{key_count}
 use Rattle.model.specs.Pass.{fresh}
 use Rattle.model.specs.Pass as Model
 use Rattle.touch_state.specs.View.{view}
-use Rattle.interaction_state.specs.declared.state.Interacted.{Interacted}
-use Rattle.interaction_state.specs.declared.state.Interacted.TheVariants.{Refused, Taken}
+use Rattle.interaction_state.specs.declared.state.Answer.{Answer}
+use Rattle.data.specs.declared.refusal.InteractRefusal.{InteractRefusal}
 use Rattle.interaction_state.specs.View.{interaction_of}
 use Rattle.input_state.specs.View.{Lent, panel}
 use Rattle.input_pass.specs.declared.begin.Begun.{Begun}
@@ -26,6 +26,6 @@ abbrev pub after_pass : Panel → Begun → Panel
 after_pass p b = record { input = b.state; devices = b.devices; interaction = p.interaction; tally = p.tally }
 
 -- after an interact: refused, all is as before; taken, the interaction and the tally are those that it answers
-abbrev pub after_interact : Panel → Interacted → Panel
-after_interact p (Refused why) = p
-after_interact p (Taken a) = record { input = p.input; devices = p.devices; interaction = a.interaction; tally = a.tally }
+abbrev pub after_interact : Panel → Result Answer InteractRefusal → Panel
+after_interact p (Err why) = p
+after_interact p (Ok a) = record { input = p.input; devices = p.devices; interaction = a.interaction; tally = a.tally }

@@ -4,22 +4,22 @@ ghost use Rattle.model.specs.Questions.{settled, bool, number, maybe_position, m
 ghost use Rattle.model.specs.Questions as ask;
 ghost use Rattle.panel.specs.Answers.{OfPress, OfEvents, OfClickPast, OfPressing, OfLongPress, OfEventAt, OfEventCount, NumberedEventAt};
 
-use data::pointer::{MaybeF64, PointerButton};
-use emath::pos2::MaybePos2;
+use data::pointer::{PointerButton, PointerEvent};
+use emath::pos2::Pos2;
 use input_state::clock::Clock;
 use input_state::pointer::Pointer;
 use input_state::screen::Screen;
-use pointer_events::{CODES, MaybePointerEvent, PLACES};
+use pointer_events::{CODES, PLACES};
 use pointer_state::press::Press;
 
-pub fn press_origin(press: Press) -> MaybePos2
+pub fn press_origin(press: Press) -> Option<Pos2>
     ensures { OfPress (settled ask.press_origin) press (maybe_position result) }
 {
     let held = press.held;
     pointer_questions::buttons::press_origin(held)
 }
 
-pub fn press_start_time(press: Press) -> MaybeF64
+pub fn press_start_time(press: Press) -> Option<f64>
     ensures { OfPress (settled ask.press_start_time) press (maybe_seconds result) }
 {
     let held = press.held;
@@ -157,7 +157,7 @@ pub fn pointer_event(
     codes: &[u32; CODES],
     places: &[f32; PLACES],
     i: usize,
-) -> MaybePointerEvent
+) -> Option<PointerEvent>
     ensures of_event_at { OfEventAt press codes.now places.now i result }
     ensures numbered { NumberedEventAt press codes.now places.now i result }
 {

@@ -1,27 +1,25 @@
 // What the interacts have left.
-ghost use Rattle.id_set.specs.Ids.{option_of};
 ghost use Rattle.model.specs.Questions.{settled, count, widget};
 ghost use Rattle.model.specs.Questions as ask;
 ghost use Rattle.panel.specs.Answers.{OfInteraction, OfTally};
 
 use crate::state::Panel;
-use id_set::MaybeId;
 use interaction_state::state::Interaction;
 
-pub fn dragged(interaction: Interaction) -> MaybeId
-    ensures { OfInteraction (settled ask.dragged) interaction (widget (option_of result)) }
+pub fn dragged(interaction: Interaction) -> Option<u64>
+    ensures { OfInteraction (settled ask.dragged) interaction (widget result) }
 {
     interaction.dragged
 }
 
-pub fn potential_click_id(interaction: Interaction) -> MaybeId
-    ensures { OfInteraction (settled ask.potential_click_id) interaction (widget (option_of result)) }
+pub fn potential_click_id(interaction: Interaction) -> Option<u64>
+    ensures { OfInteraction (settled ask.potential_click_id) interaction (widget result) }
 {
     interaction.potential_click_id
 }
 
-pub fn potential_drag_id(interaction: Interaction) -> MaybeId
-    ensures { OfInteraction (settled ask.potential_drag_id) interaction (widget (option_of result)) }
+pub fn potential_drag_id(interaction: Interaction) -> Option<u64>
+    ensures { OfInteraction (settled ask.potential_drag_id) interaction (widget result) }
 {
     interaction.potential_drag_id
 }

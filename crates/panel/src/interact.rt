@@ -2,11 +2,12 @@
 ghost use Rattle.panel.specs.Steps.{Sees, Interacts};
 
 use crate::touching::is_long_touch;
-use hit_lists::MaybeHit;
+use data::refusal::InteractRefusal;
+use hit_lists::Hit;
 use input_state::clock::Clock;
 use input_state::pointer::Pointer;
 use input_state::screen::Screen;
-use interaction_state::state::{Interacted, Interaction, Seen};
+use interaction_state::state::{Answer, Interaction, Seen};
 use key_state::keys::PRESSES;
 use pointer_clicks::{any_down, could_any_button_be_click, is_decidedly_dragging};
 use pointer_events::CODES;
@@ -66,11 +67,11 @@ pub fn interact(
     numbers: &Numbers,
     close: &[u64],
     within: &[u64],
-    click: MaybeHit,
-    drag: MaybeHit,
+    click: Option<Hit>,
+    drag: Option<Hit>,
     top: &mut [u64],
     all: &mut [u64],
-) -> Interacted
+) -> Result<Answer, InteractRefusal>
     ensures { Interacts
         clock screen pointer devices codes.now presses.now interaction tally
         «set» words.now numbers.now

@@ -3,9 +3,8 @@ ghost use Rattle.model.specs.Questions.{settled, bool, vector, maybe_vector, may
 ghost use Rattle.model.specs.Questions as ask;
 ghost use Rattle.panel.specs.Answers.{OfPlace, OfPlaceAndPress, OfLastMove};
 
-use data::touch::MaybeF32;
-use emath::pos2::MaybePos2;
-use emath::vec2::{MaybeVec2, Vec2};
+use emath::pos2::Pos2;
+use emath::vec2::Vec2;
 use input_state::clock::Clock;
 use input_state::pointer::Pointer;
 use pointer_place::Place;
@@ -16,7 +15,7 @@ pub fn delta(place: Place) -> Vec2
     pointer_questions::moving::delta(place)
 }
 
-pub fn motion(place: Place) -> MaybeVec2
+pub fn motion(place: Place) -> Option<Vec2>
     ensures { OfPlace (settled ask.motion) place (maybe_vector result) }
 {
     pointer_questions::moving::motion(place)
@@ -34,19 +33,19 @@ pub fn direction(place: Place) -> Vec2
     pointer_questions::moving::direction(place)
 }
 
-pub fn latest_pos(place: Place) -> MaybePos2
+pub fn latest_pos(place: Place) -> Option<Pos2>
     ensures { OfPlace (settled ask.latest_pos) place (maybe_position result) }
 {
     pointer_questions::moving::latest_pos(place)
 }
 
-pub fn hover_pos(place: Place) -> MaybePos2
+pub fn hover_pos(place: Place) -> Option<Pos2>
     ensures { OfPlace (settled ask.hover_pos) place (maybe_position result) }
 {
     pointer_questions::moving::hover_pos(place)
 }
 
-pub fn interact_pos(place: Place) -> MaybePos2
+pub fn interact_pos(place: Place) -> Option<Pos2>
     ensures { OfPlace (settled ask.interact_pos) place (maybe_position result) }
 {
     pointer_questions::moving::interact_pos(place)
@@ -71,7 +70,7 @@ pub fn is_moving(place: Place) -> bool
 }
 
 // In seconds, or none before any.
-pub fn time_since_last_movement(pointer: Pointer, clock: Clock) -> MaybeF32
+pub fn time_since_last_movement(pointer: Pointer, clock: Clock) -> Option<f32>
     ensures { OfLastMove ask.time_since_last_movement pointer clock (maybe_number result) }
 {
     let last = pointer.last_move_time;
@@ -79,7 +78,7 @@ pub fn time_since_last_movement(pointer: Pointer, clock: Clock) -> MaybeF32
 }
 
 // How far the pointer moved since the press, if there is one.
-pub fn total_drag_delta(pointer: Pointer) -> MaybeVec2
+pub fn total_drag_delta(pointer: Pointer) -> Option<Vec2>
     ensures { OfPlaceAndPress (settled ask.total_drag_delta) pointer (maybe_vector result) }
 {
     let place = pointer.place;

@@ -4,7 +4,6 @@ ghost use Rattle.model.specs.Questions as ask;
 ghost use Rattle.panel.specs.Answers.{OfWaiting};
 
 use data::mouse_wheel::WheelState;
-use data::pointer::MaybeF64;
 use input_state::clock::Clock;
 use input_state::pointer::Pointer;
 use input_state::screen::Screen;
@@ -21,7 +20,7 @@ pub fn wants_repaint_after(
     wheel: WheelState,
     keys: Keys,
     devices: Devices,
-) -> MaybeF64
+) -> Option<f64>
     ensures { OfWaiting (settled ask.wants_repaint_after) clock screen pointer codes.now wheel keys devices (maybe_seconds result) }
 {
     let options = screen.options;

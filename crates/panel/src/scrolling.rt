@@ -3,7 +3,7 @@ ghost use Rattle.model.specs.Questions.{settled, bool, number, vector, source};
 ghost use Rattle.model.specs.Questions as ask;
 ghost use Rattle.panel.specs.Answers.{OfSums, OfWheel, OfWheelAt, NumberedSource};
 
-use data::mouse_wheel::{MaybeMouseWheelSource, WheelState};
+use data::mouse_wheel::{MouseWheelSource, WheelState};
 use emath::vec2::Vec2;
 use input_state::clock::Clock;
 use input_state::sums::Sums;
@@ -21,7 +21,7 @@ pub fn is_scrolling(wheel: WheelState) -> bool
 }
 
 // What drives the scrolling, if there is one.
-pub fn scroll_source(wheel: WheelState) -> MaybeMouseWheelSource
+pub fn scroll_source(wheel: WheelState) -> Option<MouseWheelSource>
     ensures of_wheel { OfWheel (settled ask.scroll_source) wheel (source result) }
     ensures numbered { NumberedSource wheel result }
 {

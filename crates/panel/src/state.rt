@@ -2,10 +2,10 @@
 ghost use Rattle.std.specs.Prelude.{◌≡◌};
 ghost use Rattle.panel.specs.View.{Fresh, after_pass, after_interact};
 
-use id_set::MaybeId;
+use data::refusal::InteractRefusal;
 use input_pass::begin::Begun;
 use input_state::state::InputState;
-use interaction_state::state::{Interacted, Interaction};
+use interaction_state::state::{Answer, Interaction};
 use key_state::keys::PRESSES;
 use touch_state::devices::Devices;
 
@@ -26,9 +26,9 @@ pub fn fresh(presses: &mut [u8; PRESSES]) -> Panel
     let input = input_state::state::fresh();
     let devices = touch_state::devices::none();
     let interaction = Interaction {
-        potential_click_id: MaybeId::None,
-        potential_drag_id: MaybeId::None,
-        dragged: MaybeId::None,
+        potential_click_id: None,
+        potential_drag_id: None,
+        dragged: None,
     };
     Panel {
         input,
@@ -54,12 +54,12 @@ pub fn after_pass(panel: Panel, begun: Begun) -> Panel
 }
 
 // The panel after an interact, taken or refused.
-pub fn after_interact(panel: Panel, interacted: Interacted) -> Panel
+pub fn after_interact(panel: Panel, interacted: Result<Answer, InteractRefusal>) -> Panel
     ensures { result ≡ after_interact panel interacted }
 {
     match interacted {
-        Interacted::Refused(why) => panel,
-        Interacted::Taken(answer) => {
+        Err(why) => panel,
+        Ok(answer) => {
             let input = panel.input;
             let devices = panel.devices;
             let interaction = answer.interaction;

@@ -3,7 +3,7 @@ ghost use Rattle.model.specs.Questions.{settled, bool, gesture};
 ghost use Rattle.model.specs.Questions as ask;
 ghost use Rattle.panel.specs.Answers.{OfDevices, OfLongTouch};
 
-use data::touch::MaybeMultiTouchInfo;
+use data::touch::MultiTouchInfo;
 use input_state::clock::Clock;
 use input_state::pointer::Pointer;
 use input_state::screen::Screen;
@@ -23,14 +23,14 @@ pub fn has_touch_screen(devices: Devices) -> bool
 }
 
 // The gesture of the first device by id that has one.
-pub fn multi_touch(devices: Devices) -> MaybeMultiTouchInfo
+pub fn multi_touch(devices: Devices) -> Option<MultiTouchInfo>
     ensures { OfDevices (settled ask.multi_touch) devices (gesture result) }
 {
     touch_questions::multi_touch(devices)
 }
 
 // TouchState::info; an unknown device has none.
-pub fn info(devices: Devices, device_id: u64) -> MaybeMultiTouchInfo
+pub fn info(devices: Devices, device_id: u64) -> Option<MultiTouchInfo>
     ensures { OfDevices (settled (ask.info_of_device device_id)) devices (gesture result) }
 {
     touch_questions::info(devices, device_id)

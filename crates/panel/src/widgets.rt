@@ -6,7 +6,6 @@ use data::layers::LayerId;
 use data::widget::WidgetRect;
 use widget_append::Decision;
 use widget_index::table::{Edges, Numbers, WidgetRects, Words};
-use widget_rect::questions::{MaybeLayerId, MaybeOrder, MaybeWidgetRect};
 
 // A new set, or one that is emptied.
 pub fn empty() -> WidgetRects
@@ -45,7 +44,7 @@ pub fn get(
     numbers: &Numbers,
     edges: &Edges,
     id: u64,
-) -> MaybeWidgetRect
+) -> Option<WidgetRect>
     ensures { Gets «set» words.now numbers.now edges.now id result }
 {
     widget_rect::questions::get(set, words, numbers, edges, id)
@@ -58,7 +57,7 @@ pub fn order(
     numbers: &Numbers,
     edges: &Edges,
     id: u64,
-) -> MaybeOrder
+) -> Option<(LayerId, usize)>
     ensures { Orders «set» words.now numbers.now edges.now id result }
 {
     widget_rect::questions::order(set, words, numbers, edges, id)
@@ -72,7 +71,7 @@ pub fn layer_count(set: WidgetRects, words: &Words, numbers: &Numbers, layer: La
 }
 
 // The layers in the order of their first insertion: the one at i, if there is one.
-pub fn layer_id(set: WidgetRects, words: &Words, numbers: &Numbers, i: usize) -> MaybeLayerId
+pub fn layer_id(set: WidgetRects, words: &Words, numbers: &Numbers, i: usize) -> Option<LayerId>
     ensures { Layers «set» words.now numbers.now i result }
 {
     widget_rect::questions::layer_id(set, words, numbers, i)

@@ -1,8 +1,8 @@
 -- An image checked and read group by group. Assumes nothing.
+use Rattle.std.specs.Prelude.{Option, None, Result, Ok, Err, ⊤}
 use Prim.Native.Nat.{ℕ, ◌+◌, ◌*◌, ◌≤◌}
 use native.Mathlib.Omega.{arith}
 use mathlib.Core.Path.{◌≡◌, refl, sym, ap, ap₂, ◌∙◌, subst}
-use mathlib.Core.Option.{Option, none}
 use mathlib.Core.List.{List, []}
 use Rattle.data.specs.Limits.{max_events, max_devices, max_touches}
 use lib.ListN.{length, drop}
@@ -42,15 +42,15 @@ use Rattle.model.specs.Pass as Model
 use Rattle.image_form.specs.Form.{panel_code, panel_of, taken, no_image, wrong, read_image}
 use Rattle.image_form.specs.Placed.{groups_place, lists_place, events_place, devices_place, end_place, end_bad, image_bad, answer}
 use Rattle.image_form.proofs.Whole.{reads_image}
-use Rattle.parking.specs.declared.check.ImageRefusal.TheVariants.{None, FirstWord, Word}
+use Rattle.parking.specs.declared.check.ImageRefusal.TheVariants.{FirstWord, Word}
 use Rattle.parking.specs.Restored.{Checked, Written, PointerHeld, InputHeld, Held}
 
 -- ---- what stands behind a list is asked at the place that its length gives; where the length is wrong, that is told before
-behind : (x y : ℕ → Option ℕ) (s : ℕ → ℕ) (i j : ℕ) → (x i ≡ none → j ≡ i + s i) → or_else (x i) (y j) ≡ or_else (x i) (y (i + s i))
+behind : (x y : ℕ → Option ℕ) (s : ℕ → ℕ) (i j : ℕ) → (x i ≡ None → j ≡ i + s i) → or_else (x i) (y j) ≡ or_else (x i) (y (i + s i))
 behind x y s i j h = or_else_under (x i) (y j) (y (i + s i)) (λ z. ap y (h z))
 
 module _ (f : Option ℕ) (h e d last : ℕ → Option ℕ) (s t u : ℕ → ℕ) (i j k l : ℕ) where
-  lists_asked : (h i ≡ none → j ≡ i + s i) → (e j ≡ none → k ≡ j + t j) → (d k ≡ none → l ≡ k + u k)
+  lists_asked : (h i ≡ None → j ≡ i + s i) → (e j ≡ None → k ≡ j + t j) → (d k ≡ None → l ≡ k + u k)
       → or_else (or_else f (or_else (h i) (or_else (e j) (d k)))) (last l)
       ≡ or_else f (or_else (h i) (or_else (e (i + s i)) (or_else (d (i + s i + t (i + s i))) (last (i + s i + t (i + s i) + u (i + s i + t (i + s i)))))))
   lists_asked p q r =
@@ -93,7 +93,7 @@ module _ (a b c d : Code) (ws : List ℕ) (i k : ℕ) (e : i + span a ws i ≡ k
       ∙ or_else_assoc (bad_at a ws i) _ x
       ∙ ap (or_else (bad_at a ws i)) (or_else_assoc (bad_at b ws k) _ x ∙ ap (or_else (bad_at b ws k)) (or_else_assoc (bad_at c ws third) (bad_at d ws fourth) x)))
 
-  four_sound : bad_at four ws i ≡ none → (bad_at a ws i ≡ none) × (bad_at b ws k ≡ none) × (bad_at c ws third ≡ none) × (bad_at d ws fourth ≡ none)
+  four_sound : bad_at four ws i ≡ None → (bad_at a ws i ≡ None) × (bad_at b ws k ≡ None) × (bad_at c ws third ≡ None) × (bad_at d ws fourth ≡ None)
   four_sound h =
       let p = or_else_none _ _ (sym four_bad ∙ h) in
       let q = or_else_none _ _ p.1 in
@@ -108,9 +108,9 @@ module _ (ws : List ℕ) where
 
   -- checked
   pub groups_told : (f : Option ℕ) (j k l : ℕ) → f ≡ bad_at fixed_code ws groups_place
-      → (bad_at history_code ws lists_place ≡ none → j ≡ events_place ws)
-      → (bad_at (events_code max_events) ws j ≡ none → k ≡ j + span (events_code max_events) ws j)
-      → (bad_at (devices_code max_devices max_touches) ws k ≡ none → l ≡ k + span (devices_code max_devices max_touches) ws k)
+      → (bad_at history_code ws lists_place ≡ None → j ≡ events_place ws)
+      → (bad_at (events_code max_events) ws j ≡ None → k ≡ j + span (events_code max_events) ws j)
+      → (bad_at (devices_code max_devices max_touches) ws k ≡ None → l ≡ k + span (devices_code max_devices max_touches) ws k)
       → or_else (or_else f (or_else (bad_at history_code ws lists_place) (or_else (bad_at (events_code max_events) ws j) (bad_at (devices_code max_devices max_touches) ws k)))) (end_bad ws l) ≡ image_bad ws
   unfolding image_bad
   groups_told f j k l e p q r =
@@ -125,21 +125,21 @@ module _ (ws : List ℕ) where
 
   -- nothing is wrong with any group of a sound image
   pub record Sound : Type 0 where
-    pub fixed : bad_at fixed_code ws groups_place ≡ none
-    pub history : bad_at history_code ws lists_place ≡ none
-    pub events : bad_at (events_code max_events) ws (events_place ws) ≡ none
-    pub devices : bad_at (devices_code max_devices max_touches) ws (devices_place ws) ≡ none
+    pub fixed : bad_at fixed_code ws groups_place ≡ None
+    pub history : bad_at history_code ws lists_place ≡ None
+    pub events : bad_at (events_code max_events) ws (events_place ws) ≡ None
+    pub devices : bad_at (devices_code max_devices max_touches) ws (devices_place ws) ≡ None
 
-  pub all_sound : bad_at panel_code ws groups_place ≡ none → Sound
+  pub all_sound : bad_at panel_code ws groups_place ≡ None → Sound
   all_sound h =
       let s = four_sound fixed_code history_code (events_code max_events) (devices_code max_devices max_touches) ws groups_place lists_place fixed_span h in
       record { fixed = s.0; history = s.1; events = s.2; devices = s.3 }
 
-  pub image_sound : image_bad ws ≡ none → bad_at panel_code ws groups_place ≡ none
+  pub image_sound : image_bad ws ≡ None → bad_at panel_code ws groups_place ≡ None
   unfolding image_bad
   image_sound h = (or_else_none (bad_at panel_code ws groups_place) _ h).0
 
-  pub keys_sound : bad_at fixed_code ws groups_place ≡ none → bad_at keys_code ws keys_place ≡ none
+  pub keys_sound : bad_at fixed_code ws groups_place ≡ None → bad_at keys_code ws keys_place ≡ None
   unfolding bad_at span size
   keys_sound h =
       let a = (or_else_none (bad_at clock_code ws 1) _ h).1 in
@@ -150,8 +150,8 @@ module _ (ws : List ℕ) where
       (or_else_none (bad_at keys_code ws keys_place) _ e).0
 
   -- the places that the code works out
-  pub devices_place_is : (j k : ℕ) → Sound → (bad_at history_code ws lists_place ≡ none → j ≡ events_place ws)
-      → (bad_at (events_code max_events) ws j ≡ none → k ≡ j + span (events_code max_events) ws j) → k ≡ devices_place ws
+  pub devices_place_is : (j k : ℕ) → Sound → (bad_at history_code ws lists_place ≡ None → j ≡ events_place ws)
+      → (bad_at (events_code max_events) ws j ≡ None → k ≡ j + span (events_code max_events) ws j) → k ≡ devices_place ws
   devices_place_is j k s p q =
       let e = p s.history in
       q (ap (bad_at (events_code max_events) ws) e ∙ s.events) ∙ ap (λ (i : ℕ). i + span (events_code max_events) ws i) e
@@ -276,13 +276,13 @@ module _ (ws : List ℕ) (l l' : Lent) (p : Panel) where
 
 -- ---- what is answered
 module _ (ws : List ℕ) where
-  pub is_taken : (p : Model.Panel) → Checked None ws → p ≡ panel_of (value_at panel_code ws groups_place) → read_image ws ≡ taken p
+  pub is_taken : (p : Model.Panel) → Checked (Ok tt) ws → p ≡ panel_of (value_at panel_code ws groups_place) → read_image ws ≡ taken p
   unfolding answer
   is_taken p h e = reads_image ws ∙ rw (h.0, h.1) (ap taken (sym e))
 
-  pub is_no_image : Checked FirstWord ws → read_image ws ≡ no_image
+  pub is_no_image : Checked (Err FirstWord) ws → read_image ws ≡ no_image
   is_no_image h = reads_image ws ∙ rw h
 
-  pub is_wrong : (i : ℕ) → Checked (Word i) ws → read_image ws ≡ wrong i
+  pub is_wrong : (i : ℕ) → Checked (Err (Word i)) ws → read_image ws ≡ wrong i
   unfolding answer
   is_wrong i h = reads_image ws ∙ rw (h.0, h.1)

@@ -1,6 +1,5 @@
 -- What parking leaves (02 A.6).
-use Rattle.std.specs.Prelude.{ℕ, ◌+◌, ◌*◌, ◌<◌, ◌≡◌, List, length, take, drop}
-use Rattle.std.proofs.Math.Option.{Option, none, some}
+use Rattle.std.specs.Prelude.{ℕ, ◌+◌, ◌*◌, ◌<◌, ◌≡◌, List, length, take, drop, Option, None, Some, Ok, Err, Result}
 use Rattle.data.specs.Limits.{max_events, max_devices, max_touches}
 use Rattle.data.specs.Numbers.{Row}
 use Rattle.model.specs.Pass.{Panel}
@@ -16,8 +15,8 @@ use Rattle.image_history.specs.History.{history_code, history_el}
 use Rattle.image_events.specs.Events.{events_code, events_el}
 use Rattle.image_devices.specs.Devices.{devices_code, devices_el}
 use Rattle.image_form.specs.Form.{panel_code, fixed_el, el, image, taken, read_image, short_row, Parkable}
-use Rattle.parking.specs.declared.park.Parked.{Parked}
-use Rattle.parking.specs.declared.park.Parked.TheVariants.{Words, Short}
+use Rattle.parking.specs.declared.park.ParkRefusal.{ParkRefusal}
+use Rattle.parking.specs.declared.park.ParkRefusal.TheVariants.{ShortBuffer}
 
 -- groups 10 to 12
 abbrev pub lists_code : Code
@@ -42,11 +41,11 @@ PanelIn p = Parkable p → In panel_code (el p)
 
 -- "writing gives only 8, for a buffer too short", and leaves it as before; or the image, with every place behind it as before. Of a panel that the
 -- operations gave it reads back as that panel
-abbrev pub ParkedAs : Panel → List ℕ → List ℕ → Parked → Type 0
-ParkedAs p out out' Short = (length out < length (image p)) × (out' ≡ out)
-ParkedAs p out out' (Words n) = (n ≡ length (image p)) × (take n out' ≡ image p) × (drop n out' ≡ drop n out) × (Parkable p → read_image (take n out') ≡ taken p)
+abbrev pub ParkedAs : Panel → List ℕ → List ℕ → Result ℕ ParkRefusal → Type 0
+ParkedAs p out out' (Err ShortBuffer) = (length out < length (image p)) × (out' ≡ out)
+ParkedAs p out out' (Ok n) = (n ≡ length (image p)) × (take n out' ≡ image p) × (drop n out' ≡ drop n out) × (Parkable p → read_image (take n out') ≡ taken p)
 
 -- the row of what it answers
-abbrev pub parked_row : Parked → Option Row
-parked_row (Words n) = none
-parked_row Short = some short_row
+abbrev pub parked_row : Result ℕ ParkRefusal → Option Row
+parked_row (Ok n) = None
+parked_row (Err ShortBuffer) = Some short_row

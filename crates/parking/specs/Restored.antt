@@ -1,6 +1,5 @@
 -- What restoring leaves (02 A.6).
-use Rattle.std.specs.Prelude.{ℕ, ◌*◌, ◌≡◌, true, false, List, eqb, length, get_or, drop}
-use Rattle.std.proofs.Math.Option.{Option, none, some}
+use Rattle.std.specs.Prelude.{ℕ, ◌*◌, ◌≡◌, true, false, List, eqb, length, get_or, drop, Option, None, Some, Result, Ok, Err, ⊤}
 use Rattle.std.proofs.lemmas.List.Edits.{sets}
 use Rattle.data.specs.Limits.{max_events}
 use Rattle.data.specs.Numbers.{Row}
@@ -29,14 +28,14 @@ use Rattle.image_events.specs.Events.{events_code, events_of_el}
 use Rattle.image_form.specs.Form.{first_word, panel_code, panel_of, Answer, taken, no_image, wrong, read_image, image_row}
 use Rattle.image_form.specs.Placed.{groups_place, lists_place, events_place, image_bad}
 use Rattle.parking.specs.declared.check.ImageRefusal.{ImageRefusal}
-use Rattle.parking.specs.declared.check.ImageRefusal.TheVariants.{None, FirstWord, Word}
+use Rattle.parking.specs.declared.check.ImageRefusal.TheVariants.{FirstWord, Word}
 use Rattle.parking.specs.declared.restore.Restored.{Restored}
 
 -- the refusal of the words
-abbrev pub Checked : ImageRefusal → List ℕ → Type 0
-Checked None ws = (eqb first_word (get_or ws 0 0) ≡ true) × (image_bad ws ≡ none)
-Checked FirstWord ws = eqb first_word (get_or ws 0 0) ≡ false
-Checked (Word i) ws = (eqb first_word (get_or ws 0 0) ≡ true) × (image_bad ws ≡ some i)
+abbrev pub Checked : Result ⊤ ImageRefusal → List ℕ → Type 0
+Checked (Ok tt) ws = (eqb first_word (get_or ws 0 0) ≡ true) × (image_bad ws ≡ None)
+Checked (Err FirstWord) ws = eqb first_word (get_or ws 0 0) ≡ false
+Checked (Err (Word i)) ws = (eqb first_word (get_or ws 0 0) ≡ true) × (image_bad ws ≡ Some i)
 
 -- what reading leaves of the history and of the events in the lent arrays: "Lent places past those written keep their contents"
 pub record Written (samples : List Sample) (events : List PointerEvent) (l l' : Lent) : Type 0 where
@@ -76,13 +75,13 @@ pub record Kept (a : Answer) (ws : List ℕ) (p : Panel) (l : Lent) (r : Panel) 
   pub panel : r ≡ p
   pub lent : l' ≡ l
 
-abbrev pub RestoredAs : List ℕ → Panel → Lent → Restored → Lent → ImageRefusal → Type 0
-RestoredAs ws p l r l' None = Taken ws l r.panel l'
-RestoredAs ws p l r l' FirstWord = Kept no_image ws p l r.panel l'
-RestoredAs ws p l r l' (Word i) = Kept (wrong i) ws p l r.panel l'
+abbrev pub RestoredAs : List ℕ → Panel → Lent → Restored → Lent → Result ⊤ ImageRefusal → Type 0
+RestoredAs ws p l r l' (Ok tt) = Taken ws l r.panel l'
+RestoredAs ws p l r l' (Err FirstWord) = Kept no_image ws p l r.panel l'
+RestoredAs ws p l r l' (Err (Word i)) = Kept (wrong i) ws p l r.panel l'
 
 -- the row of what it answers
-abbrev pub restored_row : ImageRefusal → Option Row
-restored_row None = none
-restored_row FirstWord = image_row no_image
-restored_row (Word i) = image_row (wrong i)
+abbrev pub restored_row : Result ⊤ ImageRefusal → Option Row
+restored_row (Ok tt) = None
+restored_row (Err FirstWord) = image_row no_image
+restored_row (Err (Word i)) = image_row (wrong i)

@@ -1,6 +1,5 @@
-// What is wrong with the words of an image. Each word is looked at, and nothing is written.
-ghost use Rattle.std.specs.Prelude.{◌+◌, ◌<◌, ◌≡◌};
-ghost use Rattle.std.proofs.Math.Option.{none};
+// What is wrong first with the words of an image. Nothing is written.
+ghost use Rattle.std.specs.Prelude.{◌+◌, ◌<◌, ◌≡◌, None};
 ghost use Rattle.data.specs.Limits.{max_events, max_devices, max_touches};
 ghost use Rattle.image.specs.Places.{bad_at, span};
 ghost use Rattle.image_words.specs.Leaves.{found};
@@ -16,11 +15,10 @@ use image_devices::{devices_bad, devices_count};
 use image_events::{events_bad, events_count};
 use image_fixed::fixed_bad;
 use image_history::{history_bad, history_count};
-use image_words::{MaybeIndex, first, word_at};
+use image_words::word_at;
 
 #[derive(Clone, Copy)]
 pub enum ImageRefusal {
-    None,
     // 14
     FirstWord,
     // 15 at a word
@@ -29,7 +27,7 @@ pub enum ImageRefusal {
 
 // The place after the history, as its length says.
 pub fn events_place(words: &[u32]) -> usize
-    ensures { (result < 0x10_0000) × (bad_at history_code words.now lists_place ≡ none → result ≡ events_place words.now) }
+    ensures { (result < 0x10_0000) × (bad_at history_code words.now lists_place ≡ None → result ≡ events_place words.now) }
 {
     HISTORY + 1 + history_count(words, HISTORY) * SAMPLE_WORDS
 }
@@ -37,7 +35,7 @@ pub fn events_place(words: &[u32]) -> usize
 // The place after the events that begin at a place.
 pub fn devices_place(words: &[u32], at: usize) -> usize
     requires { at < 0x10_0000 }
-    ensures { (result < 0x20_0000) × (bad_at (events_code max_events) words.now at ≡ none → result ≡ at + span (events_code max_events) words.now at) }
+    ensures { (result < 0x20_0000) × (bad_at (events_code max_events) words.now at ≡ None → result ≡ at + span (events_code max_events) words.now at) }
 {
     at + 1 + events_count(words, at, MAX_EVENTS as u32) * EVENT_WORDS
 }
@@ -45,47 +43,44 @@ pub fn devices_place(words: &[u32], at: usize) -> usize
 // The place after the devices.
 fn end_place(words: &[u32], at: usize) -> usize
     requires { at < 0x20_0000 }
-    ensures { bad_at (devices_code max_devices max_touches) words.now at ≡ none → result ≡ at + span (devices_code max_devices max_touches) words.now at }
+    ensures { bad_at (devices_code max_devices max_touches) words.now at ≡ None → result ≡ at + span (devices_code max_devices max_touches) words.now at }
 {
     at + 1 + devices_count(words, at) * DEVICE_WORDS
 }
 
 // A word after the last group.
-fn end_bad(words: &[u32], at: usize) -> MaybeIndex
+fn end_bad(words: &[u32], at: usize) -> Result<(), usize>
     ensures { found result ≡ end_bad words.now at }
 {
     if at < words.len() {
-        return MaybeIndex::Some(at);
+        return Err(at);
     }
-    MaybeIndex::None
+    Ok(())
 }
 
 // All behind the first word. What stands behind a list is asked at the place that its length gives: where the length is wrong, that is told first.
-fn groups_bad(words: &[u32]) -> MaybeIndex
+fn groups_bad(words: &[u32]) -> Result<(), usize>
     ensures { found result ≡ image_bad words.now }
 {
     let events = events_place(words);
     let devices = devices_place(words, events);
     let end = end_place(words, devices);
-    let lists = first(
-        history_bad(words, HISTORY),
-        first(
-            events_bad(words, events, MAX_EVENTS as u32),
-            devices_bad(words, devices),
-        ),
-    );
-    first(first(fixed_bad(words), lists), end_bad(words, end))
+    fixed_bad(words)?;
+    history_bad(words, HISTORY)?;
+    events_bad(words, events, MAX_EVENTS as u32)?;
+    devices_bad(words, devices)?;
+    end_bad(words, end)
 }
 
-pub fn check(words: &[u32]) -> ImageRefusal
+pub fn check(words: &[u32]) -> Result<(), ImageRefusal>
     ensures { Checked result words.now }
 {
     if FIRST_WORD != word_at(words, 0) {
-        return ImageRefusal::FirstWord;
+        return Err(ImageRefusal::FirstWord);
     }
     let bad = groups_bad(words);
     match bad {
-        MaybeIndex::None => ImageRefusal::None,
-        MaybeIndex::Some(i) => ImageRefusal::Word(i),
+        Ok(()) => Ok(()),
+        Err(i) => Err(ImageRefusal::Word(i)),
     }
 }

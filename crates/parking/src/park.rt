@@ -19,11 +19,9 @@ use panel::state::Panel;
 use pointer_events::{CODES, PLACES, counted};
 
 #[derive(Clone, Copy)]
-pub enum Parked {
-    // so many words are written
-    Words(usize),
+pub enum ParkRefusal {
     // 8
-    Short,
+    ShortBuffer,
 }
 
 // 13 in the top bits, form 1 below
@@ -125,15 +123,15 @@ pub fn park(
     places: &[f32; PLACES],
     presses: &[u8; PRESSES],
     out: &mut [u32],
-) -> Parked
+) -> Result<usize, ParkRefusal>
     ensures { ParkedAs
         (shown_by (lent times.now positions.now codes.now places.now presses.now) panel)
         out.old out.new result }
 {
     let n = words_of(panel);
     if out.len() < n {
-        return Parked::Short;
+        return Err(ParkRefusal::ShortBuffer);
     }
     image_put(panel, times, positions, codes, places, presses, out);
-    Parked::Words(n)
+    Ok(n)
 }

@@ -1,6 +1,5 @@
 // Reading an image.
-ghost use Rattle.std.specs.Prelude.{◌≡◌, []};
-ghost use Rattle.std.proofs.Math.Option.{none};
+ghost use Rattle.std.specs.Prelude.{◌≡◌, [], None};
 ghost use Rattle.image.specs.Places.{bad_at};
 ghost use Rattle.image_form.specs.Form.{panel_code};
 ghost use Rattle.image_form.specs.Placed.{groups_place};
@@ -27,9 +26,10 @@ use key_state::keys::PRESSES;
 use panel::state::Panel;
 use pointer_events::{CODES, PLACES};
 
+// Both, and no Result of a panel: refused, the panel that was given is handed back, and the clause tells that it is that one.
 #[derive(Clone, Copy)]
 pub struct Restored {
-    pub refusal: ImageRefusal,
+    pub refusal: Result<(), ImageRefusal>,
     // refused, the panel that was given
     pub panel: Panel,
 }
@@ -41,7 +41,7 @@ fn pointer_at(
     places: &mut [f32; PLACES],
     words: &[u32],
 ) -> Pointer
-    requires { bad_at panel_code words.now groups_place ≡ none }
+    requires { bad_at panel_code words.now groups_place ≡ None }
     ensures { PointerHeld words.now
         (lent times.old positions.old codes.old places.old []) result
         (lent times.new positions.new codes.new places.new []) }
@@ -67,7 +67,7 @@ fn input_at(
     presses: &mut [u8; PRESSES],
     words: &[u32],
 ) -> InputState
-    requires { bad_at panel_code words.now groups_place ≡ none }
+    requires { bad_at panel_code words.now groups_place ≡ None }
     ensures { InputHeld words.now
         (lent times.old positions.old codes.old places.old presses.old) result
         (lent times.new positions.new codes.new places.new presses.new) }
@@ -96,7 +96,7 @@ fn panel_at(
     presses: &mut [u8; PRESSES],
     words: &[u32],
 ) -> Panel
-    requires { bad_at panel_code words.now groups_place ≡ none }
+    requires { bad_at panel_code words.now groups_place ≡ None }
     ensures { Held words.now
         (lent times.old positions.old codes.old places.old presses.old) result
         (lent times.new positions.new codes.new places.new presses.new) }
@@ -128,19 +128,19 @@ pub fn restore(
 {
     let refusal = check(words);
     match refusal {
-        ImageRefusal::None => {
+        Ok(()) => {
             let read = panel_at(times, positions, codes, places, presses, words);
             Restored {
-                refusal: ImageRefusal::None,
+                refusal: Ok(()),
                 panel: read,
             }
         }
-        ImageRefusal::FirstWord => Restored {
-            refusal: ImageRefusal::FirstWord,
+        Err(ImageRefusal::FirstWord) => Restored {
+            refusal: Err(ImageRefusal::FirstWord),
             panel: panel,
         },
-        ImageRefusal::Word(i) => Restored {
-            refusal: ImageRefusal::Word(i),
+        Err(ImageRefusal::Word(i)) => Restored {
+            refusal: Err(ImageRefusal::Word(i)),
             panel: panel,
         },
     }

@@ -1,4 +1,4 @@
-use Prim.Native.Nat.{◌≤◌, ◌-◌, ◌+◌}
+use Prim.Native.Nat.{◌≤◌, ◌+◌}
 use mathlib.Core.Path.{◌≡◌}
 use mathlib.Core.List.{map}
 use lib.ListN.{length, take}
@@ -10,6 +10,3 @@ use Rattle.image_devices.proofs.devices_at.Given as goal
 
 abbrev pub invariant-loop-i : goal.invariant-loop-i
 invariant-loop-i l = (l.i ≤ l.n) × (length l.ds.places ≡ 4) × (map device_view (take l.i l.ds.places) ≡ devices_of (rows_at 86 (key_at (value_at (device_code max_touches))) l.i l.words (l.at + 1)))
-
-abbrev pub decreases-loop-i : goal.decreases-loop-i
-decreases-loop-i l = l.n - l.i

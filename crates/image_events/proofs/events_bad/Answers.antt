@@ -1,16 +1,10 @@
-use Rattle.image_events.specs.Events.{event_code}
-use Rattle.image.specs.Places.{bad_at, rows_bad}
+use Rattle.image_words.specs.Leaves.{found}
+use Rattle.image.specs.Places.{bad_at, or_else}
 use Rattle.image.specs.Codes.{size}
-use Rattle.image.proofs.Lists.{or_else_under}
 use native.Mathlib.Numerals.{add-one}
-use mathlib.Core.Path.{ap₂}
-use Prim.Native.Nat.{ℕ}
+use mathlib.Core.Path.{sym, ap, ◌∙◌}
 use Rattle.image_events.proofs.events_bad.Goals as goal
 
 pub returns : goal.returns
-unfolding bad_at size
-returns c =
-    let a = c.args in
-    let k = c.table_count-n.ensures.1 in
-    rw (c.first.ensures, c.rows_bad.ensures, c.table_bad.ensures)
-    (or_else_under _ _ _ (λ e. ap₂ (λ (n i : ℕ). rows_bad 6 (bad_at event_code) n a.words.now i) (k e) (add-one a.at)))
+unfolding bad_at size or_else found
+returns c = let t = sym c.table_bad.ensures ∙ ap found c.in_ok-table_bad.was in rw (c.rows_bad.ensures, t, c.table_count-n.ensures.1 t, add-one)

@@ -1,29 +1,23 @@
+use borrow.Author.Rules.{rules}
+use Rattle.std.specs.Prelude.{Some}
 use Rattle.image_events.specs.Events.{event_code}
 use Rattle.image_words.specs.Leaves.{found}
-use Rattle.image.specs.Places.{or_else, bad_at}
-use Rattle.image.proofs.Lists.{check_row, check_end}
-use mathlib.Core.Path.{refl, sym, ◌∙◌}
+use Rattle.image.specs.Places.{bad_at}
+use Rattle.image.proofs.Lists.{row_right, row_wrong, rows_right}
+use mathlib.Core.Path.{◌≡◌, sym, ap, ◌∙◌}
 use native.Mathlib.Omega.{arith}
 use Rattle.image_events.proofs.rows_bad.Goals as goal
 
-pub loop-left-init : goal.loop-left-init
-unfolding found or_else
-loop-left-init c = (refl, refl)
+pub returns-in_err-event_bad : goal.returns-in_err-event_bad
+unfolding found
+returns-in_err-event_bad c =
+    let e : found c.from_residual.result ≡ Some c.in_err-event_bad.field-0.0 = search rules in
+    e ∙ sym (c.loop-i.invariant ∙ row_wrong 6 (bad_at event_code) _ _ _ _ c.loop-i-test.true _ (sym c.in_err-event_bad.ensures))
 
-pub event_bad-requires : goal.event_bad-requires
-event_bad-requires c = omega arith
-
-pub overflow_add-k : goal.overflow_add-k
-overflow_add-k c = omega arith
-
-pub overflow_sub-left : goal.overflow_sub-left
-overflow_sub-left c = omega arith
-
-pub loop-left-smaller : goal.loop-left-smaller
-loop-left-smaller c = omega arith
-
-pub loop-left-preserved : goal.loop-left-preserved
-loop-left-preserved c = let l = c.loop-left in (rw (c.first-bad.ensures, c.event_bad.ensures) (sym (check_row 6 (bad_at event_code) _ (found l.bad) l.left l.k c.loop-left-test.true) ∙ l.invariant.0), omega arith)
+pub loop-i-preserved : goal.loop-i-preserved
+unfolding found
+loop-i-preserved c = c.loop-i.invariant ∙ row_right 6 (bad_at event_code) _ _ _ _ c.loop-i-test.true (sym c.event_bad.ensures ∙ ap found c.in_ok-event_bad.was)
 
 pub returns : goal.returns
-returns c = let l = c.loop-left in sym (check_end 6 (bad_at event_code) _ (found l.bad) l.left l.k c.loop-left-test.false) ∙ l.invariant.0
+unfolding found
+returns c = sym (c.loop-i.invariant ∙ rows_right 6 (bad_at event_code) _ _ _ (omega arith))

@@ -1,11 +1,8 @@
 use Rattle.image_events.proofs.Rows.{written, EachIn}
-use Prim.Native.Nat.{◌≤◌, ◌-◌}
+use Prim.Native.Nat.{◌≤◌}
 use lib.Seq.{sets}
 use mathlib.Core.Path.{◌≡◌}
 use Rattle.image_events.proofs.rows_put.Given as goal
 
 abbrev pub invariant-loop-i : goal.invariant-loop-i
 invariant-loop-i l = (l.i ≤ l.n) × (l.out ≡ sets l.initial.out l.at (written l.codes l.positions l.i)) × EachIn l.codes l.positions l.i
-
-abbrev pub decreases-loop-i : goal.decreases-loop-i
-decreases-loop-i l = l.n - l.i

@@ -1,5 +1,59 @@
-use Rattle.image_fixed.proofs.Chain.{groups_bad}
+use borrow.Author.Rules.{rules}
+use Rattle.std.specs.Prelude.{Some}
+use mathlib.Core.Path.{◌≡◌}
+use Rattle.image.specs.Places.{or_else}
+use Rattle.image_words.specs.Leaves.{found}
+use Rattle.image_fixed.proofs.Chain.{fixed_chain}
 use Rattle.image_fixed.proofs.fixed_bad.Goals as goal
 
+pub returns-in_err-clock_bad : goal.returns-in_err-clock_bad
+unfolding found or_else
+returns-in_err-clock_bad c =
+    let e : found c.from_residual.result ≡ Some c.in_err-clock_bad.field-0.0 = search rules in
+    rw (e, fixed_chain, ← c.in_err-clock_bad.ensures)
+
+pub returns-in_err-screen_bad : goal.returns-in_err-screen_bad
+unfolding found or_else
+returns-in_err-screen_bad c =
+    let e : found c.from_residual-in_err-screen_bad.result ≡ Some c.in_err-screen_bad.field-0.0 = search rules in
+    rw (e, fixed_chain, ← c.in_ok-clock_bad.ensures, ← c.in_err-screen_bad.ensures)
+
+pub returns-in_err-place_bad : goal.returns-in_err-place_bad
+unfolding found or_else
+returns-in_err-place_bad c =
+    let e : found c.from_residual-in_err-place_bad.result ≡ Some c.in_err-place_bad.field-0.0 = search rules in
+    rw (e, fixed_chain, ← c.in_ok-clock_bad.ensures, ← c.in_ok-screen_bad.ensures, ← c.in_err-place_bad.ensures)
+
+pub returns-in_err-press_bad : goal.returns-in_err-press_bad
+unfolding found or_else
+returns-in_err-press_bad c =
+    let e : found c.from_residual-in_err-press_bad.result ≡ Some c.in_err-press_bad.field-0.0 = search rules in
+    rw (e, fixed_chain, ← c.in_ok-clock_bad.ensures, ← c.in_ok-screen_bad.ensures, ← c.in_ok-place_bad.ensures, ← c.in_err-press_bad.ensures)
+
+pub returns-in_err-wheel_bad : goal.returns-in_err-wheel_bad
+unfolding found or_else
+returns-in_err-wheel_bad c =
+    let e : found c.from_residual-in_err-wheel_bad.result ≡ Some c.in_err-wheel_bad.field-0.0 = search rules in
+    rw (e, fixed_chain, ← c.in_ok-clock_bad.ensures, ← c.in_ok-screen_bad.ensures, ← c.in_ok-place_bad.ensures, ← c.in_ok-press_bad.ensures, ← c.in_err-wheel_bad.ensures)
+
+pub returns-in_err-keys_bad : goal.returns-in_err-keys_bad
+unfolding found or_else
+returns-in_err-keys_bad c =
+    let e : found c.from_residual-in_err-keys_bad.result ≡ Some c.in_err-keys_bad.field-0.0 = search rules in
+    rw (e, fixed_chain, ← c.in_ok-clock_bad.ensures, ← c.in_ok-screen_bad.ensures, ← c.in_ok-place_bad.ensures, ← c.in_ok-press_bad.ensures, ← c.in_ok-wheel_bad.ensures, ← c.in_err-keys_bad.ensures)
+
+pub returns-in_err-sums_bad : goal.returns-in_err-sums_bad
+unfolding found or_else
+returns-in_err-sums_bad c =
+    let e : found c.from_residual-in_err-sums_bad.result ≡ Some c.in_err-sums_bad.field-0.0 = search rules in
+    rw (e, fixed_chain, ← c.in_ok-clock_bad.ensures, ← c.in_ok-screen_bad.ensures, ← c.in_ok-place_bad.ensures, ← c.in_ok-press_bad.ensures, ← c.in_ok-wheel_bad.ensures, ← c.in_ok-keys_bad.ensures, ← c.in_err-sums_bad.ensures)
+
+pub returns-in_err-interaction_bad : goal.returns-in_err-interaction_bad
+unfolding found or_else
+returns-in_err-interaction_bad c =
+    let e : found c.from_residual-in_err-interaction_bad.result ≡ Some c.in_err-interaction_bad.field-0.0 = search rules in
+    rw (e, fixed_chain, ← c.in_ok-clock_bad.ensures, ← c.in_ok-screen_bad.ensures, ← c.in_ok-place_bad.ensures, ← c.in_ok-press_bad.ensures, ← c.in_ok-wheel_bad.ensures, ← c.in_ok-keys_bad.ensures, ← c.in_ok-sums_bad.ensures, ← c.in_err-interaction_bad.ensures)
+
 pub returns : goal.returns
-returns c = rw (c.first-7.ensures, c.first-6.ensures, c.first-5.ensures, c.first-4.ensures, c.first-3.ensures, c.first-last.ensures, c.first-2.ensures, c.first.ensures) (groups_bad _ _ _ _ _ _ _ _ _ _ c.clock_bad-clock.ensures c.screen_bad-screen.ensures c.place_bad-place.ensures c.press_bad-press.ensures c.wheel_bad-wheel.ensures c.keys_bad-keys.ensures c.sums_bad-sums.ensures c.interaction_bad-interaction.ensures c.tally_bad-tally.ensures)
+unfolding found or_else
+returns c = rw (fixed_chain, ← c.in_ok-clock_bad.ensures, ← c.in_ok-screen_bad.ensures, ← c.in_ok-place_bad.ensures, ← c.in_ok-press_bad.ensures, ← c.in_ok-wheel_bad.ensures, ← c.in_ok-keys_bad.ensures, ← c.in_ok-sums_bad.ensures, ← c.in_ok-interaction_bad.ensures, c.tally_bad.ensures)

@@ -1,14 +1,10 @@
 use Rattle.image.specs.Places.{bad_at}
-use Rattle.image.specs.Codes.{size}
-use borrow.Author.Tests.{eq-eqb, ne_eqb}
+use Rattle.image.specs.Codes.{single, size}
+use Rattle.image_words.specs.Leaves.{any}
 use native.Mathlib.Numerals.{add-one}
-use mathlib.Core.Path.{sym, ◌∙◌}
+use mathlib.Core.Path.{refl}
 use Rattle.image_touches.proofs.force_bad.Goals as goal
 
-pub returns-then-word_at-eq0 : goal.returns-then-word_at-eq0
-unfolding bad_at size
-returns-then-word_at-eq0 c = rw (c.first.ensures, c.zeros_bad.ensures, c.flag_bad-flag.ensures, eq-eqb _ 0 (sym c.word_at.ensures ∙ c.if-word_at-eq0.true), add-one)
-
 pub returns : goal.returns
-unfolding bad_at size
-returns c = rw (c.first-2.ensures, c.single_bad.ensures, c.flag_bad-flag.ensures, ne_eqb _ 0 (λ e. c.if-word_at-eq0.false (c.word_at.ensures ∙ e)), add-one)
+unfolding size bad_at
+returns c = c.maybe_bad.ensures (single any) refl (rw (c.single_bad.ensures, add-one))

@@ -1,9 +1,8 @@
-use Rattle.image_touches.specs.Touches.{force_el}
 use Rattle.image.specs.Codes.{write, entry_words, option_words, zeros, size}
 use Rattle.image_touches.proofs.touch_words.Goals as goal
 
 pub returns-in-None : goal.returns-in-None
-unfolding write entry_words option_words zeros size force_el
+unfolding write entry_words option_words zeros size
 returns-in-None c =
     let g = c.in-None.is in (
       rw (g, c.single_word-y.ensures.0, c.single_word-x.ensures.0, c.low-l.ensures, c.high-h.ensures),
@@ -11,7 +10,7 @@ returns-in-None c =
     )
 
 pub returns-in-Some : goal.returns-in-Some
-unfolding write entry_words option_words zeros size force_el
+unfolding write entry_words option_words zeros size
 returns-in-Some c =
     let g = c.in-Some.is in (
       rw (g, c.single_word.ensures.0, c.single_word-y.ensures.0, c.single_word-x.ensures.0, c.low-l.ensures, c.high-h.ensures),

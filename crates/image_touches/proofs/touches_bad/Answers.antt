@@ -1,12 +1,13 @@
-use Rattle.image.specs.Places.{bad_at}
+use Rattle.image_words.specs.Leaves.{found}
+use Rattle.image.specs.Places.{bad_at, or_else}
 use Rattle.image.specs.Codes.{size}
-use Rattle.image.proofs.Lists.{or_else_under}
 use native.Mathlib.Numerals.{add-one}
+use mathlib.Core.Path.{sym, ap, ◌∙◌}
 use Rattle.image_touches.proofs.touches_bad.Goals as goal
 
 pub returns : goal.returns
-unfolding bad_at size
+unfolding bad_at size or_else found
 returns c =
-    let k = c.count_at-n.ensures.1 in
-    rw (c.first-2.ensures, c.first.ensures, c.zeros_bad-zeros.ensures, c.keys_bad-keys.ensures, c.word_bad-count.ensures)
-    (or_else_under _ _ _ (λ e. rw (k e, add-one)))
+    let t = sym c.word_bad.ensures ∙ ap found c.in_ok-word_bad.was in
+    let k = sym c.keys_bad.ensures ∙ ap found c.in_ok-keys_bad.was in
+    rw (c.zeros_bad.ensures, t, ← c.count_at-n.ensures.1 t, ← add-one c.args.at, k)

@@ -1,5 +1,12 @@
-use Rattle.image_words.specs.Leaves.{after}
+use Rattle.std.specs.Prelude.{None, Some}
+use Rattle.image_words.specs.Leaves.{ascending, seen_of}
+use mathlib.Core.Path.{refl}
 use Rattle.image_words.proofs.key_bad.Goals as goal
 
-pub returns : goal.returns
-returns c = let a = c.args in c.two.ensures (after a.first a.before) (rw c.two_at.ensures)
+pub returns-in-None : goal.returns-in-None
+unfolding ascending seen_of
+returns-in-None c = rw c.in-None.is (c.two.ensures (ascending (seen_of None)) refl)
+
+pub returns-in-Some : goal.returns-in-Some
+unfolding ascending seen_of
+returns-in-Some c = rw c.in-Some.is (c.two-in-Some.ensures (ascending (seen_of (Some c.in-Some.b))) (rw c.two_at.ensures))

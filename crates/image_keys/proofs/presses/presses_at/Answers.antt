@@ -3,7 +3,7 @@ use Rattle.image_keys.specs.Keys.{press_code}
 use Rattle.data.specs.Limits.{key_count}
 use Rattle.image.specs.Places.{value_at, rows_at}
 use lib.Seq.{take_all}
-use lib.ListN.{length-set}
+use lib.ListN.{length, length-set}
 use mathlib.Core.Path.{◌≡◌, refl, sym, ap, ◌∙◌}
 use native.Mathlib.Omega.{arith}
 use Prim.Native.Nat.{ℕ, ◌<◌, ◌%◌}
@@ -19,17 +19,14 @@ overflow_add-at c = omega arith
 pub bounds-presses-i : goal.bounds-presses-i
 bounds-presses-i c = omega arith
 
-pub overflow_add-i : goal.overflow_add-i
-overflow_add-i c = omega arith
-
 pub loop-i-smaller : goal.loop-i-smaller
 loop-i-smaller c = omega arith
 
 pub loop-i-preserved : goal.loop-i-preserved
 loop-i-preserved c =
     let l = c.loop-i in
-    let h = c.loop-i-test.true in
     let a = c.args in
+    let h : l.i < length l.presses = omega (arith, c.loop-i-test.true, l.invariant.1) in
     let ws = a.words.now in
     let i = l.i in
     let small : i < key_count = omega (arith, c.requires.0, l.invariant.1) in
@@ -44,4 +41,4 @@ returns c =
     let a = c.args in
     let l = c.loop-i in
     let e : l.i ≡ key_count = omega (arith, c.requires.0, l.invariant.0, l.invariant.1, c.loop-i-test.false) in
-    sym (take_all _ _ c.loop-i-test.false) ∙ l.invariant.2 ∙ ap (λ (k : ℕ). rows_at 1 (value_at press_code) k a.words.now a.at) e
+    sym (take_all _ _ (omega (arith, l.invariant.1, c.loop-i-test.false))) ∙ l.invariant.2 ∙ ap (λ (k : ℕ). rows_at 1 (value_at press_code) k a.words.now a.at) e

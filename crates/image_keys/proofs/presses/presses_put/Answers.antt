@@ -23,9 +23,6 @@ offset_bounds-out-at c = omega arith
 pub bounds-out-at : goal.bounds-out-at
 bounds-out-at c = rw (c.loop-i.invariant.1, length-sets) (omega arith)
 
-pub overflow_add-i : goal.overflow_add-i
-overflow_add-i c = omega arith
-
 pub loop-i-smaller : goal.loop-i-smaller
 loop-i-smaller c = omega arith
 

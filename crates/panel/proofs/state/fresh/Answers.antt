@@ -1,12 +1,11 @@
 use mathlib.Core.Path.{refl}
 use Rattle.model.specs.Pass.{fresh, no_interaction}
 use Rattle.key_state.proofs.Steps.{cleared}
-use Rattle.id_set.specs.Ids.{option_of}
 use Rattle.interaction_state.specs.View.{interaction_of}
 use Rattle.panel.proofs.state.fresh.Goals as goal
 
 pub returns : goal.returns
-unfolding fresh no_interaction option_of interaction_of
+unfolding fresh no_interaction interaction_of
 returns c =
     record {
       no_press = refl;

@@ -6,10 +6,10 @@ use Rattle.parking.proofs.check.check.Goals as goal
 pub returns-then-word_at-ne-FIRST_WORD : goal.returns-then-word_at-ne-FIRST_WORD
 returns-then-word_at-ne-FIRST_WORD c = ne_eqb _ _ (λ e. c.if-word_at-ne-FIRST_WORD.true (e ∙ sym c.word_at.ensures))
 
-pub returns-in-None : goal.returns-in-None
+pub returns-in-Ok : goal.returns-in-Ok
 unfolding found
-returns-in-None c = (eq-eqb _ _ (c.if-word_at-ne-FIRST_WORD.false ∙ c.word_at.ensures), sym c.groups_bad-bad.ensures ∙ ap found c.in-None.is)
+returns-in-Ok c = (eq-eqb _ _ (c.if-word_at-ne-FIRST_WORD.false ∙ c.word_at.ensures), sym c.groups_bad-bad.ensures ∙ ap found c.in-Ok.is)
 
-pub returns-in-Some : goal.returns-in-Some
+pub returns-in-Err : goal.returns-in-Err
 unfolding found
-returns-in-Some c = (eq-eqb _ _ (c.if-word_at-ne-FIRST_WORD.false ∙ c.word_at.ensures), sym c.groups_bad-bad.ensures ∙ ap found c.in-Some.is)
+returns-in-Err c = (eq-eqb _ _ (c.if-word_at-ne-FIRST_WORD.false ∙ c.word_at.ensures), sym c.groups_bad-bad.ensures ∙ ap found c.in-Err.is)

@@ -1,0 +1,5 @@
+use Rattle.data.specs.Limits.{unit_interval_ok}
+use Rattle.image_clock.proofs.predicted_bad.Goals as goal
+
+pub returns : goal.returns
+returns c = c.single_in_bad.ensures unit_interval_ok (rw (c.unit_interval_ok-ok.ensures, c.single_at.ensures))

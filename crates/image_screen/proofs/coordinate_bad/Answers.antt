@@ -1,0 +1,5 @@
+use Rattle.data.specs.Limits.{coordinate_ok}
+use Rattle.image_screen.proofs.coordinate_bad.Goals as goal
+
+pub returns : goal.returns
+returns c = c.single_in_bad.ensures coordinate_ok (rw (c.coordinate_ok.ensures, c.single_at.ensures))
