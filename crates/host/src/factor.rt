@@ -1,7 +1,7 @@
 // The factor of a zoom exponent (02 A.5).
 ghost use Rattle.host.specs.Factor.{Factors};
 
-use zoom_factor::{ZoomAnswer, zoom_factor};
+use zoom_factor::zoom_factor;
 
 // `number` 0, and the factor; or 02's number of the refusal, and 0.
 #[repr(C)]
@@ -18,8 +18,8 @@ pub extern "C" fn fivvarul_zoom_factor(exponent: f32) -> HostFactor
 {
     let answer = zoom_factor(exponent);
     match answer {
-        ZoomAnswer::Factor(factor) => HostFactor { factor, number: 0 },
-        ZoomAnswer::Refused(q) => HostFactor {
+        Ok(factor) => HostFactor { factor, number: 0 },
+        Err(q) => HostFactor {
             factor: 0.0,
             number: q.number(),
         },

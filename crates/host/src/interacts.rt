@@ -10,7 +10,6 @@ use data::limits::MAX_DEVICES;
 use host_input::places::{COUNTS, DEVICES, FLAGS, FLOATS, SECONDS};
 use host_interact::{HELD, HostSnapshot, answered, hit, refused};
 use host_touch::{FLAGS as DEVICE_FLAGS, FLOATS as DEVICE_FLOATS, IDS};
-use interaction_state::state::Interacted;
 use key_state::keys::PRESSES;
 use pointer_events::CODES;
 use widget_index::table::{Numbers, WidgetRects, Words};
@@ -111,8 +110,8 @@ pub extern "C" fn fivvarul_interact(
         all,
     );
     match a {
-        Interacted::Refused(q) => refused(q),
-        Interacted::Taken(answer) => {
+        Err(q) => refused(q),
+        Ok(answer) => {
             let after = answer.interaction;
             let snapshot = answer.snapshot;
             *held_ids = host_interact::ids(after);

@@ -12,7 +12,7 @@ use kernel_touch::slots::KernelTouches;
 pub extern "C" fn fivvarul_kernel_fresh() -> KernelTouches
     ensures { result ≡ fresh }
 {
-    kernel_touch::slots::fresh()
+    KernelTouches::fresh()
 }
 
 // The bytes of a call become events of `device` in the feed buffer. Refused, every place of the buffer is as before.

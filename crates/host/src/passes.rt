@@ -3,13 +3,13 @@ ghost use Rattle.input_state.specs.View.{lent};
 ghost use Rattle.host_pass.specs.Memory.{memory, Passes};
 
 use data::limits::MAX_DEVICES;
+use data::refusal::PassRefusal;
 use emath_history::history::{MAX_LEN, PARTS};
 use host_input::places::{COUNTS, DEVICES, FLAGS, FLOATS, KEYS, SECONDS};
 use host_pass::{HostPass, HostRefusal, pass_input, refused, taken};
 use host_touch::{FLAGS as DEVICE_FLAGS, FLOATS as DEVICE_FLOATS, IDS};
 use key_state::keys::PRESSES;
 use pointer_events::{CODES, PLACES};
-use survey::reading::MaybePassRefusal;
 
 // Refused, with every place as before; or taken.
 #[unsafe(no_mangle)]
@@ -71,8 +71,8 @@ pub extern "C" fn fivvarul_pass(
     );
     let refusal = begun.refusal;
     match refusal {
-        MaybePassRefusal::Some(q) => refused(q),
-        MaybePassRefusal::None => {
+        Err(q) => refused(q),
+        Ok(()) => {
             let state = begun.state;
             let after = begun.devices;
             let n = host_touch::all::keep_all(

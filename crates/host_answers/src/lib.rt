@@ -1,22 +1,19 @@
 // An answer as it crosses to the host: a record of plain numbers. Where `given` is false there is none, and the other fields are 0.
 #![tactic(auto)]
 
-ghost use Rattle.std.specs.Prelude.{◌≡◌};
-ghost use Rattle.model.specs.Types.{no_info, some_info};
+ghost use Rattle.std.specs.Prelude.{◌≡◌, None, Some};
 ghost use Rattle.host_answers.specs.Answers.{vector_of, maybe_vector_of, position_of, seconds_of, number_of, id_of, source_of, zoom_of, zoom_2d_of, rotation_of, gesture_of, event_of, widget_of, order_of, layer_of};
 
 use data::layers::LayerId;
-use data::mouse_wheel::MaybeMouseWheelSource;
-use data::pointer::MaybeF64;
-use data::touch::{MaybeF32, MaybeMultiTouchInfo, MultiTouchInfo, Rotation};
+use data::mouse_wheel::MouseWheelSource;
+use data::pointer::PointerEvent;
+use data::touch::{MultiTouchInfo, Rotation};
 use data::widget::WidgetRect;
-use emath::pos2::{MaybePos2, Pos2};
+use emath::pos2::Pos2;
 use emath::rect::Rect;
-use emath::vec2::{MaybeVec2, Vec2};
-use id_set::MaybeId;
-use pointer_events::{MaybePointerEvent, entry_of};
+use emath::vec2::Vec2;
+use pointer_events::entry_of;
 use scroll_questions::zoom::{Zoom, Zoom2d};
-use widget_rect::questions::{MaybeLayerId, MaybeOrder, MaybeWidgetRect};
 
 // Vec2
 #[repr(C)]
@@ -166,16 +163,16 @@ pub fn vector(v: Vec2) -> HostVector
     HostVector { x: v.x, y: v.y }
 }
 
-pub fn maybe_vector(v: MaybeVec2) -> HostMaybeVector
+pub fn maybe_vector(v: Option<Vec2>) -> HostMaybeVector
     ensures { maybe_vector_of result ≡ v }
 {
     match v {
-        MaybeVec2::None => HostMaybeVector {
+        None => HostMaybeVector {
             x: 0.0,
             y: 0.0,
             given: false,
         },
-        MaybeVec2::Some(w) => HostMaybeVector {
+        Some(w) => HostMaybeVector {
             x: w.x,
             y: w.y,
             given: true,
@@ -183,16 +180,16 @@ pub fn maybe_vector(v: MaybeVec2) -> HostMaybeVector
     }
 }
 
-pub fn position(p: MaybePos2) -> HostPosition
+pub fn position(p: Option<Pos2>) -> HostPosition
     ensures { position_of result ≡ p }
 {
     match p {
-        MaybePos2::None => HostPosition {
+        None => HostPosition {
             x: 0.0,
             y: 0.0,
             given: false,
         },
-        MaybePos2::Some(q) => HostPosition {
+        Some(q) => HostPosition {
             x: q.x,
             y: q.y,
             given: true,
@@ -200,51 +197,51 @@ pub fn position(p: MaybePos2) -> HostPosition
     }
 }
 
-pub fn seconds(t: MaybeF64) -> HostSeconds
+pub fn seconds(t: Option<f64>) -> HostSeconds
     ensures { seconds_of result ≡ t }
 {
     match t {
-        MaybeF64::None => HostSeconds {
+        None => HostSeconds {
             value: 0.0,
             given: false,
         },
-        MaybeF64::Some(value) => HostSeconds { value, given: true },
+        Some(value) => HostSeconds { value, given: true },
     }
 }
 
-pub fn number(x: MaybeF32) -> HostNumber
+pub fn number(x: Option<f32>) -> HostNumber
     ensures { number_of result ≡ x }
 {
     match x {
-        MaybeF32::None => HostNumber {
+        None => HostNumber {
             value: 0.0,
             given: false,
         },
-        MaybeF32::Some(value) => HostNumber { value, given: true },
+        Some(value) => HostNumber { value, given: true },
     }
 }
 
-pub fn id(d: MaybeId) -> HostId
+pub fn id(d: Option<u64>) -> HostId
     ensures { id_of result ≡ d }
 {
     match d {
-        MaybeId::None => HostId {
+        None => HostId {
             id: 0,
             given: false,
         },
-        MaybeId::Some(id) => HostId { id, given: true },
+        Some(id) => HostId { id, given: true },
     }
 }
 
-pub fn source(s: MaybeMouseWheelSource) -> HostSource
+pub fn source(s: Option<MouseWheelSource>) -> HostSource
     ensures { source_of result ≡ s }
 {
     match s {
-        MaybeMouseWheelSource::None => HostSource {
+        None => HostSource {
             number: 0,
             given: false,
         },
-        MaybeMouseWheelSource::Some(x) => HostSource {
+        Some(x) => HostSource {
             number: x.number(),
             given: true,
         },
@@ -297,7 +294,7 @@ pub fn rotation(a: Rotation) -> HostRotation
 }
 
 fn no_gesture() -> HostGesture
-    ensures { gesture_of result ≡ no_info }
+    ensures { gesture_of result ≡ None }
 {
     let pos = Pos2::zero();
     let none = HostVector { x: 0.0, y: 0.0 };
@@ -317,7 +314,7 @@ fn no_gesture() -> HostGesture
 }
 
 fn some_gesture(g: MultiTouchInfo) -> HostGesture
-    ensures { gesture_of result ≡ some_info g }
+    ensures { gesture_of result ≡ Some g }
 {
     let start_pos = g.start_pos;
     let center_pos = g.center_pos;
@@ -344,20 +341,20 @@ fn some_gesture(g: MultiTouchInfo) -> HostGesture
     }
 }
 
-pub fn gesture(a: MaybeMultiTouchInfo) -> HostGesture
+pub fn gesture(a: Option<MultiTouchInfo>) -> HostGesture
     ensures { gesture_of result ≡ a }
 {
     match a {
-        MaybeMultiTouchInfo::None => no_gesture(),
-        MaybeMultiTouchInfo::Some(g) => some_gesture(g),
+        None => no_gesture(),
+        Some(g) => some_gesture(g),
     }
 }
 
-pub fn event(e: MaybePointerEvent) -> HostPointerEvent
+pub fn event(e: Option<PointerEvent>) -> HostPointerEvent
     ensures { event_of result ≡ e }
 {
     match e {
-        MaybePointerEvent::None => {
+        None => {
             let pos = Pos2::zero();
             HostPointerEvent {
                 kind: 0,
@@ -368,7 +365,7 @@ pub fn event(e: MaybePointerEvent) -> HostPointerEvent
                 given: false,
             }
         }
-        MaybePointerEvent::Some(x) => {
+        Some(x) => {
             let entry = entry_of(x);
             let pos = entry.pos;
             HostPointerEvent {
@@ -402,29 +399,29 @@ fn no_widget() -> WidgetRect {
     }
 }
 
-pub fn widget(w: MaybeWidgetRect) -> HostWidget
+pub fn widget(w: Option<WidgetRect>) -> HostWidget
     ensures { widget_of result ≡ w }
 {
     match w {
-        MaybeWidgetRect::None => {
+        None => {
             let widget = no_widget();
             HostWidget {
                 widget,
                 given: false,
             }
         }
-        MaybeWidgetRect::Some(widget) => HostWidget {
+        Some(widget) => HostWidget {
             widget,
             given: true,
         },
     }
 }
 
-pub fn order(o: MaybeOrder) -> HostOrder
+pub fn order(o: Option<(LayerId, usize)>) -> HostOrder
     ensures { order_of result ≡ o }
 {
     match o {
-        MaybeOrder::None => {
+        None => {
             let layer = LayerId { order: 0, id: 0 };
             HostOrder {
                 layer,
@@ -432,7 +429,7 @@ pub fn order(o: MaybeOrder) -> HostOrder
                 given: false,
             }
         }
-        MaybeOrder::Some(layer, position) => HostOrder {
+        Some((layer, position)) => HostOrder {
             layer,
             position,
             given: true,
@@ -440,17 +437,17 @@ pub fn order(o: MaybeOrder) -> HostOrder
     }
 }
 
-pub fn layer(l: MaybeLayerId) -> HostLayer
+pub fn layer(l: Option<LayerId>) -> HostLayer
     ensures { layer_of result ≡ l }
 {
     match l {
-        MaybeLayerId::None => {
+        None => {
             let layer = LayerId { order: 0, id: 0 };
             HostLayer {
                 layer,
                 given: false,
             }
         }
-        MaybeLayerId::Some(layer) => HostLayer { layer, given: true },
+        Some(layer) => HostLayer { layer, given: true },
     }
 }

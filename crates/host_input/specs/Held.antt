@@ -1,15 +1,13 @@
 -- The input state that the host's arrays hold: `ts` are seconds, `fs` floats, `ns` counts, `bs` flags, `ks` the keys that are down.
 -- Any contents mean some state.
-use Rattle.std.specs.Prelude.{ℕ, ◌+◌, Bool, false, List, get_or, Float}
+use Rattle.std.specs.Prelude.{ℕ, ◌+◌, Bool, false, List, get_or, Float, Option}
 use Rattle.std.specs.Float.{nan}
-use Rattle.model.specs.Types.{Pos2, MaybePos2, Vec2, Rect, Modifiers, InputOptions, ButtonsDown, WheelState}
+use Rattle.model.specs.Types.{Pos2, Vec2, Modifiers, InputOptions, ButtonsDown, WheelState}
 use Rattle.model.specs.Pointer.{buttons}
-use Rattle.emath_history.specs.declared.history.History.{History}
 use Rattle.pointer_place.specs.declared.Place.{Place}
 use Rattle.pointer_clicks.specs.declared.Held.{Held}
 use Rattle.pointer_clicks.specs.declared.ClickPast.{ClickPast}
 use Rattle.pointer_state.specs.declared.press.Press.{Press}
-use Rattle.key_state.specs.declared.bits.Set256.{Set256}
 use Rattle.key_state.specs.declared.keys.Keys.{Keys}
 use Rattle.input_state.specs.declared.clock.Clock.{Clock}
 use Rattle.input_state.specs.declared.screen.Screen.{Screen}
@@ -26,7 +24,7 @@ pos_at fs i = record { x = get_or fs i nan; y = get_or fs (i + 1) nan }
 abbrev pub vec_at : List Float → ℕ → Vec2
 vec_at fs i = record { x = get_or fs i nan; y = get_or fs (i + 1) nan }
 
-abbrev pub maybe_pos_at : Bool → List Float → ℕ → MaybePos2
+abbrev pub maybe_pos_at : Bool → List Float → ℕ → Option Pos2
 maybe_pos_at given fs i = pos_of given (get_or fs i nan) (get_or fs (i + 1) nan)
 
 -- 01's order of the bits

@@ -9,7 +9,7 @@ use data::modifiers::Modifiers;
 use data::mouse_wheel::WheelState;
 use data::options::InputOptions;
 use data::pointer::ButtonsDown;
-use emath::pos2::{MaybePos2, Pos2};
+use emath::pos2::Pos2;
 use emath::rect::Rect;
 use emath::vec2::Vec2;
 use emath_history::history::History;
@@ -47,7 +47,7 @@ fn vec_at(floats: &[f32; FLOATS], at: usize) -> Vec2
     }
 }
 
-fn maybe_pos_at(given: bool, floats: &[f32; FLOATS], at: usize) -> MaybePos2
+fn maybe_pos_at(given: bool, floats: &[f32; FLOATS], at: usize) -> Option<Pos2>
     requires { at + 1 < float_count }
     ensures { result ≡ maybe_pos_at given floats.now at }
 {

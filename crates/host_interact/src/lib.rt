@@ -6,9 +6,8 @@ ghost use Rattle.host_interact.specs.Held.{hit_of, maybe_id, id_or_zero, id_give
 ghost use Rattle.host_interact.specs.Answers.{index_of, refusal_of, snapshot_of};
 
 use data::refusal::InteractRefusal;
-use hit_lists::{Hit, MaybeHit};
+use hit_lists::Hit;
 use host_answers::{HostId, id};
-use id_set::MaybeId;
 use interaction_state::state::{Interaction, InteractionSnapshot};
 
 // The places of the interaction in the two arrays.
@@ -38,23 +37,23 @@ pub struct HostSnapshot {
 
 // ---- read
 
-pub fn hit(given: bool, id: u64, sense: u64) -> MaybeHit
+pub fn hit(given: bool, id: u64, sense: u64) -> Option<Hit>
     ensures { result ≡ hit_of given id sense }
 {
     if given {
         let h = Hit { id, sense };
-        return MaybeHit::Some(h);
+        return Some(h);
     }
-    MaybeHit::None
+    None
 }
 
-fn maybe_id(given: bool, d: u64) -> MaybeId
+fn maybe_id(given: bool, d: u64) -> Option<u64>
     ensures { result ≡ maybe_id given d }
 {
     if given {
-        return MaybeId::Some(d);
+        return Some(d);
     }
-    MaybeId::None
+    None
 }
 
 pub fn interaction(ids: &[u64; HELD], flags: &[bool; HELD]) -> Interaction
@@ -72,21 +71,21 @@ pub fn interaction(ids: &[u64; HELD], flags: &[bool; HELD]) -> Interaction
 
 // ---- written
 
-fn id_or_zero(d: MaybeId) -> u64
+fn id_or_zero(d: Option<u64>) -> u64
     ensures { result ≡ id_or_zero d }
 {
     match d {
-        MaybeId::None => 0,
-        MaybeId::Some(x) => x,
+        None => 0,
+        Some(x) => x,
     }
 }
 
-fn id_given(d: MaybeId) -> bool
+fn id_given(d: Option<u64>) -> bool
     ensures { result ≡ id_given d }
 {
     match d {
-        MaybeId::None => false,
-        MaybeId::Some(_) => true,
+        None => false,
+        Some(_) => true,
     }
 }
 

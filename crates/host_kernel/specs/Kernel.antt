@@ -1,15 +1,15 @@
 -- What crosses to the host of an answer of `read_records`.
-use Rattle.std.specs.Prelude.{ℕ, ◌≡◌, List}
-use Rattle.kernel_touch.specs.declared.answer.KernelAnswer.{KernelAnswer}
-use Rattle.kernel_touch.specs.declared.answer.KernelAnswer.TheVariants.{Taken, Refused}
+use Rattle.std.specs.Prelude.{ℕ, ◌≡◌, List, Result, Ok, Err}
+use Rattle.kernel_touch.specs.declared.answer.KernelRefusal.{KernelRefusal}
+use Rattle.kernel_touch.specs.declared.answer.Taken.{Taken}
 use Rattle.kernel_touch.specs.declared.answer.KernelRead.{KernelRead}
 use Rattle.kernel_touch.specs.declared.slots.KernelTouches.{KernelTouches}
 use Rattle.kernel_read.specs.Read.{kernel_row, Reads}
 use Rattle.host_kernel.specs.declared.HostKernelRead.{HostKernelRead}
 
-abbrev pub Answers : KernelAnswer → HostKernelRead → Type 0
-Answers (Taken words dropped) r = (r.number ≡ 0) × (r.words ≡ words) × (r.dropped ≡ dropped)
-Answers (Refused q) r = r.number ≡ (kernel_row q).number
+abbrev pub Answers : Result Taken KernelRefusal → HostKernelRead → Type 0
+Answers (Ok t) r = (r.number ≡ 0) × (r.words ≡ t.words) × (r.dropped ≡ t.dropped)
+Answers (Err q) r = r.number ≡ (kernel_row q).number
 
 pub record Crosses (read : KernelRead) (r : HostKernelRead) : Type 0 where
   pub kernel : r.kernel ≡ read.kernel

@@ -5,12 +5,12 @@ ghost use Rattle.std.specs.Prelude.{◌≡◌};
 ghost use Rattle.kernel_read.specs.Read.{kernel_row};
 ghost use Rattle.host_kernel.specs.Kernel.{Crosses};
 
-use kernel_touch::answer::{KernelAnswer, KernelRead, KernelRefusal};
+use kernel_touch::answer::{KernelRead, KernelRefusal, Taken};
 use kernel_touch::slots::KernelTouches;
 
-// `number` 0: the words written to the feed, and whether the records held a 'dropped'. Else 02's number of the refusal; `kernel` is as before then.
+// `number` 0: the words written to the feed, and whether the records held a 'dropped'. Else 02's number of the refusal; `kernel` is as before then. C reads the number and the values beside it.
 #[repr(C)]
-#[derive(Clone, Copy)]
+#[derive(Clone, Copy, Debug, PartialEq, Eq)]
 pub struct HostKernelRead {
     pub kernel: KernelTouches,
     pub number: u32,
@@ -18,6 +18,7 @@ pub struct HostKernelRead {
     pub dropped: bool,
 }
 
+// The number that C reads of a refusal.
 fn number(q: KernelRefusal) -> u32
     ensures { result ≡ (kernel_row q).number }
 {
@@ -33,15 +34,14 @@ pub fn crossing(read: KernelRead) -> HostKernelRead
     ensures { Crosses read result }
 {
     let kernel = read.kernel;
-    let answer = read.answer;
-    match answer {
-        KernelAnswer::Taken(words, dropped) => HostKernelRead {
+    match read.answer {
+        Ok(Taken { words, dropped }) => HostKernelRead {
             kernel,
             number: 0,
             words,
             dropped,
         },
-        KernelAnswer::Refused(q) => HostKernelRead {
+        Err(q) => HostKernelRead {
             kernel,
             number: number(q),
             words: 0,

@@ -1,16 +1,15 @@
 -- A pass of what the memory holds, from `panel`'s pass of the records that were read from it. Assumes nothing.
+use Rattle.std.specs.Prelude.{Option, None, Some, Ok, Err}
 use Prim.Native.Nat.{ℕ}
 use mathlib.Core.Path.{◌≡◌, refl, sym, ap, subst, ◌∙◌}
 use mathlib.Core.Bool.{Bool, true, false}
 use mathlib.Core.List.{List}
-use mathlib.Core.Option.{Option, none, some}
 use Rattle.model.specs.Types.{PassRefusal}
 use Rattle.model.specs.Touch.{TouchState, InOrder}
 use Rattle.model.specs.Pass as Model
 use Rattle.touches.proofs.Upsert.{no}
 use Rattle.touch_state.specs.declared.devices.Devices.{Devices}
 use Rattle.touch_state.specs.View.{view}
-use Rattle.survey.specs.declared.reading.MaybePassRefusal.TheVariants.{None as taken, Some as refused}
 use Rattle.survey.specs.Survey.{option, fits_events}
 use Rattle.input_state.specs.declared.input.PassInput.{PassInput}
 use Rattle.input_state.specs.declared.state.InputState.{InputState}
@@ -33,10 +32,10 @@ use Rattle.host_pass.specs.Given.{given_of, answer_of}
 use Rattle.host_pass.specs.Memory.{Memory, state, devices, refusal, Passes}
 
 is_some : Option PassRefusal → Bool
-is_some none = false
-is_some (some q) = true
+is_some None = false
+is_some (Some q) = true
 
-some_none : {P : Type 0} (q : PassRefusal) → some q ≡ none → P
+some_none : {P : Type 0} (q : PassRefusal) → Some q ≡ None → P
 unfolding is_some
 some_none q e = no (sym (ap is_some e))
 
@@ -75,10 +74,10 @@ module _ (g : HostPass) (ws : List ℕ) (l l' : Lent) (m : Memory) (s : InputSta
       ∙ passed.whole (in_order_before o) n t
       ∙ ap (λ vs. Model.pass (panel l (state m) vs n t) (input ws (given_of g))) ed
 
-  pub when_refused : (q : PassRefusal) (r : HostRefusal) → b.refusal ≡ refused q → r ≡ goal.refusal_of q → Passes g ws l m l' m r
+  pub when_refused : (q : PassRefusal) (r : HostRefusal) → b.refusal ≡ Err q → r ≡ goal.refusal_of q → Passes g ws l m l' m r
   unfolding option
   when_refused q r e-refusal e-told =
-      let is_refused : refusal g ws m ≡ some q = sym told_is ∙ ap option e-refusal in
+      let is_refused : refusal g ws m ≡ Some q = sym told_is ∙ ap option e-refusal in
       let kept = passed.refused (λ e. some_none q (sym is_refused ∙ sym same_refusal ∙ e)) in
       record {
         answer = e-told ∙ ap answer_of (sym is_refused);
@@ -89,11 +88,11 @@ module _ (g : HostPass) (ws : List ℕ) (l l' : Lent) (m : Memory) (s : InputSta
         in_order = λ o. o;
       }
 
-  pub when_taken : (m' : Memory) (r : HostRefusal) → b.refusal ≡ taken → r ≡ answer_of none → state m' ≡ b.state → devices m' ≡ view b.devices
+  pub when_taken : (m' : Memory) (r : HostRefusal) → b.refusal ≡ (Ok tt) → r ≡ answer_of None → state m' ≡ b.state → devices m' ≡ view b.devices
       → Passes g ws l m l' m' r
   unfolding option
   when_taken m' r e-refusal e-told e-state e-devices =
-      let is_taken : refusal g ws m ≡ none = sym told_is ∙ ap option e-refusal in
+      let is_taken : refusal g ws m ≡ None = sym told_is ∙ ap option e-refusal in
       record {
         answer = e-told ∙ ap answer_of (sym is_taken);
         refused = λ e. absurd (e is_taken);
@@ -112,7 +111,7 @@ module _ (g : HostPass) (ws : List ℕ) (l l' : Lent) (m : Memory) (s : InputSta
       }
 
   -- a pass keeps the number of buttons down true
-  still_true : refusal g ws m ≡ none → CountTrue b.state.pointer.press.held.down
+  still_true : refusal g ws m ≡ None → CountTrue b.state.pointer.press.held.down
   unfolding begin_by press_pass clear_events
   still_true e =
       let p = panel l (state m) (view ds) Model.no_interaction 0 in
@@ -124,7 +123,7 @@ module _ (g : HostPass) (ws : List ℕ) (l l' : Lent) (m : Memory) (s : InputSta
       (events_count i.options (Model.time_of i p.clock.time) (Model.pass_events i) (record { held = clear_events p.press.held; past = p.press.past })
       (held_true m.seconds m.floats m.counts m.flags m.keys_down))
 
-  pub when_kept : (m' : Memory) (r : HostRefusal) (n : ℕ) → b.refusal ≡ taken → r ≡ answer_of none
+  pub when_kept : (m' : Memory) (r : HostRefusal) (n : ℕ) → b.refusal ≡ (Ok tt) → r ≡ answer_of None
       → m'.seconds ≡ seconds_of b.state → m'.floats ≡ floats_of b.state → m'.counts ≡ counts_of b.state n
       → m'.flags ≡ flags_of b.state → m'.keys_down ≡ keys_of b.state
       → known_of n m'.starts m'.ids0 m'.floats0 m'.flags0 m'.ids1 m'.floats1 m'.flags1 m'.ids2 m'.floats2 m'.flags2 m'.ids3 m'.floats3 m'.flags3 ≡ view b.devices

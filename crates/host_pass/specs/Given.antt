@@ -1,18 +1,16 @@
 -- What a pass is given by the host, and what it answers the host.
-use Rattle.std.specs.Prelude.{ℕ, Bool, cond, Float}
-use Rattle.std.proofs.Math.Option.{Option, none, some}
+use Rattle.std.specs.Prelude.{ℕ, Bool, cond, Float, Option, None, Some}
 use Rattle.data.specs.Numbers.{pass_refusal_number}
 use Rattle.data.specs.Modifiers.{modifiers_of}
 use Rattle.model.specs.Types.{PassRefusal, Malformed, OutsideDomain, TimeBelow, TooManyEvents, NoPlace}
-use Rattle.input_state.specs.declared.input.MaybeRect.{MaybeRect}
-use Rattle.input_state.specs.declared.input.MaybeRect.TheVariants.{None as no_rect, Some as some_rect}
+use Rattle.emath.specs.declared.rect.Rect.{Rect}
 use Rattle.input_state.specs.declared.input.PassInput.{PassInput}
 use Rattle.host_values.specs.Values.{time_of}
 use Rattle.host_pass.specs.declared.HostPass.{HostPass}
 use Rattle.host_pass.specs.declared.HostRefusal.{HostRefusal}
 
-abbrev pub rect_of : Bool → Float → Float → Float → Float → MaybeRect
-rect_of given a b c d = cond given (some_rect (record { min = record { x = a; y = b }; max = record { x = c; y = d } })) no_rect
+abbrev pub rect_of : Bool → Float → Float → Float → Float → Option Rect
+rect_of given a b c d = cond given (Some (record { min = record { x = a; y = b }; max = record { x = c; y = d } })) None
 
 abbrev pub given_of : HostPass → PassInput
 given_of g =
@@ -51,5 +49,5 @@ refusal_of q = record { number = pass_refusal_number q; index = index_of q }
 
 -- 0 and 0 where it is taken
 abbrev pub answer_of : Option PassRefusal → HostRefusal
-answer_of none = record { number = 0; index = 0 }
-answer_of (some q) = refusal_of q
+answer_of None = record { number = 0; index = 0 }
+answer_of (Some q) = refusal_of q

@@ -1,6 +1,5 @@
 -- What the host's arrays hold between two calls.
-use Rattle.std.specs.Prelude.{ℕ, ◌≡◌, Bool, List, [], get_or, replicate, Float}
-use Rattle.std.proofs.Math.Option.{Option, none}
+use Rattle.std.specs.Prelude.{ℕ, ◌≡◌, Bool, List, [], get_or, replicate, Float, Option, None}
 use Rattle.model.specs.Types.{PassRefusal}
 use Rattle.model.specs.Touch.{TouchState, InOrder}
 use Rattle.data.specs.Limits.{key_count}
@@ -93,11 +92,11 @@ pub record Passes (g : HostPass) (ws : List ℕ) (l : Lent) (m : Memory) (l' : L
   -- 01's number and index of the refusal, or zeros
   pub answer : r ≡ answer_of (refusal g ws m)
   -- refused: every place is as before
-  pub refused : (refusal g ws m ≡ none → ⊥) → (m' ≡ m) × (l' ≡ l)
+  pub refused : (refusal g ws m ≡ None → ⊥) → (m' ≡ m) × (l' ≡ l)
   -- taken: the model's `begin_pass` of the feed's events
-  pub taken : refusal g ws m ≡ none → (n : Model.Interaction) (t : ℕ) → panel l' (state m') (devices m') n t ≡ begun g ws l m n t
+  pub taken : refusal g ws m ≡ None → (n : Model.Interaction) (t : ℕ) → panel l' (state m') (devices m') n t ≡ begun g ws l m n t
   -- and every place of the lent arrays
-  pub storage : refusal g ws m ≡ none → (n : Model.Interaction) (t : ℕ) → Storage (Model.pass_events (input ws (given_of g))) (begun g ws l m n t) l (state m) l'
+  pub storage : refusal g ws m ≡ None → (n : Model.Interaction) (t : ℕ) → Storage (Model.pass_events (input ws (given_of g))) (begun g ws l m n t) l (state m) l'
   -- of devices in order, refused or taken: the model's `pass`
   pub whole : InOrder (devices m) → (n : Model.Interaction) (t : ℕ) →
       outcome (refusal g ws m) (panel l' (state m') (devices m') n t) ≡ Model.pass (panel l (state m) (devices m) n t) (input ws (given_of g))

@@ -1,8 +1,7 @@
 // What a pass is given beside its feed, and the answer that it gives, as they cross to and from the host.
 #![tactic(auto)]
 
-ghost use Rattle.std.specs.Prelude.{◌≡◌};
-ghost use Rattle.std.proofs.Math.Option.{none};
+ghost use Rattle.std.specs.Prelude.{◌≡◌, None};
 ghost use Rattle.host_pass.specs.Given.{rect_of, given_of, index_of, refusal_of, answer_of};
 
 use data::modifiers::Modifiers;
@@ -11,7 +10,7 @@ use data::refusal::PassRefusal;
 use emath::pos2::Pos2;
 use emath::rect::Rect;
 use host_values::time;
-use input_state::input::{MaybeRect, PassInput};
+use input_state::input::PassInput;
 
 // RawInput and the options. A time and a rectangle count where they are given. Modifiers are 01's five bits: alt, ctrl, shift, mac_cmd, command.
 #[repr(C)]
@@ -47,16 +46,16 @@ pub struct HostRefusal {
     pub index: usize,
 }
 
-fn rect(given: bool, min_x: f32, min_y: f32, max_x: f32, max_y: f32) -> MaybeRect
+fn rect(given: bool, min_x: f32, min_y: f32, max_x: f32, max_y: f32) -> Option<Rect>
     ensures { result ≡ rect_of given min_x min_y max_x max_y }
 {
     if given {
         let min = Pos2 { x: min_x, y: min_y };
         let max = Pos2 { x: max_x, y: max_y };
         let r = Rect { min, max };
-        return MaybeRect::Some(r);
+        return Some(r);
     }
-    MaybeRect::None
+    None
 }
 
 pub fn pass_input(g: HostPass) -> PassInput
@@ -111,7 +110,7 @@ pub fn refused(q: PassRefusal) -> HostRefusal
 }
 
 pub fn taken() -> HostRefusal
-    ensures { result ≡ answer_of none }
+    ensures { result ≡ answer_of None }
 {
     HostRefusal {
         number: 0,

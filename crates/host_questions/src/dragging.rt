@@ -1,7 +1,6 @@
 // What the interacts have left.
 ghost use Rattle.host_answers.specs.Answers.{id_of};
 ghost use Rattle.host_interact.specs.Held.{interaction_at};
-ghost use Rattle.id_set.specs.Ids.{option_of};
 ghost use Rattle.std.specs.Prelude.{◌≡◌, get_or};
 ghost use Rattle.model.specs.Pass.{Panel};
 ghost use Rattle.model.specs.Questions as ask;
@@ -13,7 +12,7 @@ use host_interact::HELD;
 
 #[unsafe(no_mangle)]
 pub extern "C" fn fivvarul_dragged(held_ids: &[u64; HELD], held_flags: &[bool; HELD]) -> HostId
-    ensures { OfInteraction (settled ask.dragged) (interaction_at held_ids.now held_flags.now) (widget (option_of (id_of result))) }
+    ensures { OfInteraction (settled ask.dragged) (interaction_at held_ids.now held_flags.now) (widget (id_of result)) }
 {
     let interaction = host_interact::interaction(held_ids, held_flags);
     let answer = panel::dragging::dragged(interaction);
@@ -25,7 +24,7 @@ pub extern "C" fn fivvarul_potential_click_id(
     held_ids: &[u64; HELD],
     held_flags: &[bool; HELD],
 ) -> HostId
-    ensures { OfInteraction (settled ask.potential_click_id) (interaction_at held_ids.now held_flags.now) (widget (option_of (id_of result))) }
+    ensures { OfInteraction (settled ask.potential_click_id) (interaction_at held_ids.now held_flags.now) (widget (id_of result)) }
 {
     let interaction = host_interact::interaction(held_ids, held_flags);
     let answer = panel::dragging::potential_click_id(interaction);
@@ -37,7 +36,7 @@ pub extern "C" fn fivvarul_potential_drag_id(
     held_ids: &[u64; HELD],
     held_flags: &[bool; HELD],
 ) -> HostId
-    ensures { OfInteraction (settled ask.potential_drag_id) (interaction_at held_ids.now held_flags.now) (widget (option_of (id_of result))) }
+    ensures { OfInteraction (settled ask.potential_drag_id) (interaction_at held_ids.now held_flags.now) (widget (id_of result)) }
 {
     let interaction = host_interact::interaction(held_ids, held_flags);
     let answer = panel::dragging::potential_drag_id(interaction);

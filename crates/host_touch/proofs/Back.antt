@@ -1,4 +1,5 @@
 -- A device read back from what was written of it shows what the device shows. Assumes nothing.
+use Rattle.std.specs.Prelude.{Option, None, Some}
 use Prim.Native.Nat.{ℕ, zero, suc, ◌<◌}
 use mathlib.Core.Path.{◌≡◌, refl, ap, ◌∙◌}
 use mathlib.Core.Bool.{cond}
@@ -10,7 +11,7 @@ use lib.ListN.{length, get_or, take}
 use Rattle.model.specs.Touch.{TouchState}
 use Rattle.touch_device.specs.declared.Device.{Device}
 use Rattle.touch_device.specs.View.{device_view}
-use Rattle.model.specs.Types.{ActiveTouch, DynGestureState, MaybeDynGestureState, no_state, some_state, MaybeGestureState, no_gesture, some_gesture}
+use Rattle.model.specs.Types.{ActiveTouch, DynGestureState, GestureState}
 use Rattle.host_values.specs.Values.{force_given, force_or, pinch_of}
 use Rattle.host_values.proofs.Back.{force_back, pinch_back}
 use Rattle.host_touch.specs.declared.kept.KeptTouch.{KeptTouch}
@@ -51,32 +52,32 @@ state_again s =
       heading = record { x = s.heading.x; y = s.heading.y };
     }
 
-previous_back : (p : MaybeDynGestureState) (other : DynGestureState) → cond (previous_given p) (some_state (state_again (previous_or p other))) no_state ≡ p
-previous_back no_state other = refl
-previous_back (some_state s) other = refl
+previous_back : (p : Option DynGestureState) (other : DynGestureState) → cond (previous_given p) (Some (state_again (previous_or p other))) None ≡ p
+previous_back None other = refl
+previous_back (Some s) other = refl
 
-abbrev pub regained : Parts → MaybeGestureState
+abbrev pub regained : Parts → Option GestureState
 regained p =
     cond p.given
-    (some_gesture
+    (Some
     (record {
       start_time = p.start_time;
       start_pointer_pos = record { x = p.start.x; y = p.start.y };
       pinch_type = pinch_of p.horizontal p.vertical;
-      previous = cond p.has_previous (some_state (state_again p.previous)) no_state;
+      previous = cond p.has_previous (Some (state_again p.previous)) None;
       current = state_again p.current;
     }))
-    no_gesture
+    None
 
-pub gesture_back : (other : Float) (g : MaybeGestureState) → regained (parts_of other g) ≡ g
-gesture_back other no_gesture = refl
-gesture_back other (some_gesture g) = rw (pinch_back g.pinch_type, previous_back g.previous g.current)
+pub gesture_back : (other : Float) (g : Option GestureState) → regained (parts_of other g) ≡ g
+gesture_back other None = refl
+gesture_back other (Some g) = rw (pinch_back g.pinch_type, previous_back g.previous g.current)
 
 -- ---- the device
-abbrev seen : ℕ → ℕ → List ActiveTouch → MaybeGestureState → TouchState
+abbrev seen : ℕ → ℕ → List ActiveTouch → Option GestureState → TouchState
 seen id n l g = record { device_id = id; active_touches = take n l; gesture_state = g }
 
-pub shown : (d : Device) (l : List ActiveTouch) (g : MaybeGestureState) → l ≡ d.touches.places → g ≡ d.gesture_state
+pub shown : (d : Device) (l : List ActiveTouch) (g : Option GestureState) → l ≡ d.touches.places → g ≡ d.gesture_state
     → seen d.id d.touches.count l g ≡ device_view d
 shown d l g e f = rw (e, f)
 

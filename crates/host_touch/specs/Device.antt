@@ -1,8 +1,8 @@
 -- A touch device as the host's memory holds it: `ids` are its id, the count of its touches and their ids; `floats` and `flags` are those of its touches
 -- and of its gesture; `start` is the time at which the gesture started. Any contents mean some device.
-use Rattle.std.specs.Prelude.{ℕ, ◌+◌, ◌*◌, Bool, false, cond, List, [], ◌∷◌, get_or, Float}
+use Rattle.std.specs.Prelude.{ℕ, ◌+◌, ◌*◌, Bool, false, cond, List, [], ◌∷◌, get_or, Float, Option, None, Some}
 use Rattle.std.specs.Float.{nan}
-use Rattle.model.specs.Types.{ActiveTouch, DynGestureState, MaybeDynGestureState, no_state, some_state, GestureState, MaybeGestureState, no_gesture, some_gesture}
+use Rattle.model.specs.Types.{ActiveTouch, DynGestureState, GestureState}
 use Rattle.touches.specs.declared.Touches.{Touches}
 use Rattle.touch_device.specs.declared.Device.{Device}
 use Rattle.host_values.specs.Values.{force_of, pinch_of}
@@ -77,13 +77,13 @@ state_at floats i =
       heading = record { x = get_or floats (i + 6) nan; y = get_or floats (i + 7) nan };
     }
 
-abbrev pub previous_of : Bool → List Float → MaybeDynGestureState
-previous_of given floats = cond given (some_state (state_at floats previous_state)) no_state
+abbrev pub previous_of : Bool → List Float → Option DynGestureState
+previous_of given floats = cond given (Some (state_at floats previous_state)) None
 
-abbrev pub gesture_of : List Float → List Bool → Float → MaybeGestureState
+abbrev pub gesture_of : List Float → List Bool → Float → Option GestureState
 gesture_of floats flags start =
     cond (get_or flags has_gesture false)
-    (some_gesture
+    (Some
     (record {
       start_time = start;
       start_pointer_pos = record { x = get_or floats gesture_start nan; y = get_or floats (gesture_start + 1) nan };
@@ -91,7 +91,7 @@ gesture_of floats flags start =
       previous = previous_of (get_or flags has_previous false) floats;
       current = state_at floats current_state;
     }))
-    no_gesture
+    None
 
 abbrev pub device_of : List ℕ → List Float → List Bool → Float → Device
 device_of ids floats flags start =

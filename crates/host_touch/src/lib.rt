@@ -7,9 +7,7 @@ ghost use Rattle.data.specs.Limits.{max_touches};
 ghost use Rattle.host_touch.specs.Device.{float_count, touch_of, touch_at, touches_of, state_at, previous_of, gesture_of, device_of};
 
 use data::limits::MAX_TOUCHES;
-use data::touch::{
-    ActiveTouch, DynGestureState, GestureState, MaybeDynGestureState, MaybeGestureState,
-};
+use data::touch::{ActiveTouch, DynGestureState, GestureState};
 use emath::pos2::Pos2;
 use emath::vec2::Vec2;
 use host_values::{force, pinch};
@@ -126,17 +124,17 @@ fn state_at(floats: &[f32; FLOATS], at: usize) -> DynGestureState
     }
 }
 
-fn previous(given: bool, floats: &[f32; FLOATS]) -> MaybeDynGestureState
+fn previous(given: bool, floats: &[f32; FLOATS]) -> Option<DynGestureState>
     ensures { result ≡ previous_of given floats.now }
 {
     if given {
         let s = state_at(floats, PREVIOUS);
-        return MaybeDynGestureState::Some(s);
+        return Some(s);
     }
-    MaybeDynGestureState::None
+    None
 }
 
-fn gesture(floats: &[f32; FLOATS], flags: &[bool; FLAGS], start_time: f64) -> MaybeGestureState
+fn gesture(floats: &[f32; FLOATS], flags: &[bool; FLAGS], start_time: f64) -> Option<GestureState>
     ensures { result ≡ gesture_of floats.now flags.now start_time }
 {
     if flags[HAS_GESTURE] {
@@ -154,9 +152,9 @@ fn gesture(floats: &[f32; FLOATS], flags: &[bool; FLAGS], start_time: f64) -> Ma
             previous,
             current,
         };
-        return MaybeGestureState::Some(g);
+        return Some(g);
     }
-    MaybeGestureState::None
+    None
 }
 
 pub fn device(

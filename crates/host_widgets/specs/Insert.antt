@@ -1,10 +1,10 @@
 -- What an insertion promises the host: `panel`'s insertion, and what crosses of its answer.
-use Rattle.std.specs.Prelude.{ℕ, ◌≡◌, Bool, List, Float}
+use Rattle.std.specs.Prelude.{ℕ, ◌≡◌, Bool, List, Float, Ok, Err, Result}
 use Rattle.data.specs.Numbers.{insert_refusal_number}
 use Rattle.data.specs.declared.widget.WidgetRect.{WidgetRect}
 use Rattle.widget_index.specs.declared.table.WidgetRects.{WidgetRects}
-use Rattle.widget_append.specs.declared.Inserted.{Inserted}
-use Rattle.widget_append.specs.declared.Inserted.TheVariants.{Refused, Taken}
+use Rattle.widget_append.specs.declared.Insertion.{Insertion}
+use Rattle.data.specs.declared.refusal.InsertRefusal.{InsertRefusal}
 use Rattle.widget_append.specs.declared.Decision.{Decision}
 use Rattle.widget_append.specs.Append.{Gives}
 use Rattle.widget_insert.specs.Insert.{decide}
@@ -17,9 +17,9 @@ abbrev pub set_of : HostSet → WidgetRects
 set_of h = record { widgets = h.widgets; layers = h.layers }
 
 -- 01's number of a refusal
-abbrev pub inserted_of : Inserted → HostInserted
-inserted_of (Refused why) = record { number = insert_refusal_number why; position = 0; count = 0 }
-inserted_of (Taken position count) = record { number = 0; position = position; count = count }
+abbrev pub inserted_of : Result Insertion InsertRefusal → HostInserted
+inserted_of (Err why) = record { number = insert_refusal_number why; position = 0; count = 0 }
+inserted_of (Ok i) = record { number = 0; position = i.position; count = i.count }
 
 abbrev pub insertion_of : Decision → HostInsertion
 insertion_of d =

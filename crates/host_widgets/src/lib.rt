@@ -4,8 +4,9 @@
 ghost use Rattle.std.specs.Prelude.{◌≡◌};
 ghost use Rattle.host_widgets.specs.Insert.{inserted_of, Decides};
 
+use data::refusal::InsertRefusal;
 use data::widget::WidgetRect;
-use widget_append::Inserted;
+use widget_append::Insertion;
 use widget_index::table::{Edges, Numbers, WidgetRects, Words};
 use widget_insert::decide;
 
@@ -38,16 +39,16 @@ pub struct HostInsertion {
     pub widget: WidgetRect,
 }
 
-fn inserted(a: Inserted) -> HostInserted
+fn inserted(a: Result<Insertion, InsertRefusal>) -> HostInserted
     ensures { result ≡ inserted_of a }
 {
     match a {
-        Inserted::Refused(why) => HostInserted {
+        Err(why) => HostInserted {
             number: why.number(),
             position: 0,
             count: 0,
         },
-        Inserted::Taken(position, count) => HostInserted {
+        Ok(Insertion { position, count }) => HostInserted {
             number: 0,
             position,
             count,

@@ -1,8 +1,8 @@
 use mathlib.Core.Path.{refl}
 use Rattle.host.proofs.factor.fivvarul_zoom_factor.Goals as goal
 
-pub returns-in-Factor : goal.returns-in-Factor
-returns-in-Factor c = record { answer = c.zoom_factor-answer.result; answers = c.zoom_factor-answer.ensures; crosses = rw c.in-Factor.is (refl, refl) }
+pub returns-in-Ok : goal.returns-in-Ok
+returns-in-Ok c = record { answer = c.zoom_factor-answer.result; answers = c.zoom_factor-answer.ensures; crosses = rw c.in-Ok.is (refl, refl) }
 
-pub returns-in-Refused : goal.returns-in-Refused
-returns-in-Refused c = record { answer = c.zoom_factor-answer.result; answers = c.zoom_factor-answer.ensures; crosses = rw c.in-Refused.is c.number.ensures }
+pub returns-in-Err : goal.returns-in-Err
+returns-in-Err c = record { answer = c.zoom_factor-answer.result; answers = c.zoom_factor-answer.ensures; crosses = rw c.in-Err.is c.number.ensures }

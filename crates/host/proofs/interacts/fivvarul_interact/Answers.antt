@@ -2,22 +2,22 @@ use mathlib.Core.Path.{refl}
 use Rattle.host_interact.proofs.Back.{written}
 use Rattle.host.proofs.interacts.fivvarul_interact.Goals as goal
 
-pub returns-in-Refused : goal.returns-in-Refused
-returns-in-Refused c =
+pub returns-in-Err : goal.returns-in-Err
+returns-in-Err c =
     record {
       devices = _;
       devices_are = c.devices-devices.ensures;
       answer = _;
       panels = rw (c.clock-clock.ensures, c.screen-screen.ensures, c.pointer-pointer.ensures, c.interaction-interaction.ensures, c.hit-click.ensures, c.hit-drag.ensures) at c.interact-a.ensures;
-      leaves = rw c.in-Refused.is (record { answer = c.refused.ensures; ids_kept = refl; flags_kept = refl; tally_kept = refl });
+      leaves = rw c.in-Err.is (record { answer = c.refused.ensures; ids_kept = refl; flags_kept = refl; tally_kept = refl });
     }
 
-pub returns-in-Taken : goal.returns-in-Taken
-returns-in-Taken c =
+pub returns-in-Ok : goal.returns-in-Ok
+returns-in-Ok c =
     record {
       devices = _;
       devices_are = c.devices-devices.ensures;
       answer = _;
       panels = rw (c.clock-clock.ensures, c.screen-screen.ensures, c.pointer-pointer.ensures, c.interaction-interaction.ensures, c.hit-click.ensures, c.hit-drag.ensures) at c.interact-a.ensures;
-      leaves = rw c.in-Taken.is (record { number = c.answered.ensures.0; snapshot = c.answered.ensures.1; interaction = written _ _ _ c.ids.ensures c.flags.ensures; tally = refl });
+      leaves = rw c.in-Ok.is (record { number = c.answered.ensures.0; snapshot = c.answered.ensures.1; interaction = written _ _ _ c.ids.ensures c.flags.ensures; tally = refl });
     }
