@@ -1,10 +1,7 @@
 // Thirty questions after each pass.
 use crate::passes::{input, of_state};
 use crate::sums::{mix, one_if};
-use data::pointer::{MaybeF64, PointerButton};
-use data::touch::MaybeMultiTouchInfo;
-use emath::pos2::MaybePos2;
-use emath::vec2::MaybeVec2;
+use data::pointer::PointerButton;
 use emath_history::history::{MAX_LEN, PARTS};
 use input_pass::begin::begin_pass;
 use input_questions::keys::{key_down, key_pressed};
@@ -24,34 +21,6 @@ use scroll_questions::scrolling::time_since_last_scroll;
 use touch_questions::{any_touches, multi_touch};
 use touch_state::devices::{Devices, none};
 use wheel_state::is_scrolling;
-
-fn is_place(p: MaybePos2) -> bool {
-    match p {
-        MaybePos2::None => false,
-        MaybePos2::Some(_) => true,
-    }
-}
-
-fn is_vec(v: MaybeVec2) -> bool {
-    match v {
-        MaybeVec2::None => false,
-        MaybeVec2::Some(_) => true,
-    }
-}
-
-fn is_time(t: MaybeF64) -> bool {
-    match t {
-        MaybeF64::None => false,
-        MaybeF64::Some(_) => true,
-    }
-}
-
-fn is_info(i: MaybeMultiTouchInfo) -> bool {
-    match i {
-        MaybeMultiTouchInfo::None => false,
-        MaybeMultiTouchInfo::Some(_) => true,
-    }
-}
 
 // any_pressed, any_released, any_click, any_down, and six of the primary button: 10
 fn of_buttons(n: u64, s: InputState, codes: &[u32; CODES]) -> u64 {
@@ -91,8 +60,8 @@ fn of_presses(n: u64, s: InputState, codes: &[u32; CODES]) -> u64 {
     let j = one_if(i, is_decidedly_dragging(h, codes, options, time, moved));
     let k = one_if(j, is_long_press(press, options, time, started));
     let l = one_if(
-        one_if(k, is_place(press_origin(h))),
-        is_time(press_start_time(h)),
+        one_if(k, press_origin(h).is_some()),
+        press_start_time(h).is_some(),
     );
     one_if(l, time_since_last_click(past, time) < 0.3)
 }
@@ -107,11 +76,11 @@ fn of_moves(n: u64, s: InputState) -> u64 {
     let v = velocity(p);
     let i = one_if(one_if(one_if(n, has_pointer(p)), is_still(p)), is_moving(p));
     let j = one_if(
-        one_if(i, is_place(latest_pos(p))),
-        is_place(interact_pos(p)),
+        one_if(i, latest_pos(p).is_some()),
+        interact_pos(p).is_some(),
     );
     one_if(
-        one_if(one_if(j, is_vec(total_drag_delta(p, h))), d.x > 0.5),
+        one_if(one_if(j, total_drag_delta(p, h).is_some()), d.x > 0.5),
         v.x > 0.5,
     )
 }
@@ -126,7 +95,7 @@ fn of_rest(n: u64, s: InputState, ds: Devices, presses: &[u8; PRESSES]) -> u64 {
         one_if(i, is_scrolling(wheel)),
         time_since_last_scroll(wheel, clock.time) < 0.3,
     );
-    one_if(one_if(j, any_touches(ds)), is_info(multi_touch(ds)))
+    one_if(one_if(j, any_touches(ds)), multi_touch(ds).is_some())
 }
 
 fn asked(n: u64, s: InputState, ds: Devices, codes: &[u32; CODES], presses: &[u8; PRESSES]) -> u64 {
@@ -146,8 +115,7 @@ pub fn run(times: u32, feed: &[u32]) -> u64 {
     let mut ds = none();
     let i = input();
     let mut n = asked(0, s, ds, &codes, &presses);
-    let mut left = times;
-    while left > 0 {
+    for _ in 0..times {
         let r = begin_pass(
             s,
             ds,
@@ -162,7 +130,6 @@ pub fn run(times: u32, feed: &[u32]) -> u64 {
         s = r.state;
         ds = r.devices;
         n = asked(n, s, ds, &codes, &presses);
-        left -= 1;
     }
     mix(of_state(s, ds, &presses), n)
 }

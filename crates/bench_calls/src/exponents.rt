@@ -1,6 +1,6 @@
 // Factors of exponents from -1 up to 1.
 use crate::sums::one_if;
-use zoom_factor::{ZoomAnswer, zoom_factor};
+use zoom_factor::zoom_factor;
 
 // In steps of 2^-16, by the word's upper bits.
 fn exponent(w: u32) -> f32 {
@@ -9,21 +9,15 @@ fn exponent(w: u32) -> f32 {
 
 // The bound lets a factor differ from another's in its last digits: only where it lies is summed up.
 fn is_above_one(e: f32) -> bool {
-    let answer = zoom_factor(e);
-    match answer {
-        ZoomAnswer::Factor(factor) => factor > 1.0,
-        ZoomAnswer::Refused(_) => false,
-    }
+    zoom_factor(e).is_ok_and(|factor| factor > 1.0)
 }
 
 pub fn run(times: u32) -> u64 {
     let mut above: u64 = 0;
     let mut w: u32 = 0;
-    let mut left = times;
-    while left > 0 {
-        w = std::num::wrapping_add_u32(w, 0x9e37_79b1);
+    for _ in 0..times {
+        w = w.wrapping_add(0x9e37_79b1);
         above = one_if(above, is_above_one(exponent(w)));
-        left -= 1;
     }
     above
 }

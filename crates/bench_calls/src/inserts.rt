@@ -8,9 +8,9 @@ use data::limits::MAX_WIDGETS;
 use data::widget::WidgetRect;
 use emath::pos2::Pos2;
 use emath::rect::Rect;
-use widget_index::table::{EDGES, Edges, NUMBERS, Numbers, WORDS, WidgetRects, Words, wide};
+use widget_index::table::{EDGES, Edges, NUMBERS, Numbers, WORDS, WidgetRects, Words};
 use widget_insert::decide;
-use widget_rect::questions::{MaybeOrder, empty, order};
+use widget_rect::questions::{empty, order};
 use widget_slices::settled;
 
 const WIDGETS: u32 = MAX_WIDGETS as u32;
@@ -38,10 +38,7 @@ fn layer_of(i: u32, layers: u32) -> u32 {
 fn place(n: usize) -> usize
     ensures { result ≤ max_widgets }
 {
-    if n < MAX_WIDGETS {
-        return n;
-    }
-    MAX_WIDGETS
+    n.min(MAX_WIDGETS)
 }
 
 // The places of a layer.
@@ -49,7 +46,7 @@ fn span(layers: u32) -> usize {
     if layers == 0 {
         return 0;
     }
-    wide(WIDGETS / layers)
+    (WIDGETS / layers) as usize
 }
 
 // Where the slots of a widget's layer start: one array holds those of all layers.
@@ -59,7 +56,7 @@ fn base(i: u32, layers: u32) -> usize
     if layers == 0 {
         return 0;
     }
-    place(wide(i % layers % WIDGETS * WIDGETS / layers))
+    place((i % layers % WIDGETS * WIDGETS / layers) as usize)
 }
 
 fn widget(i: u32, layers: u32) -> WidgetRect {
@@ -82,7 +79,14 @@ fn widget(i: u32, layers: u32) -> WidgetRect {
     }
 }
 
-// mode: 0 new, 1 known, 2 moved to top, 3 no insertion: the slots are copied in and out, and nothing else
+// What an insertion is; any other number: of a known widget. Numbers, as the request has them.
+const NEW: u32 = 0;
+
+const TO_TOP: u32 = 2;
+
+// No insertion: the slots are copied in and out, and nothing else.
+const NONE: u32 = 3;
+
 fn next_step(
     h: WidgetRects,
     words: &mut Words,
@@ -93,7 +97,7 @@ fn next_step(
     mode: u32,
 ) -> Step {
     let w = widget(i, layers);
-    if mode == 3 {
+    if mode == NONE {
         return Step {
             set: h,
             from: 0,
@@ -101,7 +105,7 @@ fn next_step(
             widget: w,
         };
     }
-    let d = decide(h, words, numbers, edges, span(layers), w, mode == 2);
+    let d = decide(h, words, numbers, edges, span(layers), w, mode == TO_TOP);
     let set = d.set;
     let after = d.widget;
     Step {
@@ -114,35 +118,26 @@ fn next_step(
 
 // A round of new widgets starts with an empty set.
 fn started(h: WidgetRects, i: u32, mode: u32) -> WidgetRects {
-    if mode == 0 {
-        if i == 0 {
-            return empty();
-        }
+    if mode == NEW && i == 0 {
+        return empty();
     }
     h
 }
 
 // The first round makes the widgets known.
 fn mode_of(left: u64, times: u32, mode: u32) -> u32 {
-    if left > times as u64 {
-        return 0;
+    if left > u64::from(times) {
+        return NEW;
     }
     mode
 }
 
 fn following(i: u32, widgets: u32) -> u32 {
-    let n = std::num::wrapping_add_u32(i, 1);
+    let n = i.wrapping_add(1);
     if n < widgets {
         return n;
     }
     0
-}
-
-fn position(o: MaybeOrder) -> usize {
-    match o {
-        MaybeOrder::None => 0,
-        MaybeOrder::Some(_, p) => p,
-    }
 }
 
 // Of each widget's position, and of the id that the slot there holds.
@@ -156,13 +151,11 @@ fn digest(
     layers: u32,
 ) -> u64 {
     let mut sum: u64 = 0;
-    let mut i: u32 = 0;
-    while i < widgets {
-        let p = position(order(h, words, numbers, edges, id_of(i)));
+    for i in 0..widgets {
+        let p = order(h, words, numbers, edges, id_of(i)).map_or(0, |(_, p)| p);
         let at = (base(i, layers) + place(p)) % MAX_WIDGETS;
         let w = slots[at];
         sum = mix(mix(sum, p as u64), w.id);
-        i += 1;
     }
     sum
 }
@@ -177,8 +170,7 @@ pub fn run(times: u32, widgets: u32, layers: u32, mode: u32) -> u64 {
     let one = next_step(empty(), &mut words, &mut numbers, &mut edges, 0, layers, 0);
     let mut h = one.set;
     let mut i: u32 = 0;
-    let mut left = times as u64 + widgets as u64;
-    while left > 0 {
+    for left in (1..=u64::from(times) + u64::from(widgets)).rev() {
         let m = mode_of(left, times, mode);
         let s = next_step(
             started(h, i, m),
@@ -195,7 +187,6 @@ pub fn run(times: u32, widgets: u32, layers: u32, mode: u32) -> u64 {
         slots = after;
         h = s.set;
         i = following(i, widgets);
-        left -= 1;
     }
     digest(h, &words, &numbers, &edges, slots, widgets, layers)
 }

@@ -2,14 +2,14 @@
 ghost use Rattle.std.specs.Prelude.{◌≤◌};
 ghost use Rattle.data.specs.Limits.{max_hits};
 
-use crate::sums::{long, mix};
+use crate::sums::mix;
 use data::limits::{ID_PLACES, MAX_HITS};
-use hit_lists::{Hit, MaybeHit};
-use id_set::MaybeId;
+use data::refusal::InteractRefusal;
+use hit_lists::Hit;
 use interaction::interact::interact;
-use interaction_state::state::{Answer, Interacted, Interaction, Seen};
+use interaction_state::state::{Answer, Interaction, Seen};
 use pointer_events::CODES;
-use widget_index::table::{NUMBERS, Numbers, WORDS, WidgetRects, Words, wide};
+use widget_index::table::{NUMBERS, Numbers, WORDS, WidgetRects, Words};
 
 // The words of a list of hits: two for each.
 const HITS: usize = 2 * MAX_HITS;
@@ -26,31 +26,27 @@ fn id_of(w: u32) -> u64 {
 }
 
 // Entry `n` of the words, counted from 1; 0 is none.
-fn hit(words: &[u32], n: u32) -> MaybeHit {
+fn hit(words: &[u32], n: u32) -> Option<Hit> {
     if n == 0 {
-        return MaybeHit::None;
+        return None;
     }
     let i = (n - 1) as usize;
     if i < words.len() / 2 {
         let h = Hit {
             id: id_of(words[i * 2]),
-            sense: long(words[i * 2 + 1]),
+            sense: u64::from(words[i * 2 + 1]),
         };
-        return MaybeHit::Some(h);
+        return Some(h);
     }
-    MaybeHit::None
+    None
 }
 
 fn fill(list: &mut [u64; HITS], words: &[u32], n: usize)
     requires { n ≤ max_hits }
 {
-    let mut i: usize = 0;
-    while i < n {
-        if i < words.len() / 2 {
-            list[i * 2] = id_of(words[i * 2]);
-            list[i * 2 + 1] = long(words[i * 2 + 1]);
-        }
-        i += 1;
+    for i in 0..n.min(words.len() / 2) {
+        list[i * 2] = id_of(words[i * 2]);
+        list[i * 2 + 1] = u64::from(words[i * 2 + 1]);
     }
 }
 
@@ -64,14 +60,14 @@ fn answered(sum: u64, a: Answer) -> Going {
     }
 }
 
-fn next(g: Going, out: Interacted) -> Going {
+fn next(g: Going, out: Result<Answer, InteractRefusal>) -> Going {
     match out {
-        Interacted::Refused(r) => {
+        Err(r) => {
             let mut h = g;
             h.sum = mix(g.sum, r.number() as u64);
             h
         }
-        Interacted::Taken(a) => answered(g.sum, a),
+        Ok(a) => answered(g.sum, a),
     }
 }
 
@@ -96,24 +92,23 @@ fn seen_of(n: u32) -> Seen {
 
 // In the further bits: the number of pointer events, all of them moves, and of widgets.
 fn count_of(n: u32) -> usize {
-    wide(n / 64 % 64)
+    (n / 64 % 64) as usize
 }
 
 fn set_of(n: u32) -> WidgetRects {
     WidgetRects {
-        widgets: wide(n / 4096),
+        widgets: (n / 4096) as usize,
         layers: 1,
     }
 }
 
 fn start() -> Going {
-    let none = Interaction {
-        potential_click_id: MaybeId::None,
-        potential_drag_id: MaybeId::None,
-        dragged: MaybeId::None,
-    };
     Going {
-        interaction: none,
+        interaction: Interaction {
+            potential_click_id: None,
+            potential_drag_id: None,
+            dragged: None,
+        },
         tally: 0,
         sum: 0,
     }
@@ -127,24 +122,6 @@ fn ends(g: Going, top: &[u64; ID_PLACES], all: &[u64; ID_PLACES]) -> u64 {
     mix(mix(g.sum, top[1]), all[2])
 }
 
-fn at_most(n: usize) -> usize
-    ensures { result ≤ max_hits }
-{
-    if n < MAX_HITS {
-        return n;
-    }
-    MAX_HITS
-}
-
-fn shorter(n: usize, limit: usize) -> usize
-    ensures { result ≤ limit }
-{
-    if n < limit {
-        return n;
-    }
-    limit
-}
-
 fn call_on(
     g: Going,
     told: u32,
@@ -154,14 +131,14 @@ fn call_on(
     close: &[u64],
     within: &[u64],
     n: usize,
-    c: MaybeHit,
-    d: MaybeHit,
+    c: Option<Hit>,
+    d: Option<Hit>,
     top: &mut [u64],
     all: &mut [u64],
 ) -> Going {
     let s = g.interaction;
-    let a = shorter(n, close.len());
-    let b = shorter(n, within.len());
+    let a = n.min(close.len());
+    let b = n.min(within.len());
     let out = interact(
         seen_of(told),
         codes,
@@ -191,8 +168,8 @@ fn call(
     close: &[u64; HITS],
     within: &[u64; HITS],
     n: usize,
-    c: MaybeHit,
-    d: MaybeHit,
+    c: Option<Hit>,
+    d: Option<Hit>,
     top: &mut [u64; ID_PLACES],
     all: &mut [u64; ID_PLACES],
 ) -> Going {
@@ -211,7 +188,7 @@ pub fn run(times: u32, given: &[u32], click: u32, drag: u32, told: u32) -> u64 {
     let codes = [0u32; CODES];
     let words = [0u64; WORDS];
     let numbers = [0u32; NUMBERS];
-    let n = at_most(given.len() / 2);
+    let n = MAX_HITS.min(given.len() / 2);
     let m = n * 2;
     fill(&mut close, given, n);
     fill(&mut within, given, n);
@@ -231,14 +208,12 @@ pub fn run(times: u32, given: &[u32], click: u32, drag: u32, told: u32) -> u64 {
         &mut top,
         &mut all,
     );
-    let mut left = times;
-    while left > 0 {
+    for left in (1..=times).rev() {
         set_sense(&mut close, left);
         set_sense(&mut within, left);
         g = call(
             g, told, &codes, &words, &numbers, &close, &within, m, c, d, &mut top, &mut all,
         );
-        left -= 1;
     }
     ends(g, &top, &all)
 }

@@ -1,14 +1,12 @@
 // A panel parked and restored again and again: a fresh one, or one after a pass with a first feed and a thousand with a second.
 use crate::WORDS;
 use crate::passes::input;
-use data::pointer::MaybeF64;
 use emath_history::history::{MAX_LEN, PARTS};
 use input_state::input::PassInput;
 use key_state::keys::PRESSES;
 use panel::pass::pass;
 use panel::state::{Panel, after_pass, fresh};
-use parking::check::ImageRefusal;
-use parking::park::{Parked, park};
+use parking::park::park;
 use parking::restore::restore;
 use pointer_events::{CODES, PLACES};
 
@@ -20,18 +18,9 @@ const PASSES: u32 = 1000;
 
 // At one time, so that the history keeps all samples.
 fn given() -> PassInput {
-    let usual = input();
-    let options = usual.options;
-    let screen_rect = usual.screen_rect;
     PassInput {
-        time: MaybeF64::Some(1.0),
-        screen_rect,
-        predicted_dt: usual.predicted_dt,
-        smoothing_factor: usual.smoothing_factor,
-        pixels_per_point: usual.pixels_per_point,
-        focused: usual.focused,
-        requested_repaint: usual.requested_repaint,
-        options,
+        time: Some(1.0),
+        ..input()
     }
 }
 
@@ -47,24 +36,15 @@ fn after_passes(
 ) -> Panel {
     let i = given();
     let mut p = start;
-    let mut left = times;
-    while left > 0 {
+    for _ in 0..times {
         let input = p.input;
         let devices = p.devices;
         let begun = pass(
             input, devices, stamps, positions, codes, places, presses, i, feed,
         );
         p = after_pass(p, begun);
-        left -= 1;
     }
     p
-}
-
-fn words_of(done: Parked) -> usize {
-    match done {
-        Parked::Words(n) => n,
-        Parked::Short => 0,
-    }
 }
 
 // The words that all parkings wrote.
@@ -79,21 +59,11 @@ fn parked(
     times: u32,
 ) -> u64 {
     let mut sum: u64 = 0;
-    let mut left = times;
-    while left > 0 {
+    for _ in 0..times {
         let done = park(p, stamps, positions, codes, places, presses, image);
-        sum = std::num::wrapping_add_u64(sum, words_of(done) as u64);
-        left -= 1;
+        sum = sum.wrapping_add(done.unwrap_or(0) as u64);
     }
     sum
-}
-
-fn read_of(refusal: ImageRefusal, n: usize) -> usize {
-    match refusal {
-        ImageRefusal::None => n,
-        ImageRefusal::FirstWord => 0,
-        ImageRefusal::Word(_) => 0,
-    }
 }
 
 // The words that all restorings read.
@@ -109,57 +79,12 @@ fn restored(
 ) -> u64 {
     let mut sum: u64 = 0;
     let mut p = start;
-    let mut left = times;
-    while left > 0 {
+    for _ in 0..times {
         let r = restore(p, stamps, positions, codes, places, presses, words);
         p = r.panel;
-        let refusal = r.refusal;
-        sum = std::num::wrapping_add_u64(sum, read_of(refusal, words.len()) as u64);
-        left -= 1;
+        sum = sum.wrapping_add(r.refusal.map_or(0, |_| words.len()) as u64);
     }
     sum
-}
-
-fn restored_from(
-    p: Panel,
-    stamps: &mut [f64; MAX_LEN],
-    positions: &mut [f32; PARTS],
-    codes: &mut [u32; CODES],
-    places: &mut [f32; PLACES],
-    presses: &mut [u8; PRESSES],
-    image: &[u32],
-    n: usize,
-    times: u32,
-) -> u64 {
-    if n < image.len() {
-        return restored(
-            p,
-            stamps,
-            positions,
-            codes,
-            places,
-            presses,
-            &image[0..n],
-            times,
-        );
-    }
-    restored(p, stamps, positions, codes, places, presses, image, times)
-}
-
-fn restored_image(
-    p: Panel,
-    stamps: &mut [f64; MAX_LEN],
-    positions: &mut [f32; PARTS],
-    codes: &mut [u32; CODES],
-    places: &mut [f32; PLACES],
-    presses: &mut [u8; PRESSES],
-    image: &[u32; IMAGE_PLACES],
-    n: usize,
-    times: u32,
-) -> u64 {
-    restored_from(
-        p, stamps, positions, codes, places, presses, image, n, times,
-    )
 }
 
 fn filled(
@@ -228,15 +153,14 @@ pub fn run(times: u32, feed: &[u32], first: u32, restores: u32) -> u64 {
     let n = parked(
         p, &stamps, &positions, &codes, &places, &presses, &mut image, 1,
     );
-    restored_image(
+    restored(
         p,
         &mut stamps,
         &mut positions,
         &mut codes,
         &mut places,
         &mut presses,
-        &image,
-        n as usize,
+        &image[..IMAGE_PLACES.min(n as usize)],
         times,
     )
 }

@@ -1,10 +1,10 @@
 // Passes with one feed, each from the state that the last one left.
 use crate::sums::{double, flag, mix, pos2, single, vec2};
-use data::pointer::MaybeF64;
-use emath::pos2::MaybePos2;
+use emath::pos2::Pos2;
+use emath::rect::Rect;
 use emath_history::history::{MAX_LEN, PARTS};
 use input_pass::begin::begin_pass;
-use input_state::input::{MaybeRect, PassInput};
+use input_state::input::PassInput;
 use input_state::screen::default_options;
 use input_state::state::{InputState, fresh};
 use key_state::keys::{PRESSES, num_presses};
@@ -16,8 +16,8 @@ use touch_state::devices::{Devices, none};
 pub fn input() -> PassInput {
     let options = default_options();
     PassInput {
-        time: MaybeF64::None,
-        screen_rect: MaybeRect::None,
+        time: None,
+        screen_rect: None,
         predicted_dt: 0.015625,
         smoothing_factor: 0.5,
         pixels_per_point: 1.0,
@@ -27,10 +27,10 @@ pub fn input() -> PassInput {
     }
 }
 
-fn of_place(h: u64, p: MaybePos2) -> u64 {
+fn of_place(h: u64, p: Option<Pos2>) -> u64 {
     match p {
-        MaybePos2::None => mix(h, 0),
-        MaybePos2::Some(v) => pos2(h, v),
+        None => mix(h, 0),
+        Some(v) => pos2(h, v),
     }
 }
 
@@ -77,8 +77,7 @@ pub fn run(times: u32, feed: &[u32]) -> u64 {
     let mut s = fresh();
     let mut ds = none();
     let i = input();
-    let mut left = times;
-    while left > 0 {
+    for _ in 0..times {
         let r = begin_pass(
             s,
             ds,
@@ -92,7 +91,6 @@ pub fn run(times: u32, feed: &[u32]) -> u64 {
         );
         s = r.state;
         ds = r.devices;
-        left -= 1;
     }
     of_state(s, ds, &presses)
 }

@@ -4,12 +4,10 @@ use crate::sums::{double, single};
 pub fn run32(times: u32) -> u64 {
     let mut sum: u64 = 0;
     let mut w: u32 = 0;
-    let mut left = times;
-    while left > 0 {
-        w = std::num::wrapping_add_u32(w, 0x9e37_79b1);
+    for _ in 0..times {
+        w = w.wrapping_add(0x9e37_79b1);
         let x = ieee::bits::from_bits32(w % 0x7f80_0000);
         sum = single(sum, ieee_sqrt::sqrt32(x));
-        left -= 1;
     }
     sum
 }
@@ -17,12 +15,10 @@ pub fn run32(times: u32) -> u64 {
 pub fn run64(times: u32) -> u64 {
     let mut sum: u64 = 0;
     let mut w: u64 = 0;
-    let mut left = times;
-    while left > 0 {
-        w = std::num::wrapping_add_u64(w, 0x9e37_79b9_7f4a_7c15);
+    for _ in 0..times {
+        w = w.wrapping_add(0x9e37_79b9_7f4a_7c15);
         let x = ieee::bits::from_bits64(w % 0x7ff0_0000_0000_0000);
         sum = double(sum, ieee_sqrt::sqrt64(x));
-        left -= 1;
     }
     sum
 }

@@ -2,31 +2,19 @@
 use emath::pos2::Pos2;
 use emath::vec2::Vec2;
 
-// Rotated left by 5 bits.
-fn rotated(h: u64) -> u64 {
-    std::num::wrapping_add_u64(h % 0x800_0000_0000_0000 * 32, h / 0x800_0000_0000_0000)
-}
-
 pub fn mix(h: u64, w: u64) -> u64 {
-    std::num::wrapping_add_u64(rotated(h) ^ w, 0x9e37_79b9_7f4a_7c15)
-}
-
-pub fn long(w: u32) -> u64 {
-    w as u64
+    (h.rotate_left(5) ^ w).wrapping_add(0x9e37_79b9_7f4a_7c15)
 }
 
 pub fn flag(h: u64, b: bool) -> u64 {
-    if b {
-        return mix(h, 1);
-    }
-    mix(h, 0)
+    mix(h, u64::from(b))
 }
 
 pub fn single(h: u64, x: f32) -> u64 {
     if x != x {
         return mix(h, 0x7fc0_0000);
     }
-    mix(h, long(f32::to_bits(x)))
+    mix(h, u64::from(f32::to_bits(x)))
 }
 
 pub fn double(h: u64, x: f64) -> u64 {
@@ -46,8 +34,5 @@ pub fn pos2(h: u64, p: Pos2) -> u64 {
 
 // One more, if it is so.
 pub fn one_if(n: u64, b: bool) -> u64 {
-    if b {
-        return std::num::wrapping_add_u64(n, 1);
-    }
-    n
+    n.wrapping_add(u64::from(b))
 }

@@ -97,9 +97,8 @@ fn asked(
         return malformed();
     }
     let p = m.panel;
-    let input = p.input;
-    let devices = p.devices;
-    taken(ask(a, 0, input, devices, codes, places, presses))
+    ask(a, p.input, p.devices, codes, places, presses);
+    taken(a.len())
 }
 
 fn dumped(
@@ -120,16 +119,11 @@ fn dumped(
         return malformed();
     }
     let p = m.panel;
-    let set = m.set;
-    let input = p.input;
-    let devices = p.devices;
-    let interaction = p.interaction;
-    let n = dump(
+    dump(
         a,
-        0,
-        input,
-        devices,
-        interaction,
+        p.input,
+        p.devices,
+        p.interaction,
         p.tally,
         times,
         positions,
@@ -137,16 +131,16 @@ fn dumped(
         places,
         presses,
     );
-    taken(widgets(a, n, set, words, numbers, edges, lent))
+    widgets(a, m.set, words, numbers, edges, lent);
+    taken(a.len())
 }
 
 fn rest(m: Machine, a: &mut Answer, w: &[u32]) -> Reply {
     if w.len() > 0 {
         return malformed();
     }
-    let p = m.panel;
-    let input = p.input;
-    taken(rested(a, 0, input))
+    rested(a, m.panel.input);
+    taken(a.len())
 }
 
 // The calls that change no input. A new one is an arm here.

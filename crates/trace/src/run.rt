@@ -4,16 +4,19 @@ use emath_history::history::{MAX_LEN, PARTS};
 use key_state::keys::PRESSES;
 use panel::clock::time;
 use pointer_events::{CODES, PLACES};
+use std::fmt;
+use std::fmt::Write;
 use trace_machine::machine::{Machine, Step, fresh};
-use trace_output::input::{Record, WORDS, is_read};
-use trace_output::output::{Buffer, SIZE, byte, flush, hex, word};
+use trace_output::input::{Record, WORDS, read};
+use trace_output::output::Output;
 use trace_parking::park::{IMAGE_PLACES, Image};
-use trace_text::counts::{Tally, counted, none};
+use trace_text::counts::Tally;
 use trace_text::sums::{head, sum};
 use trace_text::text;
 use trace_words::records::{LENT, Lent};
 use trace_words::reply::Reply;
-use trace_words::words::{Answer, ROOM};
+use trace_words::request::at;
+use trace_words::words::Answer;
 use widget_index::table::{EDGES, Edges, NUMBERS, Numbers, Words};
 
 const STDERR_FILENO: i32 = 2;
@@ -28,7 +31,7 @@ pub enum Form {
 
 // A record passes the limit: whether the trace does, since it has these words too.
 fn say_if_longer(request: &mut Record, left: usize) {
-    if is_read(request, left) {
+    if read(request, left).is_some() {
         io::write_all(
             STDERR_FILENO,
             b"the trace is longer than 1 MiB: what follows is not replayed\n",
@@ -36,122 +39,49 @@ fn say_if_longer(request: &mut Record, left: usize) {
     }
 }
 
-// How many words follow a record's first.
-fn wide_length(head: u32) -> usize {
-    (head % 0x100_0000) as usize
-}
+// How many words follow a record's first, at most.
+const LENGTHS: u32 = 0x100_0000;
 
-fn whole(out: &mut Buffer, n: usize, a: &Answer, r: Reply) -> usize {
-    let mut m = word(out, n, head(r));
-    let mut i: usize = 0;
-    while i < ROOM {
-        if r.words <= i {
-            return m;
-        }
-        m = word(out, m, a[i]);
-        i += 1;
+fn whole(out: &mut Output, a: &[u32], r: Reply) -> fmt::Result {
+    out.word(head(r));
+    for w in a {
+        out.word(*w);
     }
-    m
-}
-
-fn line(
-    out: &mut Buffer,
-    n: usize,
-    now: f64,
-    a: &Answer,
-    r: Reply,
-    kind: u32,
-    request: &Record,
-    len: usize,
-    t: Tally,
-) -> usize {
-    if WORDS < len {
-        return n;
-    }
-    let all: &[u32] = request;
-    text::line(out, n, now, a, r, kind, &all[0..len], t)
-}
-
-fn written(
-    out: &mut Buffer,
-    n: usize,
-    form: Form,
-    now: f64,
-    a: &Answer,
-    r: Reply,
-    kind: u32,
-    request: &Record,
-    len: usize,
-    t: Tally,
-) -> usize {
-    match form {
-        Form::Whole => whole(out, n, a, r),
-        Form::Sums => {
-            let k = hex(out, n, sum(a, r));
-            byte(out, k, b'\n')
-        }
-        Form::Text => line(out, n, now, a, r, kind, request, len, t),
-    }
-}
-
-fn say_end(out: &mut Buffer, n: usize, form: Form, cut: bool, t: Tally) {
-    match form {
-        Form::Whole => flush(out, n),
-        Form::Sums => flush(out, n),
-        Form::Text => {
-            let m = text::end(out, n, cut, t);
-            flush(out, m)
-        }
-    }
-}
-
-// What is carried from call to call: the machine, the bytes that wait to be written, and the count.
-#[derive(Clone, Copy)]
-struct Going {
-    machine: Machine,
-    bytes: usize,
-    tally: Tally,
+    Ok(())
 }
 
 // The time that a line of text gives.
 fn now(m: Machine) -> f64 {
-    let p = m.panel;
-    let input = p.input;
-    let clock = input.clock;
-    time(clock)
+    time(m.panel.input.clock)
+}
+
+// What is carried from call to call.
+#[derive(Clone, Copy)]
+struct Going {
+    machine: Machine,
+    tally: Tally,
 }
 
 fn answered(
     before: Going,
     answer: &Answer,
-    out: &mut Buffer,
+    out: &mut Output,
     form: Form,
     kind: u32,
-    request: &Record,
-    len: usize,
+    w: &[u32],
     step: Step,
 ) -> Going {
-    let t = before.tally;
+    let a = answer.words();
     let r = step.reply;
     let machine = step.machine;
-    let tally = counted(t, answer, r, kind, request);
-    let bytes = written(
-        out,
-        before.bytes,
-        form,
-        now(machine),
-        answer,
-        r,
-        kind,
-        request,
-        len,
-        tally,
-    );
-    Going {
-        machine,
-        bytes,
-        tally,
-    }
+    let tally = before.tally.counted(a, r, kind, w);
+    // the output takes every text
+    let _ = match form {
+        Form::Whole => whole(out, a, r),
+        Form::Sums => writeln!(out, "{:016x}", sum(a, r)),
+        Form::Text => text::line(out, now(machine), a, r, kind, w, tally),
+    };
+    Going { machine, tally }
 }
 
 fn one_call(
@@ -167,19 +97,14 @@ fn one_call(
     lent: &mut Lent,
     image: &mut Image,
     answer: &mut Answer,
-    out: &mut Buffer,
+    out: &mut Output,
     form: Form,
     kind: u32,
-    request: &Record,
-    len: usize,
+    w: &[u32],
 ) -> Going {
-    if WORDS < len {
-        return before;
-    }
-    let all: &[u32] = request;
-    let m = before.machine;
+    answer.clear();
     let step = call(
-        m,
+        before.machine,
         times,
         positions,
         codes,
@@ -192,23 +117,23 @@ fn one_call(
         image,
         answer,
         kind,
-        &all[0..len],
+        w,
     );
-    answered(before, answer, out, form, kind, request, len, step)
+    answered(before, answer, out, form, kind, w, step)
 }
 
-fn ended(out: &mut Buffer, s: Going, form: Form, cut: bool) {
-    let t = s.tally;
-    say_end(out, s.bytes, form, cut, t);
+fn ended(out: &mut Output, s: Going, form: Form, cut: bool) {
+    if let Form::Text = form {
+        // the output takes every text
+        let _ = text::end(out, cut, s.tally);
+    }
+    out.flush();
 }
 
 fn start(presses: &mut [u8; PRESSES]) -> Going {
-    let machine = fresh(presses);
-    let tally = none();
     Going {
-        machine,
-        bytes: 0,
-        tally,
+        machine: fresh(presses),
+        tally: Tally::default(),
     }
 }
 
@@ -224,24 +149,27 @@ pub fn replay(form: Form, limit: usize) {
     let mut edges = [0.0f32; EDGES];
     let mut lent = [0u32; LENT];
     let mut image = [0u32; IMAGE_PLACES];
-    let mut answer = [0u32; ROOM];
-    let mut out = [0u8; SIZE];
+    let mut answer = Answer::new();
+    let mut out = Output::new();
     let mut request = [0u32; WORDS];
     let mut s = start(&mut presses);
     let mut left = limit;
-    let mut more = is_read(&mut request, 1);
-    while more {
-        let head = request[0];
-        let len = wide_length(head);
+    // ends where the input or the limit does
+    for _ in 0..u64::MAX {
+        let Some(first) = read(&mut request, 1) else {
+            break;
+        };
+        let head = at(first, 0);
+        let len = (head % LENGTHS) as usize;
         if left <= len {
             ended(&mut out, s, form, true);
             say_if_longer(&mut request, left);
             return;
         }
-        if !is_read(&mut request, len) {
+        let Some(w) = read(&mut request, len) else {
             ended(&mut out, s, form, true);
             return;
-        }
+        };
         s = one_call(
             s,
             &mut times,
@@ -257,12 +185,10 @@ pub fn replay(form: Form, limit: usize) {
             &mut answer,
             &mut out,
             form,
-            head / 0x100_0000,
-            &request,
-            len,
+            head / LENGTHS,
+            w,
         );
         left -= len + 1;
-        more = is_read(&mut request, 1);
     }
     ended(&mut out, s, form, false);
 }

@@ -2,45 +2,40 @@
 use data::bits::bit_number;
 use key_state::keys::{Keys, PRESSES};
 use panel::keys::{key_down, num_presses};
-use trace_words::words::{Answer, word};
+use trace_words::words::Answer;
 
-// Keys `first` to `first + 31`, the first in bit 0.
+const KEYS_A_WORD: u32 = 32;
+
+const COUNTS_A_WORD: u32 = 4;
+
+// The last word is filled up by zeros.
+const KEY_WORDS: u32 = 5;
+
+const PRESS_WORDS: u32 = 37;
+
+// As many keys from `first` on, the first in bit 0.
 fn down_word(k: Keys, first: u32) -> u32 {
     let mut bits: u32 = 0;
-    let mut left: u32 = 32;
-    while left > 0 {
-        left -= 1;
-        bits = bits % 0x8000_0000 * 2 + bit_number(key_down(k, first % 256 + left));
+    for i in (0..KEYS_A_WORD).rev() {
+        bits = bits << 1 | bit_number(key_down(k, first % 256 + i));
     }
     bits
 }
 
-pub fn keys_down(a: &mut Answer, n: usize, k: Keys) -> usize {
-    let mut m = word(a, n, down_word(k, 0));
-    m = word(a, m, down_word(k, 32));
-    m = word(a, m, down_word(k, 64));
-    m = word(a, m, down_word(k, 96));
-    word(a, m, down_word(k, 128))
-}
-
-fn wide(x: u8) -> u32 {
-    x as u32
-}
-
-// Keys `4 j` to `4 j + 3`, the first in the low byte.
-fn presses_word(p: &[u8; PRESSES], j: u32) -> u32 {
-    let k = j % 64 * 4;
-    let low = wide(num_presses(p, k)) % 256 + wide(num_presses(p, k + 1)) % 256 * 0x100;
-    let high = wide(num_presses(p, k + 2)) % 256 + wide(num_presses(p, k + 3)) % 256 * 0x100;
-    low % 0x1_0000 + high % 0x1_0000 * 0x1_0000
-}
-
-pub fn presses(a: &mut Answer, n: usize, p: &[u8; PRESSES]) -> usize {
-    let mut m = n;
-    let mut j: u32 = 0;
-    while j < 37 {
-        m = word(a, m, presses_word(p, j));
-        j += 1;
+pub fn keys_down(a: &mut Answer, k: Keys) {
+    for j in 0..KEY_WORDS {
+        a.word(down_word(k, KEYS_A_WORD * j));
     }
-    m
+}
+
+pub fn presses(a: &mut Answer, p: &[u8; PRESSES]) {
+    for j in 0..PRESS_WORDS {
+        let k = COUNTS_A_WORD * j;
+        a.word(u32::from_le_bytes([
+            num_presses(p, k),
+            num_presses(p, k + 1),
+            num_presses(p, k + 2),
+            num_presses(p, k + 3),
+        ]));
+    }
 }

@@ -6,113 +6,90 @@ use data::kinds::{
 };
 use trace_words::request::at;
 
-// The parts in their order: Ends, the five releases, motion, wheel End, focus lost, pointer gone.
-const ENDS: u32 = 0;
+const LAST_BUTTON: u32 = 4;
 
-const FIRST_RELEASE: u32 = 1;
+// The parts in their order.
+#[derive(Clone, Copy, PartialEq)]
+enum Part {
+    Ends,
+    Release(u32),
+    Motion,
+    WheelEnd,
+    FocusLost,
+    PointerGone,
+}
 
-const BUTTONS: u32 = 5;
-
-const MOTION: u32 = FIRST_RELEASE + BUTTONS;
-
-const WHEEL_END: u32 = 7;
-
-const FOCUS_LOST: u32 = 8;
-
-const POINTER_GONE: u32 = 9;
-
-// An event that is none of these, or out of their order.
-const OTHER: u32 = 10;
-
-// The part that was last, and the place of the first release.
+// The part that was last, and where, if it is a release.
 #[derive(Clone, Copy)]
 struct Seen {
-    part: u32,
+    part: Part,
     x: u32,
     y: u32,
 }
 
-// `part`, if it is so.
-fn part_if(is: bool, part: u32) -> u32 {
-    if is {
-        return part;
-    }
-    OTHER
-}
-
 // The release of a button; a press is none.
-fn release_of(head: u32) -> u32 {
+fn release_of(head: u32) -> Option<Part> {
     let button = head / 32 % 8;
-    if (head / 256 % 2 == 0) & (button < BUTTONS) {
-        return FIRST_RELEASE + button;
-    }
-    OTHER
+    (head / 256 % 2 == 0 && button <= LAST_BUTTON).then_some(Part::Release(button))
 }
 
 // The part that an event is, by its first word.
-fn part_of(head: u32) -> u32 {
+fn part_of(head: u32) -> Option<Part> {
     match head / KIND_UNIT {
-        MOTION_KIND => MOTION,
+        MOTION_KIND => Some(Part::Motion),
         BUTTON_KIND => release_of(head),
-        GONE_KIND => POINTER_GONE,
-        TOUCH_KIND => part_if(head % 4 == 2, ENDS),
-        WHEEL_KIND => part_if(head / 128 % 4 == 2, WHEEL_END),
-        FOCUS_KIND => part_if(head % 2 == 0, FOCUS_LOST),
-        _ => OTHER,
+        GONE_KIND => Some(Part::PointerGone),
+        TOUCH_KIND => (head % 4 == 2).then_some(Part::Ends),
+        WHEEL_KIND => (head / 128 % 4 == 2).then_some(Part::WheelEnd),
+        FOCUS_KIND => (head % 2 == 0).then_some(Part::FocusLost),
+        _ => None,
+    }
+}
+
+// Ends follow each other; every other part follows the one before it.
+fn follows(last: Part, part: Part) -> bool {
+    match part {
+        Part::Ends => last == Part::Ends,
+        Part::Release(0) => last == Part::Ends,
+        Part::Release(button) => last == Part::Release(button - 1),
+        Part::Motion => last == Part::Release(LAST_BUTTON),
+        Part::WheelEnd => last == Part::Motion,
+        Part::FocusLost => last == Part::WheelEnd,
+        Part::PointerGone => last == Part::FocusLost,
     }
 }
 
 // A release after the first is where that is.
-fn is_there(s: Seen, part: u32, x: u32, y: u32) -> bool {
-    if (part <= FIRST_RELEASE) | (part >= MOTION) {
-        return true;
+fn is_there(last: Seen, now: Seen) -> bool {
+    match now.part {
+        Part::Release(button) => button == 0 || last.x == now.x && last.y == now.y,
+        _ => true,
     }
-    (s.x == x) & (s.y == y)
 }
 
-// Ends follow each other; every other part follows the one before it.
-fn follows(last: u32, part: u32) -> bool {
-    if part == ENDS {
-        return last == ENDS;
-    }
-    if last < OTHER {
-        return part == last + 1;
-    }
-    false
-}
-
-fn after_event(s: Seen, e: &[u32]) -> Seen {
-    let part = part_of(at(e, 0));
-    let x = at(e, 1);
-    let y = at(e, 2);
-    if !follows(s.part, part) {
-        return Seen {
-            part: OTHER,
-            x: 0,
-            y: 0,
-        };
-    }
-    if !is_there(s, part, x, y) {
-        return Seen {
-            part: OTHER,
-            x: 0,
-            y: 0,
-        };
-    }
-    Seen { part, x, y }
+// None: an event that is no part, or out of its order.
+fn after_event(seen: Option<Seen>, e: &[u32]) -> Option<Seen> {
+    let last = seen?;
+    let now = Seen {
+        part: part_of(at(e, 0))?,
+        x: at(e, 1),
+        y: at(e, 2),
+    };
+    (follows(last.part, now.part) && is_there(last, now)).then_some(now)
 }
 
 // The feed of a clearing pass.
 pub fn is_clearing(feed: &[u32]) -> bool {
-    let mut s = Seen {
-        part: ENDS,
+    let mut seen = Some(Seen {
+        part: Part::Ends,
         x: 0,
         y: 0,
-    };
+    });
+    // by hand: the place moves by an event's length
     let mut from: usize = 0;
     while from < feed.len() {
-        s = after_event(s, &feed[from..]);
+        seen = after_event(seen, &feed[from..]);
         from = next_place(feed, from);
     }
-    s.part == POINTER_GONE
+    seen.is_some_and(|s| s.part == Part::PointerGone)
 }

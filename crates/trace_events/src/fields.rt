@@ -1,5 +1,7 @@
 // Parts of an event in plain text.
-use trace_output::output::{Buffer, byte, bytes, decimal};
+ghost use Rattle.std.specs.Prelude.{◌<◌};
+
+use std::fmt;
 use trace_words::request::at;
 
 // An f32 is its 24 digits, of which the first is not stored, times 2 to the power of its exponent less this.
@@ -7,13 +9,15 @@ const BIAS: u32 = 150;
 
 const FIRST_DIGIT: u32 = 0x80_0000;
 
+const SIGN: u32 = 0x8000_0000;
+
 // A number divided by 2 to the power `by`, to the nearest, halves up.
 fn rounded(m: u64, by: u32) -> u64 {
     if by == 0 {
         return m;
     }
     if by < 64 {
-        return std::num::wrapping_add_u64(m >> by, (m >> (by - 1)) % 2);
+        return (m >> by).wrapping_add((m >> (by - 1)) % 2);
     }
     0
 }
@@ -22,112 +26,106 @@ fn rounded(m: u64, by: u32) -> u64 {
 fn thousandths(bits: u32) -> u64 {
     let exponent = bits / FIRST_DIGIT % 256;
     let digits = bits % FIRST_DIGIT + FIRST_DIGIT;
-    if exponent == 0 {
+    if exponent == 0 || exponent > BIAS {
         return 0;
     }
-    if exponent > BIAS {
-        return 0;
-    }
-    rounded(digits as u64 * 1000, BIAS - exponent)
+    rounded(u64::from(digits) * 1000, BIAS - exponent)
 }
 
-// The places after the point, as many as are not 0 at the end.
-fn places(out: &mut Buffer, n: usize, part: u64) -> usize {
-    if part == 0 {
-        return n;
+// A float by its bits, rounded to three places, of which those that are 0 at the end are left out.
+#[derive(Clone, Copy)]
+pub struct Float(pub u32);
+
+impl fmt::Display for Float {
+    fn fmt<W: fmt::Write>(&self, f: &mut fmt::Formatter<W>) -> fmt::Result {
+        let t = thousandths(self.0);
+        let sign = if self.0 >= SIGN { "-" } else { "" };
+        let (whole, part) = (t / 1000, t % 1000);
+        if part == 0 {
+            write!(f, "{sign}{whole}")
+        } else if part % 100 == 0 {
+            write!(f, "{sign}{whole}.{}", part / 100)
+        } else if part % 10 == 0 {
+            write!(f, "{sign}{whole}.{:02}", part / 10)
+        } else {
+            write!(f, "{sign}{whole}.{part:03}")
+        }
     }
-    let mut m = byte(out, n, b'.');
-    m = decimal(out, m, part / 100);
-    if part % 100 == 0 {
-        return m;
-    }
-    m = decimal(out, m, part / 10 % 10);
-    if part % 10 == 0 {
-        return m;
-    }
-    decimal(out, m, part % 10)
 }
 
-// A float by its bits, rounded to three places.
-pub fn float(out: &mut Buffer, n: usize, bits: u32) -> usize {
-    let t = thousandths(bits);
-    let mut m = n;
-    if bits >= 0x8000_0000 {
-        m = byte(out, m, b'-');
+#[derive(Clone, Copy)]
+pub struct Pair(pub Float, pub Float);
+
+impl fmt::Display for Pair {
+    fn fmt<W: fmt::Write>(&self, f: &mut fmt::Formatter<W>) -> fmt::Result {
+        write!(f, "({}, {})", self.0, self.1)
     }
-    m = decimal(out, m, t / 1000);
-    places(out, m, t % 1000)
 }
 
-// Two floats in parentheses.
-pub fn pair(out: &mut Buffer, n: usize, x: u32, y: u32) -> usize {
-    let mut m = byte(out, n, b'(');
-    m = float(out, m, x);
-    m = bytes(out, m, b", ");
-    m = float(out, m, y);
-    byte(out, m, b')')
+// The two floats of which the first stands at `i`.
+pub fn two_floats(e: &[u32], i: usize) -> Pair {
+    Pair(Float(at(e, i)), Float(at(e, i.saturating_add(1))))
 }
 
-// The position or delta after an event's first word.
-pub fn two_floats(out: &mut Buffer, n: usize, e: &[u32]) -> usize {
-    pair(out, n, at(e, 1), at(e, 2))
-}
-
-pub fn pressed(out: &mut Buffer, n: usize, is: u32) -> usize {
-    if is == 0 {
-        return bytes(out, n, b" released");
+pub fn pressed(is: u32) -> &'static str {
+    match is {
+        0 => "released",
+        _ => "pressed",
     }
-    bytes(out, n, b" pressed")
 }
 
-pub fn phase(out: &mut Buffer, n: usize, p: u32) -> usize {
+pub fn phase(p: u32) -> &'static str {
     match p {
-        0 => bytes(out, n, b" start"),
-        1 => bytes(out, n, b" move"),
-        2 => bytes(out, n, b" end"),
-        _ => bytes(out, n, b" cancel"),
+        0 => "start",
+        1 => "move",
+        2 => "end",
+        _ => "cancel",
     }
 }
 
-pub fn unit(out: &mut Buffer, n: usize, u: u32) -> usize {
+pub fn unit(u: u32) -> &'static str {
     match u {
-        0 => bytes(out, n, b" points"),
-        1 => bytes(out, n, b" lines"),
-        _ => bytes(out, n, b" pages"),
+        0 => "points",
+        1 => "lines",
+        _ => "pages",
     }
 }
 
-pub fn source(out: &mut Buffer, n: usize, s: u32) -> usize {
+pub fn source(s: u32) -> &'static str {
     match s {
-        0 => bytes(out, n, b", source unknown"),
-        1 => bytes(out, n, b", source wheel"),
-        2 => bytes(out, n, b", source trackpad"),
-        _ => bytes(out, n, b", source momentum"),
+        0 => "unknown",
+        1 => "wheel",
+        2 => "trackpad",
+        _ => "momentum",
     }
 }
 
-// A flag's name, where it is set.
-fn flag(out: &mut Buffer, n: usize, is: u32, name: &[u8]) -> usize {
-    if is == 0 {
-        return n;
-    }
-    bytes(out, n, name)
-}
+// The names of the flags in the low five bits, each after a space.
+#[derive(Clone, Copy)]
+pub struct Flags(pub u32);
 
-// The names of the flags in the low five bits.
-pub fn flags(out: &mut Buffer, n: usize, low: u32) -> usize {
-    let mut m = flag(out, n, low % 2, b" alt");
-    m = flag(out, m, low / 2 % 2, b" ctrl");
-    m = flag(out, m, low / 4 % 2, b" shift");
-    m = flag(out, m, low / 8 % 2, b" mac_cmd");
-    flag(out, m, low / 16 % 2, b" command")
+impl fmt::Display for Flags {
+    fn fmt<W: fmt::Write>(&self, f: &mut fmt::Formatter<W>) -> fmt::Result {
+        let mut bits = self.0;
+        for name in [" alt", " ctrl", " shift", " mac_cmd", " command"] {
+            if bits % 2 == 1 {
+                f.write_str(name)?;
+            }
+            bits /= 2;
+        }
+        Ok(())
+    }
 }
 
 // What was held beside a button or the wheel.
-pub fn held(out: &mut Buffer, n: usize, low: u32) -> usize {
-    if low % 32 == 0 {
-        return n;
+#[derive(Clone, Copy)]
+pub struct Held(pub u32);
+
+impl fmt::Display for Held {
+    fn fmt<W: fmt::Write>(&self, f: &mut fmt::Formatter<W>) -> fmt::Result {
+        if self.0 % 32 == 0 {
+            return Ok(());
+        }
+        write!(f, ", with{}", Flags(self.0))
     }
-    let m = bytes(out, n, b", with");
-    flags(out, m, low)
 }

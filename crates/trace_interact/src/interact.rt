@@ -1,16 +1,15 @@
 // INTERACT: the hit lists of a request, and the words of the answer.
-ghost use Rattle.std.specs.Prelude.{◌≤◌, ◌<◌};
+ghost use Rattle.std.specs.Prelude.{◌<◌};
 
-use hit_lists::{Hit, MaybeHit};
-use interaction_state::state::{Interacted, InteractionSnapshot};
+use data::refusal::InteractRefusal;
+use hit_lists::Hit;
+use interaction_state::state::InteractionSnapshot;
 use key_state::keys::PRESSES;
 use panel::state::{Panel, after_interact};
 use pointer_events::CODES;
-use trace_state::parts::maybe_id;
-use trace_words::reply::{Reply, malformed, refused_interact, taken};
+use trace_words::reply::{Reply, malformed, refused_by, taken};
 use trace_words::request::{at, id};
-use trace_words::words;
-use trace_words::words::{Answer, count, word};
+use trace_words::words::Answer;
 use widget_index::table::{Numbers, WidgetRects, Words};
 
 // The panel after an interact, and the answer.
@@ -29,34 +28,26 @@ const LIST: usize = 132;
 
 const IDS: usize = 80;
 
-fn wide(x: u32) -> usize
-    ensures { result < 4294967296 }
-{
-    x as usize
-}
-
-fn is_given(w: &[u32], bit: u32) -> usize
-    ensures { result ≤ 1 }
-{
-    if trace_words::request::bit(at(w, 4), bit) {
-        return 1;
-    }
-    0
+fn is_given(w: &[u32], bit: u32) -> bool {
+    trace_words::request::bit(at(w, 4), bit)
 }
 
 // Five words, then three for each entry.
 fn is_well_formed(w: &[u32]) -> bool {
-    let entries = wide(at(w, 2)) + wide(at(w, 3)) + is_given(w, 1) + is_given(w, 2);
+    let given = usize::from(is_given(w, 1)) + usize::from(is_given(w, 2));
+    let entries = at(w, 2) as usize + at(w, 3) as usize + given;
     w.len() == HEAD + entries * 3
 }
 
-fn at_most(n: usize, limit: usize) -> usize
-    ensures { (result ≤ n) × (result ≤ limit) }
+// An entry of the lists or, behind them, one that is given.
+fn entry(w: &[u32], i: usize) -> Hit
+    requires { i < 17179869184 }
 {
-    if n < limit {
-        return n;
+    let j = HEAD + i * 3;
+    Hit {
+        id: id(w, j, j + 1),
+        sense: u64::from(at(w, j + 2)),
     }
-    limit
 }
 
 // The list of `n` entries from entry `first` on, two words each.
@@ -64,69 +55,50 @@ fn list(w: &[u32], first: usize, n: usize) -> [u64; LIST]
     requires { first < 4294967296 }
 {
     let mut words = [0u64; LIST];
-    let mut i: usize = 0;
-    while i < ENTRIES {
-        if n <= i {
-            return words;
-        }
-        let j = HEAD + (first + i) * 3;
-        words[i * 2] = id(w, j, j + 1);
-        words[i * 2 + 1] = at(w, j + 2) as u64;
-        i += 1;
+    for i in 0..n.min(ENTRIES) {
+        let hit = entry(w, first + i);
+        words[i * 2] = hit.id;
+        words[i * 2 + 1] = hit.sense;
     }
     words
 }
 
-fn hit(w: &[u32], given: usize, entry: usize) -> MaybeHit
-    requires { entry < 17179869184 }
+fn hit(w: &[u32], is_given: bool, i: usize) -> Option<Hit>
+    requires { i < 17179869184 }
 {
-    if given == 0 {
-        return MaybeHit::None;
-    }
-    let j = HEAD + entry * 3;
-    let h = Hit {
-        id: id(w, j, j + 1),
-        sense: at(w, j + 2) as u64,
-    };
-    MaybeHit::Some(h)
+    if is_given { Some(entry(w, i)) } else { None }
 }
 
 // The number of ids, and the ids.
-fn ids(a: &mut Answer, n: usize, list: &[u64], many: usize) -> usize {
-    let mut m = count(a, n, many);
-    let mut i: usize = 0;
-    while i < list.len() {
-        if many <= i {
-            return m;
-        }
-        m = words::id(a, m, list[i]);
-        i += 1;
+fn ids(a: &mut Answer, list: &[u64], many: usize) {
+    a.count(many);
+    for d in list.iter().take(many) {
+        a.id(*d);
     }
-    m
 }
 
-fn snapshot(a: &mut Answer, s: InteractionSnapshot, tally: u32, top: &[u64], all: &[u64]) -> usize {
-    let clicked = s.clicked;
-    let long_touched = s.long_touched;
-    let started = s.drag_started;
-    let dragged = s.dragged;
-    let stopped = s.drag_stopped;
-    let mut m = maybe_id(a, 0, clicked);
-    m = maybe_id(a, m, long_touched);
-    m = maybe_id(a, m, started);
-    m = maybe_id(a, m, dragged);
-    m = maybe_id(a, m, stopped);
-    m = ids(a, m, top, s.hovered);
-    m = ids(a, m, all, s.contains_pointer);
-    word(a, m, tally)
+fn snapshot(a: &mut Answer, s: InteractionSnapshot, tally: u32, top: &[u64], all: &[u64]) {
+    a.maybe_id(s.clicked);
+    a.maybe_id(s.long_touched);
+    a.maybe_id(s.drag_started);
+    a.maybe_id(s.dragged);
+    a.maybe_id(s.drag_stopped);
+    ids(a, top, s.hovered);
+    ids(a, all, s.contains_pointer);
+    a.word(tally);
 }
 
-fn reply_of(a: &mut Answer, out: Interacted, top: &[u64], all: &[u64]) -> Reply {
+fn reply_of(
+    a: &mut Answer,
+    out: Result<interaction_state::state::Answer, InteractRefusal>,
+    top: &[u64],
+    all: &[u64],
+) -> Reply {
     match out {
-        Interacted::Refused(why) => refused_interact(a, why),
-        Interacted::Taken(x) => {
-            let shot = x.snapshot;
-            taken(snapshot(a, shot, x.tally, top, all))
+        Err(why) => refused_by(a, why),
+        Ok(x) => {
+            snapshot(a, x.snapshot, x.tally, top, all);
+            taken(a.len())
         }
     }
 }
@@ -151,9 +123,10 @@ fn interact_with(
     let pointer = input.pointer;
     let devices = p.devices;
     let state = p.interaction;
-    let entry = wide(at(w, 2)) + wide(at(w, 3));
-    let click = hit(w, is_given(w, 1), entry);
-    let drag = hit(w, is_given(w, 2), entry + is_given(w, 1));
+    let entries = at(w, 2) as usize + at(w, 3) as usize;
+    let click_given = is_given(w, 1);
+    let click = hit(w, click_given, entries);
+    let drag = hit(w, is_given(w, 2), entries + usize::from(click_given));
     let out = panel::interact::interact(
         clock, screen, pointer, devices, codes, presses, state, p.tally, set, words, numbers,
         close, within, click, drag, top, all,
@@ -179,10 +152,10 @@ fn interact_in(
     top: &mut [u64],
     all: &mut [u64],
 ) -> Stepped {
-    let c = at_most(at_most(wide(at(w, 2)), ENTRIES) * 2, close.len());
-    let i = at_most(at_most(wide(at(w, 3)), ENTRIES) * 2, within.len());
-    let n = at_most(wide(at(w, 0)), top.len());
-    let m = at_most(wide(at(w, 1)), all.len());
+    let c = close.len().min(ENTRIES.min(at(w, 2) as usize) * 2);
+    let i = within.len().min(ENTRIES.min(at(w, 3) as usize) * 2);
+    let n = top.len().min(at(w, 0) as usize);
+    let m = all.len().min(at(w, 1) as usize);
     interact_with(
         a,
         p,
@@ -215,8 +188,9 @@ pub fn interact(
             reply: malformed(),
         };
     }
-    let close = list(w, 0, wide(at(w, 2)));
-    let within = list(w, wide(at(w, 2)), wide(at(w, 3)));
+    let first = at(w, 2) as usize;
+    let close = list(w, 0, first);
+    let within = list(w, first, at(w, 3) as usize);
     let mut top = [0u64; IDS];
     let mut all = [0u64; IDS];
     interact_in(

@@ -13,7 +13,7 @@ fn read_in(k: KernelTouches, w: &[u32], bytes: &Bytes, feed: &mut [u32]) -> Kern
     let n = byte_count(w);
     let room = places(w, feed.len());
     let all: &[u8] = bytes;
-    read_records(k, id(w, 0, 1), &all[0..n], &mut feed[0..room])
+    read_records(k, id(w, 0, 1), &all[..n], &mut feed[..room])
 }
 
 // KERNEL. Refused, the machine is as before.
@@ -24,9 +24,7 @@ pub fn kernel(m: Machine, a: &mut Answer, w: &[u32]) -> Step {
     let mut bytes = [0u8; MAX_BYTES];
     let mut feed = [0u32; FEED_PLACES];
     let before = m.kernel;
-    unpack(&mut bytes, byte_count(w), w);
+    unpack(&mut bytes, w);
     let read = read_in(before, w, &bytes, &mut feed);
-    let kernel = read.kernel;
-    let answer = read.answer;
-    with_kernel(m, kernel, answered(a, &feed, answer))
+    with_kernel(m, read.kernel, answered(a, &feed, read.answer))
 }

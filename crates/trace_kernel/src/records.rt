@@ -1,78 +1,42 @@
 // The bytes of the records in a request.
-ghost use Rattle.std.specs.Prelude.{◌≤◌, ◌<◌};
+ghost use Rattle.std.specs.Prelude.{◌≤◌};
 
 use trace_words::request::at;
 
 // Device, places, number of bytes.
 const HEAD_WORDS: usize = 4;
 
+const WORD_BYTES: usize = 4;
+
 // 4,096 records.
 pub const MAX_BYTES: usize = 98304;
 
-pub type Bytes = [u8; 98304];
-
-fn wide(w: u32) -> usize
-    ensures { result < 4294967296 }
-{
-    w as usize
-}
-
-fn at_most(n: usize, limit: usize) -> usize
-    ensures { result ≤ limit }
-{
-    if n < limit {
-        return n;
-    }
-    limit
-}
+pub type Bytes = [u8; MAX_BYTES];
 
 // As many words as the bytes take, and no more bytes than there is room for.
 pub fn is_well_formed(w: &[u32]) -> bool {
-    let n = wide(at(w, 3));
-    if n > MAX_BYTES {
-        return false;
-    }
-    w.len() == HEAD_WORDS + (n + 3) / 4
+    let n = at(w, 3) as usize;
+    n <= MAX_BYTES && w.len() == HEAD_WORDS + n.div_ceil(WORD_BYTES)
 }
 
 // How many bytes the request has.
 pub fn byte_count(w: &[u32]) -> usize
     ensures { result ≤ 98304 }
 {
-    at_most(wide(at(w, 3)), MAX_BYTES)
+    (at(w, 3) as usize).min(MAX_BYTES)
 }
 
 // How many places of the feed buffer the request asks for, of those that are lent.
 pub fn places(w: &[u32], lent: usize) -> usize
     ensures { result ≤ lent }
 {
-    at_most(wide(at(w, 2)), lent)
+    lent.min(at(w, 2) as usize)
 }
 
-// A word's byte, the low one first.
-fn byte_of(word: u32, which: usize) -> u8 {
-    match which {
-        0 => (word % 256) as u8,
-        1 => (word / 0x100 % 256) as u8,
-        2 => (word / 0x1_0000 % 256) as u8,
-        _ => (word / 0x100_0000) as u8,
+// The bytes of the words after the head, the low byte of each first.
+pub fn unpack(bytes: &mut Bytes, w: &[u32]) {
+    let (fours, _) = bytes.as_chunks_mut::<WORD_BYTES>();
+    for (four, word) in fours.iter_mut().zip(w.iter().skip(HEAD_WORDS)) {
+        *four = word.to_le_bytes();
     }
-}
-
-// Byte `i` of the records, which stand after the head, four to a word.
-fn byte_at(w: &[u32], i: usize) -> u8 {
-    byte_of(at(w, HEAD_WORDS + i / 4), i % 4)
-}
-
-// The first `n` bytes; how many.
-pub fn unpack(bytes: &mut Bytes, n: usize, w: &[u32]) -> usize {
-    let mut i: usize = 0;
-    while i < MAX_BYTES {
-        if n <= i {
-            return i;
-        }
-        bytes[i] = byte_at(w, i);
-        i += 1;
-    }
-    i
 }

@@ -1,11 +1,9 @@
 -- What the first 18 words of a PASS say (compare/FORMAT.md); its feed is the words after them.
-use Rattle.std.specs.Prelude.{ℕ, ◌/◌, cond, List}
+use Rattle.std.specs.Prelude.{ℕ, ◌/◌, cond, List, Option, None, Some, Float}
 use Rattle.emath.specs.declared.rect.Rect.{Rect}
 use Rattle.data.specs.Bits.{bit_of}
 use Rattle.data.specs.Modifiers.{modifiers_of}
-use Rattle.model.specs.Types.{MaybeF64, no_time, some_time, InputOptions}
-use Rattle.input_state.specs.declared.input.MaybeRect.{MaybeRect}
-use Rattle.input_state.specs.declared.input.MaybeRect.TheVariants.{None as no_rect, Some as some_rect}
+use Rattle.model.specs.Types.{InputOptions}
 use Rattle.input_state.specs.declared.input.PassInput.{PassInput}
 use Rattle.trace_words.specs.Request.{word_at, float_at, seconds_at}
 
@@ -14,15 +12,15 @@ abbrev pub pass_words : ℕ
 pass_words = 18
 
 -- "bit 0 time given", "1, 2 time, f64"
-unfoldable pub time_given : List ℕ → MaybeF64
-time_given w = cond (bit_of 1 (word_at w 0)) (some_time (seconds_at w 1 2)) no_time
+unfoldable pub time_given : List ℕ → Option Float
+time_given w = cond (bit_of 1 (word_at w 0)) (Some (seconds_at w 1 2)) None
 
 -- "1 screen rectangle given", "6–9 screen rectangle: min x, min y, max x, max y"
 abbrev pub rect_at : List ℕ → Rect
 rect_at w = record { min = record { x = float_at w 6; y = float_at w 7 }; max = record { x = float_at w 8; y = float_at w 9 } }
 
-unfoldable pub rect_given : List ℕ → MaybeRect
-rect_given w = cond (bit_of 2 (word_at w 0)) (some_rect (rect_at w)) no_rect
+unfoldable pub rect_given : List ℕ → Option Rect
+rect_given w = cond (bit_of 2 (word_at w 0)) (Some (rect_at w)) None
 
 -- 10 to 16, and "17 zoom modifier (bits 0–4), horizontal (5–9), vertical (10–14)"
 unfoldable pub options_given : List ℕ → InputOptions

@@ -1,6 +1,5 @@
 -- What a call makes of the machine and of the lent arrays. A reply of code 0 says that the call is taken.
-use Rattle.std.specs.Prelude.{ℕ, ◌≡◌, cond, List, eqb, length, drop}
-use Rattle.std.proofs.Math.Option.{none}
+use Rattle.std.specs.Prelude.{ℕ, ◌≡◌, cond, List, eqb, length, drop, None}
 use Rattle.survey.specs.Survey.{option}
 use Rattle.kernel_touch.specs.declared.slots.KernelTouches.{KernelTouches}
 use Rattle.kernel_touch.specs.Slots as Slots
@@ -58,7 +57,7 @@ pub record Resets (m : Machine) (w presses presses' : List ℕ) (r : Step) : Typ
 -- the machine after a pass that returned b
 pub record AfterPass (m : Machine) (b : Begun) (r : Step) : Type 0 where
   -- the call is refused only where the pass is
-  pub refused : (r.reply.code ≡ 0 → ⊥) → (option b.refusal ≡ none → ⊥) × (r.machine ≡ m)
+  pub refused : (r.reply.code ≡ 0 → ⊥) → (option b.refusal ≡ None → ⊥) × (r.machine ≡ m)
   pub taken : r.reply.code ≡ 0 → r.machine ≡ with_panel m (after_pass m.panel b)
 
 -- a pass of what the words say, over the lent arrays l, which are l' after it: the machine then is `after`

@@ -4,22 +4,21 @@ ghost use Rattle.trace_machine.specs.Given.{time_given, rect_given, options_give
 
 use data::modifiers::Modifiers;
 use data::options::InputOptions;
-use data::pointer::MaybeF64;
 use emath::pos2::Pos2;
 use emath::rect::Rect;
-use input_state::input::{MaybeRect, PassInput};
+use input_state::input::PassInput;
 use trace_words::request::{at, bit, float, seconds};
 
-fn time_given(w: &[u32]) -> MaybeF64
+fn time_given(w: &[u32]) -> Option<f64>
     ensures { result ≡ time_given w.now }
 {
     if bit(at(w, 0), 1) {
-        return MaybeF64::Some(seconds(w, 1, 2));
+        return Some(seconds(w, 1, 2));
     }
-    MaybeF64::None
+    None
 }
 
-fn rect_given(w: &[u32]) -> MaybeRect
+fn rect_given(w: &[u32]) -> Option<Rect>
     ensures { result ≡ rect_given w.now }
 {
     if bit(at(w, 0), 2) {
@@ -31,9 +30,9 @@ fn rect_given(w: &[u32]) -> MaybeRect
             x: float(w, 8),
             y: float(w, 9),
         };
-        return MaybeRect::Some(Rect { min, max });
+        return Some(Rect { min, max });
     }
-    MaybeRect::None
+    None
 }
 
 fn options(w: &[u32]) -> InputOptions

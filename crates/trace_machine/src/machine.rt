@@ -1,16 +1,15 @@
 // The panel, the widget set, the kernel's slots and the length of the last image between two calls; the lent arrays stand beside them.
-ghost use Rattle.std.proofs.Math.Option.{none};
-ghost use Rattle.std.specs.Prelude.{◌≡◌};
+ghost use Rattle.std.specs.Prelude.{◌≡◌, None};
 ghost use Rattle.survey.specs.Survey.{option};
 ghost use Rattle.trace_machine.specs.Machine.{with_panel, with_set, with_kernel, with_parked, step, stepped, Starts, Resets, AfterPass};
 
+use data::refusal::PassRefusal;
 use input_pass::begin::Begun;
 use kernel_touch::slots::KernelTouches;
 use key_state::keys::PRESSES;
 use panel::state::{Panel, after_pass};
 use panel::widgets::empty;
-use survey::reading::MaybePassRefusal;
-use trace_words::reply::{Reply, malformed, refused_pass, taken};
+use trace_words::reply::{Reply, malformed, refused_by, taken};
 use trace_words::words::Answer;
 use widget_index::table::WidgetRects;
 
@@ -36,7 +35,7 @@ pub fn fresh(presses: &mut [u8; PRESSES]) -> Machine
 {
     let panel = panel::state::fresh(presses);
     let set = empty();
-    let kernel = kernel_touch::slots::fresh();
+    let kernel = KernelTouches::fresh();
     Machine {
         panel,
         set,
@@ -92,12 +91,12 @@ pub fn reset(m: Machine, presses: &mut [u8; PRESSES], w: &[u32]) -> Step
 }
 
 // A pass that is taken has no words to answer.
-fn pass_answer(a: &mut Answer, refusal: MaybePassRefusal) -> Reply
-    ensures { option refusal ≡ none → result.code ≡ 0 }
+fn pass_answer(a: &mut Answer, refusal: Result<(), PassRefusal>) -> Reply
+    ensures { option refusal ≡ None → result.code ≡ 0 }
 {
     match refusal {
-        MaybePassRefusal::None => taken(0),
-        MaybePassRefusal::Some(why) => refused_pass(a, why),
+        Ok(()) => taken(0),
+        Err(why) => refused_by(a, why),
     }
 }
 

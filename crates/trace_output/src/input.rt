@@ -1,72 +1,36 @@
 // The words of standard input, a record at a time.
-ghost use Rattle.std.specs.Prelude.{◌≤◌};
+const STDIN_FILENO: i32 = 0;
 
 // A record has fewer than 1 MiB.
 pub const WORDS: usize = 262144;
 
 pub type Record = [u32; WORDS];
 
-const CHUNK: usize = 4096;
+const WORD_BYTES: usize = 4;
 
-const CHUNKS: u32 = 257;
+// Words that are read at once.
+const CHUNK: usize = 1024;
 
-fn wide(x: u8) -> u32
-    ensures { result ≤ 255 }
-{
-    x as u32
+const CHUNK_BYTES: usize = WORD_BYTES * CHUNK;
+
+// The words of the bytes, low byte first.
+fn unpack(words: &mut [u32], bytes: &[u8]) {
+    let (fours, _) = bytes.as_chunks::<WORD_BYTES>();
+    for (word, four) in words.iter_mut().zip(fours) {
+        *word = u32::from_le_bytes(*four);
+    }
 }
 
-// The words of `got` bytes, after the first `n` of the record; a word cut short is left out.
-fn unpack(bytes: &[u8; CHUNK], got: usize, request: &mut Record, n: usize) -> usize {
-    let mut m = n;
-    let mut i: usize = 0;
-    while i + 4 <= CHUNK {
-        if got < i + 4 {
-            return m;
+// The next `len` words, if they could be read.
+pub fn read(request: &mut Record, len: usize) -> Option<&[u32]> {
+    let words = request.get_mut(..len)?;
+    let mut bytes = [0u8; CHUNK_BYTES];
+    for chunk in words.chunks_mut(CHUNK) {
+        let wanted = CHUNK_BYTES.min(chunk.len() * WORD_BYTES);
+        if io::read_full(STDIN_FILENO, &mut bytes[..wanted]) < wanted {
+            return None;
         }
-        if WORDS <= m {
-            return m;
-        }
-        let low = wide(bytes[i]) + wide(bytes[i + 1]) * 0x100;
-        let high = wide(bytes[i + 2]) + wide(bytes[i + 3]) * 0x100;
-        request[m] = low + high * 0x1_0000;
-        m += 1;
-        i += 4;
+        unpack(chunk, &bytes[..wanted]);
     }
-    m
-}
-
-// Bytes of `left` words, as many as fit.
-fn read_some(bytes: &mut [u8], left: usize) -> usize {
-    if left < bytes.len() / 4 {
-        return io::read_full(0, &mut bytes[0..left * 4]);
-    }
-    io::read_full(0, bytes)
-}
-
-// Reads `len` words; how many there were.
-fn read(request: &mut Record, len: usize) -> usize {
-    let mut bytes = [0u8; CHUNK];
-    let mut n: usize = 0;
-    let mut left: u32 = CHUNKS;
-    while left > 0 {
-        if len <= n {
-            return n;
-        }
-        let got = read_some(&mut bytes, len - n);
-        n = unpack(&bytes, got, request, n);
-        if got < 4 {
-            return n;
-        }
-        left -= 1;
-    }
-    n
-}
-
-// Whether the next `len` words could be read.
-pub fn is_read(request: &mut Record, len: usize) -> bool {
-    if WORDS < len {
-        return false;
-    }
-    read(request, len) == len
+    Some(words)
 }

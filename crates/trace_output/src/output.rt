@@ -1,73 +1,60 @@
-// Bytes for standard output, gathered in a lent buffer of which the first `n` wait to be written.
+// Bytes for standard output, gathered till the buffer is full.
+ghost use Rattle.std.specs.Prelude.{◌≤◌};
+
+use std::fmt;
+
 const STDOUT_FILENO: i32 = 1;
 
-pub const SIZE: usize = 65536;
+const SIZE: usize = 65536;
 
-pub type Buffer = [u8; SIZE];
+// The first `len` bytes wait to be written.
+#[derive(Drop)]
+pub struct Output {
+    bytes: [u8; SIZE],
+    len: usize,
+    ghost fits: { len ≤ 65536 },
+}
 
-pub fn flush(out: &[u8], n: usize) {
-    if n <= out.len() {
-        io::write_all(STDOUT_FILENO, &out[0..n]);
+impl Output {
+    pub fn new() -> Output {
+        Output {
+            bytes: [0; SIZE],
+            len: 0,
+        }
+    }
+
+    pub fn flush(&mut self) {
+        io::write_all(STDOUT_FILENO, &self.bytes[..self.len]);
+        self.len = 0;
+    }
+
+    fn byte(&mut self, b: u8) {
+        if self.len < SIZE {
+            self.bytes[self.len] = b;
+            self.len += 1;
+            return;
+        }
+        self.flush();
+        self.bytes[0] = b;
+        self.len = 1;
+    }
+
+    pub fn bytes(&mut self, text: &[u8]) {
+        for b in text {
+            self.byte(*b);
+        }
+    }
+
+    // Low byte first.
+    pub fn word(&mut self, w: u32) {
+        self.bytes(&w.to_le_bytes());
     }
 }
 
-pub fn byte(out: &mut Buffer, n: usize, b: u8) -> usize {
-    if n < SIZE {
-        out[n] = b;
-        return n + 1;
+// It takes every text.
+impl fmt::Write for Output {
+    fn write_str(&mut self, s: &str) -> fmt::Result {
+        self.bytes(s.as_bytes());
+        Ok(())
     }
-    flush(out, SIZE);
-    out[0] = b;
-    1
-}
-
-pub fn word(out: &mut Buffer, n: usize, w: u32) -> usize {
-    let mut m = byte(out, n, (w % 256) as u8);
-    m = byte(out, m, (w / 0x100 % 256) as u8);
-    m = byte(out, m, (w / 0x1_0000 % 256) as u8);
-    byte(out, m, (w / 0x100_0000) as u8)
-}
-
-pub fn bytes(out: &mut Buffer, n: usize, text: &[u8]) -> usize {
-    let mut m = n;
-    let mut i: usize = 0;
-    while i < text.len() {
-        m = byte(out, m, text[i]);
-        i += 1;
-    }
-    m
-}
-
-pub fn spaces(out: &mut Buffer, n: usize, k: usize) -> usize {
-    let mut m = n;
-    let mut left = k;
-    while left > 0 {
-        m = byte(out, m, b' ');
-        left -= 1;
-    }
-    m
-}
-
-pub fn decimal(out: &mut Buffer, n: usize, x: u64) -> usize {
-    let mut text = [0u8; 20];
-    let k = io::decimal(x, &mut text);
-    bytes(out, n, &text[..k])
-}
-
-// Right-aligned in `width` places.
-pub fn aligned(out: &mut Buffer, n: usize, x: u64, width: usize) -> usize {
-    let mut text = [0u8; 20];
-    let k = io::decimal(x, &mut text);
-    if k < width {
-        let m = spaces(out, n, width - k);
-        return bytes(out, m, &text[..k]);
-    }
-    bytes(out, n, &text[..k])
-}
-
-// 16 hexadecimal digits.
-pub fn hex(out: &mut Buffer, n: usize, x: u64) -> usize {
-    let mut text = [0u8; 16];
-    let k = io::hex(x, 16, &mut text);
-    bytes(out, n, &text[..k])
 }

@@ -1,13 +1,13 @@
 -- What PARK, RESTORE_LAST and RESTORE make of the machine, of the pass's arrays and of the place for the last image. A reply of code 0 says that the call is taken.
-use Rattle.std.specs.Prelude.{ℕ, ◌≡◌, List, length, take}
+use Rattle.std.specs.Prelude.{ℕ, ◌≡◌, List, length, take, Ok, Err, Result, ⊤}
 use Rattle.model.specs.Pass as Model
 use Rattle.input_state.specs.View.{Lent}
 use Rattle.panel.specs.View.{shown_by}
 use Rattle.image_form.specs.Form.{image}
 use Rattle.parking.specs.declared.check.ImageRefusal.{ImageRefusal}
-use Rattle.parking.specs.declared.check.ImageRefusal.TheVariants.{None, FirstWord, Word}
-use Rattle.parking.specs.declared.park.Parked.{Parked}
-use Rattle.parking.specs.declared.park.Parked.TheVariants.{Words, Short}
+use Rattle.parking.specs.declared.check.ImageRefusal.TheVariants.{FirstWord, Word}
+use Rattle.parking.specs.declared.park.ParkRefusal.{ParkRefusal}
+use Rattle.parking.specs.declared.park.ParkRefusal.TheVariants.{ShortBuffer}
 use Rattle.parking.specs.declared.restore.Restored.{Restored}
 use Rattle.parking.specs.Restored.{RestoredAs}
 use Rattle.trace_machine.specs.declared.machine.Machine.{Machine}
@@ -17,14 +17,14 @@ use Rattle.trace_machine.specs.Machine.{with_panel, with_parked}
 -- ---- PARK
 
 -- a buffer after a park: as before, or the panel's image in its first places
-abbrev pub Kept : Model.Panel → List ℕ → List ℕ → Parked → Type 0
-Kept p out out' Short = out' ≡ out
-Kept p out out' (Words n) = (n ≡ length (image p)) × (take n out' ≡ image p)
+abbrev pub Kept : Model.Panel → List ℕ → List ℕ → Result ℕ ParkRefusal → Type 0
+Kept p out out' (Err ShortBuffer) = out' ≡ out
+Kept p out out' (Ok n) = (n ≡ length (image p)) × (take n out' ≡ image p)
 
 -- the machine after such a park: refused with 8, or the image's length is kept
-abbrev pub AfterPark : Machine → Step → Parked → Type 0
-AfterPark m r Short = (r.reply.code ≡ 8) × (r.machine ≡ m)
-AfterPark m r (Words n) = (r.reply.code ≡ 0) × (r.machine ≡ with_parked m n)
+abbrev pub AfterPark : Machine → Step → Result ℕ ParkRefusal → Type 0
+AfterPark m r (Err ShortBuffer) = (r.reply.code ≡ 8) × (r.machine ≡ m)
+AfterPark m r (Ok n) = (r.reply.code ≡ 0) × (r.machine ≡ with_parked m n)
 
 pub record Parks (m : Machine) (l : Lent) (out out' : List ℕ) (r : Step) : Type 0 where
   -- refused: the machine, and every place of the last image
@@ -35,10 +35,10 @@ pub record Parks (m : Machine) (l : Lent) (out out' : List ℕ) (r : Step) : Typ
 -- ---- RESTORE, and RESTORE_LAST with the words of the last image
 
 -- 0, or 02's number
-abbrev pub code_of : ImageRefusal → ℕ
-code_of None = 0
-code_of FirstWord = 14
-code_of (Word i) = 15
+abbrev pub code_of : Result ⊤ ImageRefusal → ℕ
+code_of (Ok tt) = 0
+code_of (Err FirstWord) = 14
+code_of (Err (Word i)) = 15
 
 -- the machine after a restore that returned this
 pub record AfterRestore (m : Machine) (read : Restored) (r : Step) : Type 0 where

@@ -7,35 +7,27 @@ ghost use Rattle.trace_parking.specs.Calls.{AfterPark, Kept, Parks};
 use emath_history::history::{MAX_LEN, PARTS};
 use key_state::keys::PRESSES;
 use panel::state::Panel;
-use parking::park::Parked;
+use parking::park::ParkRefusal;
 use pointer_events::{CODES, PLACES};
 use trace_machine::machine::{Machine, Step, kept, refused, with_parked};
 use trace_words::reply;
 use trace_words::reply::taken;
 use trace_words::request::at;
-use trace_words::words::{Answer, word};
+use trace_words::words::Answer;
 
 // docs/IMAGE.md: the longest image.
 pub const IMAGE_PLACES: usize = 4974;
 
-pub type Image = [u32; 4974];
+pub type Image = [u32; IMAGE_PLACES];
 
 // 02: a buffer too short.
 const SHORT: u32 = 8;
-
-fn wide(w: u32) -> usize {
-    w as usize
-}
 
 // How many places the request asks for, of those that are lent.
 fn places_of(w: &[u32]) -> usize
     ensures { result ≤ 4974 }
 {
-    let n = wide(at(w, 0));
-    if n < IMAGE_PLACES {
-        return n;
-    }
-    IMAGE_PLACES
+    IMAGE_PLACES.min(at(w, 0) as usize)
 }
 
 // Parked into the first places of a buffer; the others keep their contents.
@@ -48,7 +40,7 @@ fn park_in(
     presses: &[u8; PRESSES],
     out: &mut [u32],
     room: usize,
-) -> Parked
+) -> Result<usize, ParkRefusal>
     requires { room ≤ length out.old }
     ensures { Kept (shown_by (lent times.now positions.now codes.now places.now presses.now) panel)
         out.old out.new result }
@@ -64,27 +56,16 @@ fn park_in(
     )
 }
 
-// The image's words, the answer's first.
-fn put(a: &mut Answer, image: &Image, len: usize) -> usize {
-    let mut m: usize = 0;
-    let mut i: usize = 0;
-    while i < IMAGE_PLACES {
-        if len <= i {
-            return m;
-        }
-        m = word(a, m, image[i]);
-        i += 1;
-    }
-    m
-}
-
 // The answer has the image's words, which are kept for RESTORE_LAST.
-fn parked(m: Machine, image: &Image, a: &mut Answer, done: Parked) -> Step
+fn parked(m: Machine, image: &Image, a: &mut Answer, done: Result<usize, ParkRefusal>) -> Step
     ensures { AfterPark m result done }
 {
     match done {
-        Parked::Short => kept(m, reply::refused(SHORT)),
-        Parked::Words(n) => with_parked(m, n, taken(put(a, image, n))),
+        Err(ParkRefusal::ShortBuffer) => kept(m, reply::refused(SHORT)),
+        Ok(n) => {
+            a.all(&image[..n.min(IMAGE_PLACES)]);
+            with_parked(m, n, taken(a.len()))
+        }
     }
 }
 

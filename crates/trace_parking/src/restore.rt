@@ -19,13 +19,13 @@ const FIRST_WORD: u32 = 14;
 
 const WRONG_WORD: u32 = 15;
 
-fn restore_answer(a: &mut Answer, refusal: ImageRefusal) -> Reply
+fn restore_answer(a: &mut Answer, refusal: Result<(), ImageRefusal>) -> Reply
     ensures { result.code ≡ code_of refusal }
 {
     match refusal {
-        ImageRefusal::None => taken(0),
-        ImageRefusal::FirstWord => reply::refused(FIRST_WORD),
-        ImageRefusal::Word(i) => reply::refused_at(a, WRONG_WORD, i),
+        Ok(()) => taken(0),
+        Err(ImageRefusal::FirstWord) => reply::refused(FIRST_WORD),
+        Err(ImageRefusal::Word(i)) => reply::refused_at(a, WRONG_WORD, i),
     }
 }
 

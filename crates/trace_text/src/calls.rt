@@ -1,4 +1,4 @@
-// The calls that a trace may hold.
+// The calls that a trace may hold. Constants: the contract of a call speaks of the number in the request.
 
 pub const RESET: u32 = 0;
 

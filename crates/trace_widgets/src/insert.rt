@@ -5,12 +5,11 @@ ghost use Rattle.trace_widgets.specs.Insert.{Insertion};
 use crate::lent::{gathered, given, scatter};
 use data::limits::MAX_WIDGETS;
 use data::widget::WidgetRect;
-use trace_words::records;
 use trace_words::records::Lent;
-use trace_words::reply::{Reply, malformed, refused_insert, taken};
+use trace_words::reply::{Reply, malformed, refused_by, taken};
 use trace_words::request::{INSERT_WORDS, WIDGET_WORDS, at, bit, widget};
-use trace_words::words::{Answer, count};
-use widget_append::{Decision, Inserted};
+use trace_words::words::Answer;
+use widget_append::Decision;
 use widget_index::index::{find, find_layer};
 use widget_index::table::{
     Edges, Numbers, PLACES, WidgetRects, Words, count_at, layer_of, layers_of,
@@ -44,15 +43,16 @@ fn slice(
 ) -> [WidgetRect; MAX_WIDGETS] {
     let blank = [new; MAX_WIDGETS];
     let layer = new.layer_id;
-    let e = find_layer(words, numbers, layer, layers_of(h));
-    if e == 0 {
-        return blank;
+    match find_layer(words, numbers, layer, layers_of(h)) {
+        None => blank,
+        Some(l) => {
+            let a = gathered(blank, h, numbers, lent, l);
+            if w.len() <= INSERT_WORDS {
+                return a;
+            }
+            given(a, count_at(numbers, l), &w[INSERT_WORDS..])
+        }
     }
-    let a = gathered(blank, h, numbers, lent, e - 1);
-    if w.len() <= INSERT_WORDS {
-        return a;
-    }
-    given(a, count_at(numbers, e - 1), &w[INSERT_WORDS..])
 }
 
 // The slice after a taken insertion goes back to where it is kept.
@@ -65,23 +65,22 @@ fn follow(
 ) {
     let set = d.set;
     let w = d.widget;
-    let e = find(set, words, numbers, w.id);
-    if e == 0 {
-        return;
-    }
     if d.to > MAX_WIDGETS {
         return;
     }
-    let b = settled(a, d.from, d.to, w);
-    scatter(lent, set, numbers, b, layer_of(numbers[PLACES + (e - 1)]));
+    if let Some(s) = find(set, words, numbers, w.id) {
+        let b = settled(a, d.from, d.to, w);
+        scatter(lent, set, numbers, b, layer_of(numbers[PLACES + s]));
+    }
 }
 
 fn answered(a: &mut Answer, position: usize, many: usize, w: WidgetRect) -> Reply
     ensures { result.code ≡ 0 }
 {
-    let mut m = count(a, 0, position);
-    m = count(a, m, many);
-    taken(records::widget(a, m, w))
+    a.count(position);
+    a.count(many);
+    a.widget(w);
+    taken(a.len())
 }
 
 fn insert_into(
@@ -112,15 +111,15 @@ fn insert_into(
     let record = d.widget;
     let outcome = d.answer;
     match outcome {
-        Inserted::Refused(why) => Placed {
+        Err(why) => Placed {
             set,
-            reply: refused_insert(a, why),
+            reply: refused_by(a, why),
         },
-        Inserted::Taken(position, many) => {
+        Ok(i) => {
             follow(words, numbers, lent, before, d);
             Placed {
                 set,
-                reply: answered(a, position, many, record),
+                reply: answered(a, i.position, i.count, record),
             }
         }
     }

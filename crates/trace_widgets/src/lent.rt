@@ -29,25 +29,20 @@ fn put_id(lent: &mut Lent, at: usize, d: u64)
 fn put_rect(lent: &mut Lent, at: usize, r: Rect)
     requires { at ≤ 17404 }
 {
-    let min = r.min;
-    let max = r.max;
-    lent[at] = ieee::bits::to_bits32(min.x);
-    lent[at + 1] = ieee::bits::to_bits32(min.y);
-    lent[at + 2] = ieee::bits::to_bits32(max.x);
-    lent[at + 3] = ieee::bits::to_bits32(max.y);
+    lent[at] = ieee::bits::to_bits32(r.min.x);
+    lent[at + 1] = ieee::bits::to_bits32(r.min.y);
+    lent[at + 2] = ieee::bits::to_bits32(r.max.x);
+    lent[at + 3] = ieee::bits::to_bits32(r.max.y);
 }
 
 fn put_record(lent: &mut Lent, slot: usize, w: WidgetRect) {
     let at = slot % MAX_WIDGETS * WIDGET_WORDS;
-    let layer = w.layer_id;
-    let rect = w.rect;
-    let interact_rect = w.interact_rect;
     put_id(lent, at, w.id);
     put_id(lent, at + 2, w.parent_id);
-    lent[at + 4] = layer.order;
-    put_id(lent, at + 5, layer.id);
-    put_rect(lent, at + 7, rect);
-    put_rect(lent, at + 11, interact_rect);
+    lent[at + 4] = w.layer_id.order;
+    put_id(lent, at + 5, w.layer_id.id);
+    put_rect(lent, at + 7, w.rect);
+    put_rect(lent, at + 11, w.interact_rect);
     lent[at + 15] = w.sense;
     lent[at + 16] = bit_number(w.enabled) + 2 * bit_number(w.visible);
 }
@@ -60,16 +55,13 @@ pub fn gathered(
     lent: &Lent,
     l: usize,
 ) -> [WidgetRect; MAX_WIDGETS] {
-    let n = widgets_of(h);
     let mut b = a;
-    let mut s: usize = 0;
-    while s < n {
+    for s in 0..widgets_of(h) {
         let place = numbers[PLACES + s];
         let position = position_of(place);
         if (layer_of(place) == l) & (position < MAX_WIDGETS) {
             b[position % MAX_WIDGETS] = record(lent, s);
         }
-        s += 1;
     }
     b
 }
@@ -77,17 +69,12 @@ pub fn gathered(
 // The first `k` places hold the records given, 17 words each.
 pub fn given(a: [WidgetRect; MAX_WIDGETS], k: usize, w: &[u32]) -> [WidgetRect; MAX_WIDGETS] {
     let mut b = a;
-    let mut i: usize = 0;
-    while i < MAX_WIDGETS {
-        if k <= i {
-            return b;
-        }
+    for i in 0..k.min(MAX_WIDGETS) {
         let from = i * WIDGET_WORDS;
         if w.len() <= from {
             return b;
         }
         b[i] = widget(&w[from..]);
-        i += 1;
     }
     b
 }
@@ -100,15 +87,11 @@ pub fn scatter(
     a: [WidgetRect; MAX_WIDGETS],
     l: usize,
 ) {
-    let n = widgets_of(h);
-    let mut s: usize = 0;
-    while s < n {
+    for s in 0..widgets_of(h) {
         let place = numbers[PLACES + s];
         let position = position_of(place);
         if (layer_of(place) == l) & (position < MAX_WIDGETS) {
-            let w = a[position % MAX_WIDGETS];
-            put_record(lent, s, w);
+            put_record(lent, s, a[position % MAX_WIDGETS]);
         }
-        s += 1;
     }
 }

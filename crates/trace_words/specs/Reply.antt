@@ -1,18 +1,17 @@
 -- The answer to a refused call, by its row of 01's "Answers of a refused call".
-use Rattle.std.specs.Prelude.{ℕ, ◌%◌, ◌≡◌, List, set}
-use Rattle.std.proofs.Math.Option.{Option, none, some}
+use Rattle.std.specs.Prelude.{ℕ, ◌%◌, ◌≡◌, List, set, Option, None, Some}
 use Rattle.data.specs.Numbers.{Row}
 use Rattle.trace_words.specs.declared.reply.Reply.{Reply}
 
 -- an index is one word, its low 32 bits
 abbrev pub index_count : Option ℕ → ℕ
-index_count none = 0
-index_count (some i) = 1
+index_count None = 0
+index_count (Some i) = 1
 
 -- it stands in word 0, and every other place keeps its contents
 abbrev pub with_index : Option ℕ → List ℕ → List ℕ
-with_index none a = a
-with_index (some i) a = set a 0 (i % 0x1_0000_0000)
+with_index None a = a
+with_index (Some i) a = set a 0 (i % 0x1_0000_0000)
 
 -- what a call refused by this row writes
 pub record Answers (row : Row) (a : List ℕ) (r : Reply) (b : List ℕ) : Type 0 where

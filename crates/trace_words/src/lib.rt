@@ -4,4 +4,5 @@
 pub mod records;
 pub mod reply;
 pub mod request;
+pub mod touching;
 pub mod words;

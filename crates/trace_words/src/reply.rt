@@ -1,16 +1,82 @@
-// An answer's first word: 0, or why the call is refused, and how many words follow. Those are in the lent array.
-ghost use Rattle.std.proofs.Math.Option.{some};
-ghost use Rattle.std.specs.Prelude.{◌≡◌};
-ghost use Rattle.data.specs.Numbers.{pass_row, insert_row, interact_row};
+// An answer's first word: 0, or why the call is refused, and how many words follow. Those are in the lent answer.
+ghost use Rattle.std.specs.Prelude.{◌≡◌, Some};
+ghost use Rattle.data.specs.Numbers.{Row, pass_row, insert_row, interact_row};
 ghost use Rattle.trace_words.specs.Reply.{Answers};
 
-use crate::words::{Answer, count};
+use crate::words::Answer;
 use data::refusal::{InsertRefusal, InteractRefusal, PassRefusal};
 
+// Two numbers, as they are written: 0 is taken.
 #[derive(Clone, Copy)]
 pub struct Reply {
     pub code: u32,
     pub words: usize,
+}
+
+// Why a call is refused, by its row of 01's "Answers of a refused call": the number, and the index in the rows that return one.
+pub trait Refusal: Copy {
+    ghost told: { Self → Row };
+
+    fn code(self) -> u32
+        ensures { result ≡ (told self).number };
+
+    fn index(self) -> Option<usize>
+        ensures { result ≡ (told self).index };
+}
+
+impl Refusal for PassRefusal {
+    ghost told = { pass_row };
+
+    fn code(self) -> u32 {
+        self.number()
+    }
+
+    fn index(self) -> Option<usize> {
+        match self {
+            PassRefusal::Malformed(i) => Some(i),
+            PassRefusal::OutsideDomain(i) => Some(i),
+            PassRefusal::TimeBelow => None,
+            PassRefusal::TooManyEvents(i) => Some(i),
+            PassRefusal::NoPlace(i) => Some(i),
+        }
+    }
+}
+
+impl Refusal for InsertRefusal {
+    ghost told = { insert_row };
+
+    fn code(self) -> u32 {
+        self.number()
+    }
+
+    fn index(self) -> Option<usize> {
+        match self {
+            InsertRefusal::Malformed => Some(0),
+            InsertRefusal::OutsideDomain => Some(0),
+            InsertRefusal::Full => None,
+            InsertRefusal::OtherLayer => None,
+            InsertRefusal::ShortSlice => None,
+            InsertRefusal::ZeroId => None,
+        }
+    }
+}
+
+impl Refusal for InteractRefusal {
+    ghost told = { interact_row };
+
+    fn code(self) -> u32 {
+        self.number()
+    }
+
+    fn index(self) -> Option<usize> {
+        match self {
+            InteractRefusal::Malformed(i) => Some(i),
+            InteractRefusal::TooManyHits(i) => Some(i),
+            InteractRefusal::ShortBuffer => None,
+            InteractRefusal::ZeroId => None,
+            InteractRefusal::TallyFull => None,
+        }
+    }
 }
 
 // The request doesn't follow the format.
@@ -19,10 +85,7 @@ pub const MALFORMED: u32 = 255;
 pub fn malformed() -> Reply
     ensures { (result.code ≡ 255) × (result.words ≡ 0) }
 {
-    Reply {
-        code: MALFORMED,
-        words: 0,
-    }
+    refused(MALFORMED)
 }
 
 pub fn taken(words: usize) -> Reply
@@ -40,51 +103,23 @@ pub fn refused(number: u32) -> Reply
     }
 }
 
+// The answer is the index alone.
 pub fn refused_at(a: &mut Answer, number: u32, index: usize) -> Reply
-    ensures { Answers (record { number = number; index = some index }) a.old result a.new }
+    ensures { Answers (record { number = number; index = Some index }) a.old.words result a.new.words }
 {
+    a.clear();
+    a.count(index);
     Reply {
         code: number,
-        words: count(a, 0, index),
+        words: a.len(),
     }
 }
 
-pub fn refused_pass(a: &mut Answer, why: PassRefusal) -> Reply
-    ensures { Answers (pass_row why) a.old result a.new }
+pub fn refused_by<R: Refusal>(a: &mut Answer, why: R) -> Reply
+    ensures { Answers (R.told why) a.old.words result a.new.words }
 {
-    let number = why.number();
-    match why {
-        PassRefusal::Malformed(i) => refused_at(a, number, i),
-        PassRefusal::OutsideDomain(i) => refused_at(a, number, i),
-        PassRefusal::TimeBelow => refused(number),
-        PassRefusal::TooManyEvents(i) => refused_at(a, number, i),
-        PassRefusal::NoPlace(i) => refused_at(a, number, i),
-    }
-}
-
-pub fn refused_insert(a: &mut Answer, why: InsertRefusal) -> Reply
-    ensures { Answers (insert_row why) a.old result a.new }
-{
-    let number = why.number();
-    match why {
-        InsertRefusal::Malformed => refused_at(a, number, 0),
-        InsertRefusal::OutsideDomain => refused_at(a, number, 0),
-        InsertRefusal::Full => refused(number),
-        InsertRefusal::OtherLayer => refused(number),
-        InsertRefusal::ShortSlice => refused(number),
-        InsertRefusal::ZeroId => refused(number),
-    }
-}
-
-pub fn refused_interact(a: &mut Answer, why: InteractRefusal) -> Reply
-    ensures { Answers (interact_row why) a.old result a.new }
-{
-    let number = why.number();
-    match why {
-        InteractRefusal::Malformed(i) => refused_at(a, number, i),
-        InteractRefusal::TooManyHits(i) => refused_at(a, number, i),
-        InteractRefusal::ShortBuffer => refused(number),
-        InteractRefusal::ZeroId => refused(number),
-        InteractRefusal::TallyFull => refused(number),
+    match why.index() {
+        None => refused(why.code()),
+        Some(i) => refused_at(a, why.code(), i),
     }
 }

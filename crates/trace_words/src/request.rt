@@ -11,10 +11,7 @@ use emath::rect::Rect;
 pub fn at(w: &[u32], i: usize) -> u32
     ensures { result ≡ word_at w.now i }
 {
-    if i < w.len() {
-        return w[i];
-    }
-    0
+    w.get(i).copied().unwrap_or(0)
 }
 
 pub fn float(w: &[u32], i: usize) -> f32
@@ -27,7 +24,7 @@ pub fn float(w: &[u32], i: usize) -> f32
 pub fn id(w: &[u32], i: usize, j: usize) -> u64
     ensures { result ≡ id_at w.now i j }
 {
-    at(w, i) as u64 + at(w, j) as u64 * 0x1_0000_0000
+    u64::from(at(w, i)) + u64::from(at(w, j)) * 0x1_0000_0000
 }
 
 pub fn seconds(w: &[u32], i: usize, j: usize) -> f64
@@ -36,7 +33,7 @@ pub fn seconds(w: &[u32], i: usize, j: usize) -> f64
     ieee::bits::from_bits64(id(w, i, j))
 }
 
-// The bit of weight `of`.
+// The bit of weight `of`; by division, since the contract speaks of any weight.
 pub fn bit(w: u32, of: u32) -> bool
     ensures { result ≡ bit_of of w }
 {
@@ -53,33 +50,31 @@ pub const WIDGET_WORDS: usize = 17;
 
 pub const INSERT_WORDS: usize = 18;
 
-fn rect_of(a: u32, b: u32, c: u32, d: u32) -> Rect {
-    let min = Pos2 {
-        x: ieee::bits::from_bits32(a),
-        y: ieee::bits::from_bits32(b),
-    };
-    let max = Pos2 {
-        x: ieee::bits::from_bits32(c),
-        y: ieee::bits::from_bits32(d),
-    };
-    Rect { min, max }
+fn pos(w: &[u32], i: usize, j: usize) -> Pos2 {
+    Pos2 {
+        x: float(w, i),
+        y: float(w, j),
+    }
 }
 
 // The record in the first 17 words.
 pub fn widget(w: &[u32]) -> WidgetRect {
-    let layer_id = LayerId {
-        order: at(w, 4),
-        id: id(w, 5, 6),
-    };
-    let rect = rect_of(at(w, 7), at(w, 8), at(w, 9), at(w, 10));
-    let interact_rect = rect_of(at(w, 11), at(w, 12), at(w, 13), at(w, 14));
     let bits = at(w, 16);
     WidgetRect {
         id: id(w, 0, 1),
         parent_id: id(w, 2, 3),
-        layer_id,
-        rect,
-        interact_rect,
+        layer_id: LayerId {
+            order: at(w, 4),
+            id: id(w, 5, 6),
+        },
+        rect: Rect {
+            min: pos(w, 7, 8),
+            max: pos(w, 9, 10),
+        },
+        interact_rect: Rect {
+            min: pos(w, 11, 12),
+            max: pos(w, 13, 14),
+        },
         sense: at(w, 15),
         enabled: bit(bits, 1),
         visible: bit(bits, 2),

@@ -1,109 +1,195 @@
-// An answer's words, one after the other in an array that the caller lends; `n` of them are written. None has more than it holds.
-ghost use Rattle.std.specs.Prelude.{◌%◌};
-ghost use Rattle.trace_words.specs.Words.{Written};
+// An answer's words, one after the other. None has more than there is room for.
+ghost use Rattle.std.specs.Prelude.{◌≡◌, ◌≤◌, ◌%◌, take};
 
 use data::bits::bit_number;
 use data::modifiers::Modifiers;
-use data::pointer::MaybeF64;
-use emath::pos2::{MaybePos2, Pos2};
+use data::widget::WidgetRect;
+use emath::pos2::Pos2;
 use emath::rect::Rect;
-use emath::vec2::{MaybeVec2, Vec2};
+use emath::vec2::Vec2;
 
 pub const ROOM: usize = 65536;
 
-pub type Answer = [u32; ROOM];
+// The first `len` words are written.
+#[derive(Drop)]
+pub struct Answer {
+    words: [u32; ROOM],
+    len: usize,
+    ghost fits: { len ≤ 65536 },
+}
 
-pub fn word(a: &mut Answer, n: usize, w: u32) -> usize
-    ensures { Written n w a.old result a.new }
-{
-    if n < ROOM {
-        a[n] = w;
-        return n + 1;
+// A value that is so many words of an answer, whatever it is.
+pub trait Said {
+    const WORDS: usize;
+
+    fn say(self, a: &mut Answer);
+}
+
+impl Answer {
+    ghost use Rattle.trace_words.specs.Words.{Written};
+
+    pub fn new() -> Answer
+        ensures { result.len ≡ 0 }
+    {
+        Answer {
+            words: [0; ROOM],
+            len: 0,
+        }
     }
-    n
-}
 
-// Low word, high word.
-pub fn id(a: &mut Answer, n: usize, d: u64) -> usize {
-    let m = word(a, n, (d % 0x1_0000_0000) as u32);
-    word(a, m, (d / 0x1_0000_0000) as u32)
-}
-
-pub fn count(a: &mut Answer, n: usize, c: usize) -> usize
-    ensures { Written n (c % 0x1_0000_0000) a.old result a.new }
-{
-    word(a, n, (c % 0x1_0000_0000) as u32)
-}
-
-pub fn flag(a: &mut Answer, n: usize, b: bool) -> usize {
-    word(a, n, bit_number(b))
-}
-
-pub fn float(a: &mut Answer, n: usize, x: f32) -> usize {
-    word(a, n, ieee::bits::to_bits32(x))
-}
-
-pub fn seconds(a: &mut Answer, n: usize, t: f64) -> usize {
-    id(a, n, ieee::bits::to_bits64(t))
-}
-
-pub fn pos(a: &mut Answer, n: usize, p: Pos2) -> usize {
-    let m = float(a, n, p.x);
-    float(a, m, p.y)
-}
-
-pub fn vec(a: &mut Answer, n: usize, v: Vec2) -> usize {
-    let m = float(a, n, v.x);
-    float(a, m, v.y)
-}
-
-pub fn rect(a: &mut Answer, n: usize, r: Rect) -> usize {
-    let min = r.min;
-    let max = r.max;
-    let m = pos(a, n, min);
-    pos(a, m, max)
-}
-
-pub fn flags(a: &mut Answer, n: usize, m: Modifiers) -> usize {
-    word(a, n, m.number())
-}
-
-pub fn zeros(a: &mut Answer, n: usize, k: u32) -> usize {
-    let mut m = n;
-    let mut left = k;
-    while left > 0 {
-        m = word(a, m, 0);
-        left -= 1;
+    pub fn clear(&mut self)
+        ensures { (self.new.len ≡ 0) × (self.new.words ≡ self.old.words) }
+    {
+        self.len = 0;
     }
-    m
-}
 
-pub fn maybe_pos(a: &mut Answer, n: usize, p: MaybePos2) -> usize {
-    match p {
-        MaybePos2::None => zeros(a, n, 3),
-        MaybePos2::Some(q) => {
-            let m = word(a, n, 1);
-            pos(a, m, q)
+    pub fn len(&self) -> usize
+        ensures { result ≡ self.now.len }
+    {
+        self.len
+    }
+
+    // What is written.
+    pub fn words(&self) -> &[u32]
+        ensures { result.now ≡ take self.now.len self.now.words }
+    {
+        &self.words[..self.len]
+    }
+
+    pub fn word(&mut self, w: u32)
+        ensures { Written w self.old self.new }
+    {
+        if self.len < ROOM {
+            self.words[self.len] = w;
+            self.len += 1;
+        }
+    }
+
+    pub fn all(&mut self, words: &[u32]) {
+        for w in words {
+            self.word(*w);
+        }
+    }
+
+    pub fn zeros(&mut self, k: usize) {
+        for _ in 0..k {
+            self.word(0);
+        }
+    }
+
+    // Low word, high word.
+    pub fn id(&mut self, d: u64) {
+        self.word((d % 0x1_0000_0000) as u32);
+        self.word((d / 0x1_0000_0000) as u32);
+    }
+
+    pub fn count(&mut self, c: usize)
+        ensures { Written (c % 0x1_0000_0000) self.old self.new }
+    {
+        self.word((c % 0x1_0000_0000) as u32);
+    }
+
+    pub fn flag(&mut self, b: bool) {
+        self.word(bit_number(b));
+    }
+
+    // The first in bit 0, at most 32.
+    pub fn bits(&mut self, flags: &[bool]) {
+        let mut w: u32 = 0;
+        for b in flags.iter().rev() {
+            w = w << 1 | bit_number(*b);
+        }
+        self.word(w);
+    }
+
+    pub fn float(&mut self, x: f32) {
+        self.word(ieee::bits::to_bits32(x));
+    }
+
+    pub fn seconds(&mut self, t: f64) {
+        self.id(ieee::bits::to_bits64(t));
+    }
+
+    pub fn pos(&mut self, p: Pos2) {
+        self.float(p.x);
+        self.float(p.y);
+    }
+
+    pub fn vec(&mut self, v: Vec2) {
+        self.float(v.x);
+        self.float(v.y);
+    }
+
+    pub fn rect(&mut self, r: Rect) {
+        self.pos(r.min);
+        self.pos(r.max);
+    }
+
+    pub fn flags(&mut self, m: Modifiers) {
+        self.word(m.number());
+    }
+
+    // `WIDGET_WORDS` words.
+    pub fn widget(&mut self, w: WidgetRect) {
+        self.id(w.id);
+        self.id(w.parent_id);
+        self.word(w.layer_id.order);
+        self.id(w.layer_id.id);
+        self.rect(w.rect);
+        self.rect(w.interact_rect);
+        self.word(w.sense);
+        self.bits(&[w.enabled, w.visible]);
+    }
+
+    // None is 0.
+    pub fn maybe_id(&mut self, d: Option<u64>) {
+        self.id(d.unwrap_or(0));
+    }
+
+    // 1 and the value, or zeros.
+    pub fn maybe<T: Said>(&mut self, x: Option<T>) {
+        match x {
+            None => {
+                self.word(0);
+                self.zeros(T::WORDS);
+            }
+            Some(y) => {
+                self.word(1);
+                y.say(self);
+            }
         }
     }
 }
 
-pub fn maybe_vec(a: &mut Answer, n: usize, v: MaybeVec2) -> usize {
-    match v {
-        MaybeVec2::None => zeros(a, n, 3),
-        MaybeVec2::Some(w) => {
-            let m = word(a, n, 1);
-            vec(a, m, w)
-        }
+impl Said for f32 {
+    const WORDS: usize = 1;
+
+    fn say(self, a: &mut Answer) {
+        a.float(self);
     }
 }
 
-pub fn maybe_seconds(a: &mut Answer, n: usize, t: MaybeF64) -> usize {
-    match t {
-        MaybeF64::None => zeros(a, n, 3),
-        MaybeF64::Some(s) => {
-            let m = word(a, n, 1);
-            seconds(a, m, s)
-        }
+// Seconds.
+impl Said for f64 {
+    const WORDS: usize = 2;
+
+    fn say(self, a: &mut Answer) {
+        a.seconds(self);
+    }
+}
+
+impl Said for Pos2 {
+    const WORDS: usize = 2;
+
+    fn say(self, a: &mut Answer) {
+        a.pos(self);
+    }
+}
+
+impl Said for Vec2 {
+    const WORDS: usize = 2;
+
+    fn say(self, a: &mut Answer) {
+        a.vec(self);
     }
 }

@@ -1,4 +1,4 @@
-use Rattle.std.proofs.Common.{◌-◌, ◌≤◌, length, arith, rules}
+use Rattle.std.proofs.Common.{◌-◌, ◌≤◌, length}
 use Rattle.trace_events.proofs.clearing.is_clearing.Given as goal
 
 abbrev pub invariant-loop-from : goal.invariant-loop-from

@@ -5,9 +5,9 @@ use Rattle.survey.specs.Survey.{option}
 use borrow.Author.Rules.{rules}
 use Rattle.trace_machine.proofs.machine.pass_answer.Goals as goal
 
-pub returns-in-Some : goal.returns-in-Some
+pub returns-in-Err : goal.returns-in-Err
 unfolding option
-returns-in-Some c e =
-    let f = rw c.in-Some.is at e in
+returns-in-Err c e =
+    let f = rw c.in-Err.is at e in
     let z : ◌≡◌ {A = ℕ} 0 1 = cc in
     absurd (omega arith)

@@ -1,14 +1,12 @@
-use mathlib.Core.Path.{◌≡◌, refl, ◌∙◌, ap}
-use native.Mathlib.Omega.{arith}
+use mathlib.Core.Path.{refl}
 use Rattle.trace_widgets.proofs.Refused.{gives_kept}
-use borrow.Author.Rules.{rules}
 use Rattle.trace_widgets.proofs.insert.insert_into.Goals as goal
 
-pub returns-in-Refused : goal.returns-in-Refused
-returns-in-Refused c =
-    let k = gives_kept _ _ _ _ _ _ _ _ _ _ _ _ c.decide-d.ensures c.in-Refused.is in
+pub returns-in-Err : goal.returns-in-Err
+returns-in-Err c =
+    let k = gives_kept _ _ _ _ _ _ _ _ _ _ _ _ c.decide-d.ensures c.in-Err.is in
     record { refused = λ is-not. (k.0, k.1, k.2, k.3, refl) }
 
-pub returns-in-Taken : goal.returns-in-Taken
-returns-in-Taken c =
+pub returns-in-Ok : goal.returns-in-Ok
+returns-in-Ok c =
     record { refused = λ is-not. absurd (is-not c.answered.ensures) }

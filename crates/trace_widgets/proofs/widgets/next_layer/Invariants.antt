@@ -1,9 +1,5 @@
-use Prim.Native.Nat.{◌≤◌, ◌-◌}
-use borrow.Author.Rules.{rules}
+use Rattle.std.specs.Prelude.{IfSome, ◌<◌}
 use Rattle.trace_widgets.proofs.widgets.next_layer.Given as goal
 
 abbrev pub invariant-loop-l : goal.invariant-loop-l
-invariant-loop-l l = l.l ≤ l.n
-
-abbrev pub decreases-loop-l : goal.decreases-loop-l
-decreases-loop-l l = l.n - l.l
+invariant-loop-l l = IfSome l.best (λ x. x < 32)

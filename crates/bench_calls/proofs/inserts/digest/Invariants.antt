@@ -1,8 +1,0 @@
-use Rattle.std.proofs.Common.{◌-◌, ◌≤◌, rules}
-use Rattle.bench_calls.proofs.inserts.digest.Given as goal
-
-abbrev pub invariant-loop-i : goal.invariant-loop-i
-invariant-loop-i l = l.i ≤ l.widgets
-
-abbrev pub decreases-loop-i : goal.decreases-loop-i
-decreases-loop-i l = l.widgets - l.i

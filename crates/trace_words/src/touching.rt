@@ -1,0 +1,32 @@
+// What is said of gestures.
+use crate::words::{Answer, Said};
+use data::touch::{DynGestureState, MultiTouchInfo};
+
+impl Said for DynGestureState {
+    const WORDS: usize = 8;
+
+    fn say(self, a: &mut Answer) {
+        a.float(self.avg_distance);
+        a.vec(self.avg_abs_distance2);
+        a.pos(self.avg_pos);
+        a.float(self.avg_force);
+        a.vec(self.heading);
+    }
+}
+
+impl Said for MultiTouchInfo {
+    const WORDS: usize = 17;
+
+    fn say(self, a: &mut Answer) {
+        a.seconds(self.start_time);
+        a.pos(self.start_pos);
+        a.pos(self.center_pos);
+        a.count(self.num_touches);
+        a.float(self.zoom_delta);
+        a.vec(self.zoom_delta_2d);
+        a.vec(self.previous_heading);
+        a.vec(self.heading);
+        a.vec(self.translation_delta);
+        a.float(self.force);
+    }
+}
