@@ -1,8 +1,8 @@
 -- Every history of the code is the model's, and demand 3 holds of it. Assumes nothing.
+use Rattle.std.specs.Prelude.{Option, None, Some, Ok, Err, Result, ⊤}
 use Prim.Native.Nat.{ℕ, ◌≤◌}
 use mathlib.Core.Path.{◌≡◌, refl, sym, ◌∙◌, ap, ap₂, subst, subst₂}
 use mathlib.Core.Bool.{Bool, false, ◌||◌}
-use mathlib.Core.Option.{Option, none, some}
 use mathlib.Core.List.{List, [], ◌∷◌}
 use native.Mathlib.Omega.{arith}
 use Rattle.data.specs.Limits.{max_tally}
@@ -21,8 +21,8 @@ use Rattle.theorems.proofs.Clearing.{clearing}
 use Rattle.survey.specs.Survey.{option}
 use Rattle.touch_state.specs.declared.devices.Devices.{Devices}
 use Rattle.touch_state.specs.View.{view}
-use Rattle.interaction_state.specs.declared.state.Interacted.{Interacted}
-use Rattle.interaction_state.specs.declared.state.Interacted.TheVariants.{Refused, Taken}
+use Rattle.interaction_state.specs.declared.state.Answer.{Answer}
+use Rattle.data.specs.declared.refusal.InteractRefusal.{InteractRefusal}
 use Rattle.interaction_state.specs.View.{interaction_of}
 use Rattle.input_pass.specs.declared.begin.Begun.{Begun}
 use Rattle.input_state.specs.declared.input.PassInput as Declared
@@ -39,7 +39,7 @@ use Rattle.image_ranges.proofs.Ranges.{runs_stay_in_range, every_run_is_in_range
 use Rattle.image_form.specs.Form.{taken, read_image, Parkable}
 use Rattle.image_form.proofs.Whole.{same_panel}
 use Rattle.parking.specs.declared.check.ImageRefusal.{ImageRefusal}
-use Rattle.parking.specs.declared.check.ImageRefusal.TheVariants.{None, FirstWord, Word}
+use Rattle.parking.specs.declared.check.ImageRefusal.TheVariants.{FirstWord, Word}
 use Rattle.parking.specs.declared.restore.Restored.{Restored}
 use Rattle.parking.specs.Restored.{RestoredAs}
 use Rattle.histories.specs.History.{Running, shows, Starts, Passes, passed_on, pass_answer, Given, interact_input, InteractsAs, interacted_on, interact_answer, Parks, Restores, restored_on}
@@ -72,10 +72,10 @@ pass_step x given feed r l o h =
     }
   where
     go : (q : Option PassRefusal) → option r.refusal ≡ q → shows (passed_on x r l) ≡ after (shows x) (OfPass (outcome q (shows (passed_on x r l))))
-    go none e = refl
-    go (some q) e = kept x r.state r.devices l all.0 all.1 all.2
+    go None e = refl
+    go (Some q) e = kept x r.state r.devices l all.0 all.1 all.2
       where
-        refuses : Contract.refusal_of given feed x.panel.input.clock.time (view x.panel.devices) ≡ none → ⊥
+        refuses : Contract.refusal_of given feed x.panel.input.clock.time (view x.panel.devices) ≡ None → ⊥
         refuses n = let z : ◌≡◌ {A = ℕ} 0 1 = cc h.refusal in omega arith
 
         all : (r.state ≡ x.panel.input) × (r.devices ≡ x.panel.devices) × (l ≡ x.lent)
@@ -98,12 +98,12 @@ shows_itself x =
       keys_are = refl;
     }
 
-interact_step : (x : Running) (g : Given) (r : Interacted) (hovered contains : List ℕ) → InOrder (view x.panel.devices) → InteractsAs x g r hovered contains
+interact_step : (x : Running) (g : Given) (r : Result Answer InteractRefusal) (hovered contains : List ℕ) → InOrder (view x.panel.devices) → InteractsAs x g r hovered contains
     → Stepped x (interacts (interact_input g)) (interact_answer x r hovered contains) (interacted_on x r)
 unfolding call OfInteract after with_interaction
-interact_step x g (Refused why) hovered contains o h =
+interact_step x g (Err why) hovered contains o h =
     record { answer = sym (ap OfInteract (h.own (shows x) (shows_itself x) refl refl g.edges).answer); panel = refl; in_order = o }
-interact_step x g (Taken a) hovered contains o h =
+interact_step x g (Ok a) hovered contains o h =
     record { answer = sym (ap OfInteract (h.own (shows x) (shows_itself x) refl refl g.edges).answer); panel = refl; in_order = o }
 
 pub widgets_are_the_models : WidgetsAreTheModels
@@ -113,20 +113,20 @@ widgets_are_the_models g wf = sym (looked_up g.set g.words g.numbers g.edges wf)
 reads_back : (x : Running) (words : List ℕ) → Parkable (shows x) → Parks x words → read_image words ≡ taken (shows x)
 reads_back x words o p = ap read_image p.written ∙ p.ensured.3 o
 
-restored_shows : (x other : Running) (words : List ℕ) (r : Restored) (l : Lent) → Parkable (shows x) → Parks x words → Restores other words r l → r.refusal ≡ None
+restored_shows : (x other : Running) (words : List ℕ) (r : Restored) (l : Lent) → Parkable (shows x) → Parks x words → Restores other words r l → r.refusal ≡ Ok tt
     → shows (restored_on r l) ≡ shows x
 restored_shows x other words r l o p h e =
-    let t = subst (λ (q : ImageRefusal). RestoredAs words other.panel other.lent r l q) e h in
+    let t = subst (λ (q : Result ⊤ ImageRefusal). RestoredAs words other.panel other.lent r l q) e h in
     same_panel (shows (restored_on r l)) (shows x) (sym t.answered ∙ reads_back x words o p)
 
 -- refused, it shows what it showed
-refused_shows : (x : Running) (words : List ℕ) (r : Restored) (l : Lent) → Restores x words r l → (r.refusal ≡ None → ⊥) → shows (restored_on r l) ≡ shows x
+refused_shows : (x : Running) (words : List ℕ) (r : Restored) (l : Lent) → Restores x words r l → (r.refusal ≡ Ok tt → ⊥) → shows (restored_on r l) ≡ shows x
 refused_shows x words r l h n = go r.refusal refl h
   where
-    go : (q : ImageRefusal) → r.refusal ≡ q → RestoredAs words x.panel x.lent r l q → shows (restored_on r l) ≡ shows x
-    go None e k = absurd (n e)
-    go FirstWord e k = ap₂ shown_by k.lent k.panel
-    go (Word i) e k = ap₂ shown_by k.lent k.panel
+    go : (q : Result ⊤ ImageRefusal) → r.refusal ≡ q → RestoredAs words x.panel x.lent r l q → shows (restored_on r l) ≡ shows x
+    go (Ok tt) e k = absurd (n e)
+    go (Err FirstWord) e k = ap₂ shown_by k.lent k.panel
+    go (Err (Word i)) e k = ap₂ shown_by k.lent k.panel
 
 -- ---- a whole history
 joins : (p p' q : Panel) (c : Call) (a : Outcome) (calls : List Call) (answers : List Outcome) → a ≡ call p c → p' ≡ after p a → answers ≡ outcomes p' calls → q ≡ run p' calls

@@ -1,7 +1,6 @@
 -- Histories of the code: what its passes and interacts answer, call after call, with parkings anywhere between. By their contracts alone every history is the model's,
 -- and demand 3 holds of it.
-use Rattle.std.specs.Prelude.{ℕ, ◌+◌, ◌≤◌, ◌≡◌, Bool, false, ◌||◌, List, [], ◌∷◌, Float, length, take}
-use Rattle.std.proofs.Math.Option.{none}
+use Rattle.std.specs.Prelude.{ℕ, ◌+◌, ◌≤◌, ◌≡◌, Bool, false, ◌||◌, List, [], ◌∷◌, Float, length, take, Option, None, Ok, Err, Result}
 use Rattle.data.specs.Limits.{max_tally}
 use Rattle.model.specs.Pass as Model
 use Rattle.model.specs.Interact.{InteractInput, InteractionSnapshot}
@@ -10,13 +9,12 @@ use Rattle.theorems.specs.Balance.{one_if_is, starts, stops, last_dragged, all_s
 use Rattle.theorems.specs.Reach.{Reached}
 use Rattle.theorems.specs.Clearing.{Clears, Fair, Since, nothing_since, then_since, Same, When, is_passed, twice}
 use Rattle.survey.specs.Survey.{option}
-use Rattle.hit_lists.specs.declared.MaybeHit.{MaybeHit}
+use Rattle.hit_lists.specs.declared.Hit.{Hit}
 use Rattle.hit_refusals.specs.Refusals.{input}
-use Rattle.id_set.specs.Ids.{option_of}
 use Rattle.widget_index.specs.declared.table.WidgetRects.{WidgetRects}
 use Rattle.widget_rect.specs.WellFormed.{WellFormed}
-use Rattle.interaction_state.specs.declared.state.Interacted.{Interacted}
-use Rattle.interaction_state.specs.declared.state.Interacted.TheVariants.{Refused, Taken}
+use Rattle.interaction_state.specs.declared.state.Answer.{Answer}
+use Rattle.data.specs.declared.refusal.InteractRefusal.{InteractRefusal}
 use Rattle.interaction_state.specs.View.{snapshot_of}
 use Rattle.interaction_state.specs.Lookup.{lookup}
 use Rattle.input_pass.specs.declared.begin.Begun.{Begun}
@@ -29,8 +27,6 @@ use Rattle.panel.specs.declared.state.Panel.{Panel}
 use Rattle.panel.specs.View.{shown_by, Fresh, after_pass, after_interact}
 use Rattle.panel.specs.Steps.{Interacts, widgets_of}
 use Rattle.image_form.specs.Form.{taken, read_image, Parkable}
-use Rattle.parking.specs.declared.check.ImageRefusal.TheVariants.{None}
-use Rattle.parking.specs.declared.park.Parked.TheVariants.{Words}
 use Rattle.parking.specs.declared.restore.Restored.{Restored}
 use Rattle.parking.specs.Parked.{ParkedAs}
 use Rattle.parking.specs.Restored.{RestoredAs}
@@ -67,8 +63,8 @@ pub record Given : Type 0 where
   pub edges : List Float
   pub close : List ℕ
   pub within : List ℕ
-  pub click : MaybeHit
-  pub drag : MaybeHit
+  pub click : Option Hit
+  pub drag : Option Hit
   pub hovered : List ℕ
   pub contains : List ℕ
 
@@ -81,26 +77,26 @@ abbrev pub WidgetsAreTheModels : Type 0
 WidgetsAreTheModels =
     (g : Given) → WellFormed g.set g.words g.numbers g.edges → lookup g.set g.words g.numbers g.edges ≡ widgets_of g.set g.words g.numbers g.edges
 
-abbrev pub InteractsAs : Running → Given → Interacted → List ℕ → List ℕ → Type 0
+abbrev pub InteractsAs : Running → Given → Result Answer InteractRefusal → List ℕ → List ℕ → Type 0
 InteractsAs x g r hovered contains =
     Interacts x.panel.input.clock x.panel.input.screen x.panel.input.pointer x.panel.devices x.lent.codes x.lent.presses x.panel.interaction
     x.panel.tally g.set g.words g.numbers g.close g.within g.click g.drag g.hovered g.contains r hovered contains
 
 -- then the panel is as panel's `after_interact` returns it
-abbrev pub interacted_on : Running → Interacted → Running
+abbrev pub interacted_on : Running → Result Answer InteractRefusal → Running
 interacted_on x r = record { panel = after_interact x.panel r; lent = x.lent }
 
 -- what it answers: its refusal, or the snapshot with the ids written
-abbrev pub interact_answer : Running → Interacted → List ℕ → List ℕ → Outcome
-interact_answer x (Refused why) hovered contains = refused_interact why
-interact_answer x (Taken a) hovered contains = answered (snapshot_of a.snapshot hovered contains) (shows (interacted_on x (Taken a)))
+abbrev pub interact_answer : Running → Result Answer InteractRefusal → List ℕ → List ℕ → Outcome
+interact_answer x (Err why) hovered contains = refused_interact why
+interact_answer x (Ok a) hovered contains = answered (snapshot_of a.snapshot hovered contains) (shows (interacted_on x (Ok a)))
 
 -- ---- one parking: the words that parking's `park` wrote of panel x into a buffer that was long enough
 pub record Parks (x : Running) (words : List ℕ) : Type 0 where
   pub before : List ℕ
   pub buffer : List ℕ
   pub count : ℕ
-  pub ensured : ParkedAs (shows x) before buffer (Words count)
+  pub ensured : ParkedAs (shows x) before buffer (Ok count)
   pub written : words ≡ take count buffer
 
 -- ---- one restoring: given these words, `restore` of panel x returned r and left the arrays so
@@ -117,16 +113,16 @@ pub data History : Running → List Call → List Outcome → Running → Type 0
   then_pass : {x y : Running} {calls : List Call} {answers : List Outcome} (given : PassInput) (feed : List ℕ) (r : Begun) (l : Lent)
       → Passes x given feed r l → History (passed_on x r l) calls answers y
       → History x (passes (Shown.input feed given) ∷ calls) (pass_answer x r l ∷ answers) y
-  then_interact : {x y : Running} {calls : List Call} {answers : List Outcome} (g : Given) (r : Interacted) (hovered contains : List ℕ)
+  then_interact : {x y : Running} {calls : List Call} {answers : List Outcome} (g : Given) (r : Result Answer InteractRefusal) (hovered contains : List ℕ)
       → InteractsAs x g r hovered contains → History (interacted_on x r) calls answers y
       → History x (interacts (interact_input g) ∷ calls) (interact_answer x r hovered contains ∷ answers) y
   -- 02 A.6: "A panel restored from an image that parking wrote has the past of the parked one". Neither is a call; the panel that is restored, on this
   -- board or on another, may be any
   then_parked : {x y : Running} {calls : List Call} {answers : List Outcome} (words : List ℕ) (other : Running) (r : Restored) (l : Lent)
-      → Parks x words → Restores other words r l → r.refusal ≡ None → History (restored_on r l) calls answers y → History x calls answers y
+      → Parks x words → Restores other words r l → r.refusal ≡ Ok tt → History (restored_on r l) calls answers y → History x calls answers y
   -- a refused restoring, of any words
   then_refused : {x y : Running} {calls : List Call} {answers : List Outcome} (words : List ℕ) (r : Restored) (l : Lent)
-      → Restores x words r l → (r.refusal ≡ None → ⊥) → History (restored_on r l) calls answers y → History x calls answers y
+      → Restores x words r l → (r.refusal ≡ Ok tt → ⊥) → History (restored_on r l) calls answers y → History x calls answers y
 
 -- ---- every history is the model's
 pub record IsRun (x : Running) (calls : List Call) (answers : List Outcome) (y : Running) : Type 0 where
@@ -152,8 +148,8 @@ HistoriesReadBack =
 
 -- ---- demand 3, first half, of what the code answers and keeps
 pub record Balanced (answers : List Outcome) (y : Running) (widget : ℕ) : Type 0 where
-  pub starts_less_stops : starts widget answers ≡ stops widget answers + one_if_is widget (last_dragged none answers)
-  pub dragged_is_last : option_of y.panel.interaction.dragged ≡ last_dragged none answers
+  pub starts_less_stops : starts widget answers ≡ stops widget answers + one_if_is widget (last_dragged None answers)
+  pub dragged_is_last : y.panel.interaction.dragged ≡ last_dragged None answers
   pub tally_counts_starts : y.panel.tally ≡ all_starts answers
   pub tally_fits : y.panel.tally ≤ max_tally
 
