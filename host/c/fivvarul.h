@@ -110,7 +110,7 @@ typedef struct {
     size_t contains_pointer;
 } FivvarulSnapshot;
 
-/* A tracking id, -1 for no finger, and the last position. `repr(C)` here and below: a host keeps the slots from call to call. */
+/* A tracking id, the kernel's -1 for no finger, and the last position. `repr(C)` here and below, and no Option: a host keeps the slots from call to call, and C reads them. */
 typedef struct {
     int32_t id;
     int32_t x;
@@ -130,7 +130,7 @@ typedef struct {
     bool skipping;
 } FivvarulKernelTouches;
 
-/* `number` 0: the words written to the feed, and whether the records held a 'dropped'. Else 02's number of the refusal; `kernel` is as before then. */
+/* `number` 0: the words written to the feed, and whether the records held a 'dropped'. Else 02's number of the refusal; `kernel` is as before then. C reads the number and the values beside it. */
 typedef struct {
     FivvarulKernelTouches kernel;
     uint32_t number;

@@ -143,7 +143,7 @@ pub struct HostSnapshot {
 
 const _: () = assert!(core::mem::size_of::<HostSnapshot>() == 112);
 
-/// A tracking id, -1 for no finger, and the last position. `repr(C)` here and below: a host keeps the slots from call to call.
+/// A tracking id, the kernel's -1 for no finger, and the last position. `repr(C)` here and below, and no Option: a host keeps the slots from call to call, and C reads them.
 #[repr(C)]
 #[derive(Clone, Copy, Debug, Default, PartialEq)]
 pub struct Finger {
@@ -175,7 +175,7 @@ pub struct KernelTouches {
 
 const _: () = assert!(core::mem::size_of::<KernelTouches>() == 256);
 
-/// `number` 0: the words written to the feed, and whether the records held a 'dropped'. Else 02's number of the refusal; `kernel` is as before then.
+/// `number` 0: the words written to the feed, and whether the records held a 'dropped'. Else 02's number of the refusal; `kernel` is as before then. C reads the number and the values beside it.
 #[repr(C)]
 #[derive(Clone, Copy, Debug, Default, PartialEq)]
 pub struct HostKernelRead {
