@@ -72,6 +72,7 @@ impl History {
         let limit = time - MAX_AGE as f64;
         let mut start = self.start % MAX_LEN;
         let mut len = count(self);
+        // no `for`: it ends where a sample is young enough, and a ring's place goes on from the last to the first
         while MIN_LEN < len && times[start] < limit {
             start = (start + 1) % MAX_LEN;
             len -= 1;

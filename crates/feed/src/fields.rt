@@ -1,4 +1,5 @@
 // The fields of an event's words. A number past an enum's last case is that case.
+// Functions and no From: data's enums go by other numbers elsewhere, and that the last case takes the rest holds of a feed alone.
 ghost use Rattle.std.specs.Prelude.{◌≡◌};
 ghost use Rattle.feed.specs.Shape.{button_of, phase_of, unit_of, source_of, float_of, pos_of, vec_of, id_of};
 
@@ -7,6 +8,7 @@ use data::pointer::PointerButton;
 use data::touch::TouchPhase;
 use emath::pos2::Pos2;
 use emath::vec2::Vec2;
+use std::num::f32_from_bits_with_nan;
 
 pub fn button_of(n: u32) -> PointerButton
     ensures { result ≡ button_of n }
@@ -52,14 +54,12 @@ pub fn source_of(n: u32) -> MouseWheelSource
     }
 }
 
-// The float of f32 bits. `from_bits` takes no NaN's pattern, so a NaN is made.
+// The float of f32 bits, a NaN's pattern too.
+#[tactic(auto, unfolding(crate::specs::Shape::float_of))]
 pub fn float_of(w: u32) -> f32
     ensures { result ≡ float_of w }
 {
-    if 0x7f80_0000 < w % 0x8000_0000 {
-        return 0.0 / 0.0;
-    }
-    f32::from_bits(w)
+    f32_from_bits_with_nan(w)
 }
 
 pub fn pos_of(x: u32, y: u32) -> Pos2

@@ -14,6 +14,7 @@ use data::kinds::{
 };
 use data::touch::TouchPhase;
 use emath::pos2::Pos2;
+use std::num::f32_to_bits_with_nan;
 
 // The first word of an event whose low bits are 0, by its kind.
 const KEY_HEAD: u32 = KEY_KIND * KIND_UNIT;
@@ -40,7 +41,7 @@ const FOCUS_HEAD: u32 = FOCUS_KIND * KIND_UNIT;
 
 const OTHER_HEAD: u32 = OTHER_KIND * KIND_UNIT;
 
-// The first `count` of `words`.
+// The first `count` of `words`: an event has one to eight words, and without a heap they lie in an array.
 #[derive(Clone, Copy)]
 pub struct EventWords {
     pub words: [u32; 8],
@@ -48,15 +49,14 @@ pub struct EventWords {
 }
 
 // The f32 bits. A NaN has one form.
+#[tactic(auto, unfolding(feed::specs::Encode::float_word))]
 pub fn float_word(x: f32) -> u32
     ensures { result ≡ float_word x }
 {
-    if x != x {
-        return 0x7fc0_0000;
-    }
-    f32::to_bits(x)
+    f32_to_bits_with_nan(x)
 }
 
+// One, two or three words. One function of a slice would copy place by place what these write as they stand.
 fn one(head: u32) -> EventWords
     ensures { words_of result ≡ head ∷ [] }
 {

@@ -12,32 +12,24 @@ use feed::fields::{button_of, float_of, id_of, phase_of, pos_of, source_of, unit
 pub fn bare(low: u32, e: Event) -> Option<Event>
     ensures { result ≡ clean 1 low (Some e) }
 {
-    if low < 1 {
-        return Some(e);
-    }
-    None
+    (low < 1).then_some(e)
 }
 
 pub fn key_shape(low: u32) -> Option<Event>
     ensures { result ≡ key_shape low }
 {
-    if low < 512 {
-        if low % 256 < KEY_COUNT {
-            return Some(Event::Key(low % 256, low / 256 % 2 == 1));
-        }
+    let place = low % 256;
+    if low >= 512 {
         return None;
     }
-    None
+    (place < KEY_COUNT).then_some(Event::Key(place, low / 256 % 2 == 1))
 }
 
 pub fn modifiers_shape(low: u32) -> Option<Event>
     ensures { result ≡ modifiers_shape low }
 {
-    if low < 32 {
-        let modifiers = Modifiers::of(low);
-        return Some(Event::ModifiersChanged(modifiers));
-    }
-    None
+    let modifiers = Modifiers::of(low);
+    (low < 32).then_some(Event::ModifiersChanged(modifiers))
 }
 
 pub fn moved_shape(low: u32, x: u32, y: u32) -> Option<Event>
@@ -58,16 +50,16 @@ pub fn button_shape(low: u32, x: u32, y: u32) -> Option<Event>
     ensures { result ≡ button_shape low x y }
 {
     let number = low / 32 % 8;
-    if low < 512 {
-        if number < BUTTON_COUNT {
-            let pos = pos_of(x, y);
-            let button = button_of(number);
-            let modifiers = Modifiers::of(low);
-            return Some(Event::PointerButton(pos, button, low / 256 % 2 == 1, modifiers));
-        }
+    if low >= 512 {
         return None;
     }
-    None
+    if number >= BUTTON_COUNT {
+        return None;
+    }
+    let pos = pos_of(x, y);
+    let button = button_of(number);
+    let modifiers = Modifiers::of(low);
+    Some(Event::PointerButton(pos, button, low / 256 % 2 == 1, modifiers))
 }
 
 pub fn zoom_shape(low: u32, x: u32) -> Option<Event>
@@ -89,43 +81,40 @@ pub fn touch_shape(feed: &[u32], at: usize, low: u32) -> Option<Event>
     requires { at + 6 + low / 4 % 2 < length feed.now }
     ensures { result ≡ touch_shape low (drop (suc at) feed.now) }
 {
-    if low < 8 {
-        let device = id_of(feed[at + 1], feed[at + 2]);
-        let id = id_of(feed[at + 3], feed[at + 4]);
-        let phase = phase_of(low % 4);
-        let pos = pos_of(feed[at + 5], feed[at + 6]);
-        if low / 4 % 2 == 1 {
-            let force = float_of(feed[at + 7]);
-            return Some(Event::Touch(device, id, phase, pos, Some(force)));
-        }
-        return Some(Event::Touch(device, id, phase, pos, None));
+    if low >= 8 {
+        return None;
     }
-    None
+    let device = id_of(feed[at + 1], feed[at + 2]);
+    let id = id_of(feed[at + 3], feed[at + 4]);
+    let phase = phase_of(low % 4);
+    let pos = pos_of(feed[at + 5], feed[at + 6]);
+    if low / 4 % 2 == 1 {
+        let force = float_of(feed[at + 7]);
+        return Some(Event::Touch(device, id, phase, pos, Some(force)));
+    }
+    Some(Event::Touch(device, id, phase, pos, None))
 }
 
 pub fn wheel_shape(low: u32, x: u32, y: u32) -> Option<Event>
     ensures { result ≡ wheel_shape low x y }
 {
     let number = low / 32 % 4;
-    if low < 2048 {
-        if number < UNIT_COUNT {
-            let unit = unit_of(number);
-            let delta = vec_of(x, y);
-            let phase = phase_of(low / 128 % 4);
-            let source = source_of(low / 512 % 4);
-            let modifiers = Modifiers::of(low);
-            return Some(Event::MouseWheel(unit, delta, phase, source, modifiers));
-        }
+    if low >= 2048 {
         return None;
     }
-    None
+    if number >= UNIT_COUNT {
+        return None;
+    }
+    let unit = unit_of(number);
+    let delta = vec_of(x, y);
+    let phase = phase_of(low / 128 % 4);
+    let source = source_of(low / 512 % 4);
+    let modifiers = Modifiers::of(low);
+    Some(Event::MouseWheel(unit, delta, phase, source, modifiers))
 }
 
 pub fn focus_shape(low: u32) -> Option<Event>
     ensures { result ≡ focus_shape low }
 {
-    if low < 2 {
-        return Some(Event::WindowFocused(low / 1 % 2 == 1));
-    }
-    None
+    (low < 2).then_some(Event::WindowFocused(low / 1 % 2 == 1))
 }

@@ -74,9 +74,8 @@ fn series(negative: bool, size: u64) -> u64
     let mut term: u64 = ONE;
     let mut plus: u64 = ONE;
     let mut minus: u64 = 0;
-    let mut k: u64 = 0;
-    while k < LAST_TERM {
-        k += 1;
+    for i in 0..LAST_TERM {
+        let k = i + 1;
         term = term * size / ONE / k;
         let part = minus_part(negative, k, term);
         plus += term - part;

@@ -77,42 +77,36 @@ product : (t x : ℕ) → t ≤ 2 ^ 30 → x ≤ 2 ^ 30 → t * x ≤ 2 ^ 60
 product t x h k = le_trans (mul-le-mul h k) (omega arith)
 
 -- what is taken off is at most the term
-lost-le : (c : After-minus_part-part) → c.minus_part-part.result ≤ c.loop-k.term * c.args.size / 2 ^ 30 / (c.loop-k.k + 1)
-lost-le c = le_trans (le_of_eq c.minus_part-part.ensures) (part_le (below_zero c.args.negative (c.loop-k.k + 1)) (c.loop-k.term * c.args.size / 2 ^ 30 / (c.loop-k.k + 1)))
+lost-le : (c : After-minus_part-part) → c.minus_part-part.result ≤ c.loop-i.term * c.args.size / 2 ^ 30 / (c.loop-i.i + 1)
+lost-le c = le_trans (le_of_eq c.minus_part-part.ensures) (part_le (below_zero c.args.negative (c.loop-i.i + 1)) (c.loop-i.term * c.args.size / 2 ^ 30 / (c.loop-i.i + 1)))
 
-pub loop-k-init : goal.loop-k-init
-loop-k-init c = record { turns = omega arith; small = omega arith; room = omega arith; at_first = λ e. omega arith; few = omega arith; exact = λ a b A d. start c.args.negative a b }
-
-pub overflow_add-k : goal.overflow_add-k
-overflow_add-k c = omega arith
+pub loop-i-init : goal.loop-i-init
+loop-i-init c = record { turns = omega arith; small = omega arith; room = omega arith; at_first = λ e. omega arith; few = omega arith; exact = λ a b A d. start c.args.negative a b }
 
 pub overflow_mul-term : goal.overflow_mul-term
-overflow_mul-term c = omega (arith, product c.loop-k.term c.args.size c.loop-k.invariant.small c.requires)
+overflow_mul-term c = omega (arith, product c.loop-i.term c.args.size c.loop-i.invariant.small c.requires)
 
 pub overflow_sub-plus : goal.overflow_sub-plus
 overflow_sub-plus c = lost-le c
 
 pub overflow_add-plus : goal.overflow_add-plus
 overflow_add-plus c =
-    let l = c.loop-k in
-    omega (arith, lost-le c, next_room c.args.negative c.args.size l.term l.plus l.minus l.k c.requires l.invariant)
+    let l = c.loop-i in
+    omega (arith, lost-le c, next_room c.args.negative c.args.size l.term l.plus l.minus l.i c.requires l.invariant)
 
 pub overflow_add-minus : goal.overflow_add-minus
 overflow_add-minus c =
-    let l = c.loop-k in
+    let l = c.loop-i in
     let x = c.args.size in
-    omega (arith, lost-le c, l.invariant.few, l.invariant.small, less (l.term * x / 2 ^ 30 / (l.k + 1)) l.term l.k (fall l.term x l.k c.requires))
+    omega (arith, lost-le c, l.invariant.few, l.invariant.small, less (l.term * x / 2 ^ 30 / (l.i + 1)) l.term l.i (fall l.term x l.i c.requires))
 
-pub loop-k-smaller : goal.loop-k-smaller
-loop-k-smaller c = omega arith
-
-pub loop-k-preserved : goal.loop-k-preserved
-loop-k-preserved c =
-    let l = c.loop-k in
-    turn c.args.negative c.args.size l.term l.plus l.minus l.k c.requires l.invariant c.minus_part-part.result (omega (arith, c.loop-k-test.true)) c.minus_part-part.ensures
+pub loop-i-preserved : goal.loop-i-preserved
+loop-i-preserved c =
+    let l = c.loop-i in
+    turn c.args.negative c.args.size l.term l.plus l.minus l.i c.requires l.invariant c.minus_part-part.result (omega (arith, c.loop-i-test.true)) c.minus_part-part.ensures
 
 pub overflow_sub-result : goal.overflow_sub-result
-overflow_sub-result c = let l = c.loop-k in under c.args.negative c.args.size l.term l.plus l.minus l.k c.requires l.invariant c.loop-k-test.false
+overflow_sub-result c = let l = c.loop-i in under c.args.negative c.args.size l.term l.plus l.minus l.i c.requires l.invariant c.loop-i-test.false
 
 pub returns : goal.returns
-returns c = let l = c.loop-k in done c.args.negative c.args.size l.term l.plus l.minus l.k c.requires l.invariant c.loop-k-test.false
+returns c = let l = c.loop-i in done c.args.negative c.args.size l.term l.plus l.minus l.i c.requires l.invariant c.loop-i-test.false

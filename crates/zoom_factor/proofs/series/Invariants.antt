@@ -1,7 +1,7 @@
--- `zoom_factor::series` meets its contract. The invariant of its loop is `Turning`, and the measure is how many terms are left.
+-- `zoom_factor::series` meets its contract. The invariant of its loop is `Turning`.
 use mathlib.Core.Path.{◌≡◌}
 use mathlib.Core.Bool.{Bool}
-use Prim.Native.Nat.{ℕ, ◌+◌, ◌-◌, ◌*◌, ◌^◌, ◌≤◌}
+use Prim.Native.Nat.{ℕ, ◌+◌, ◌*◌, ◌^◌, ◌≤◌}
 use Rattle.zoom_factor.specs.Steps.{Cut}
 use Rattle.zoom_factor.proofs.Errors.{After}
 use Rattle.zoom_factor.proofs.series.Given as goal
@@ -14,8 +14,5 @@ pub record Turning (neg : Bool) (x t plus minus k : ℕ) : Type 0 where
   pub few : minus ≤ k * 2 ^ 30
   pub exact : (a b : ℕ) → a ≤ b → Cut a b x → After neg a b t plus minus k
 
-abbrev pub invariant-loop-k : goal.invariant-loop-k
-invariant-loop-k l = Turning l.negative l.size l.term l.plus l.minus l.k
-
-abbrev pub decreases-loop-k : goal.decreases-loop-k
-decreases-loop-k l = 13 - l.k
+abbrev pub invariant-loop-i : goal.invariant-loop-i
+invariant-loop-i l = Turning l.negative l.size l.term l.plus l.minus l.i

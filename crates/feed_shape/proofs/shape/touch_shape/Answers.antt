@@ -60,23 +60,23 @@ float_of-force-requires c = tt
 pub returns-then-low-eq1 : goal.returns-then-low-eq1
 returns-then-low-eq1 c =
     touched c.args.feed.now c.args.at _ _ _ _ _ _
-    c.if-low-lt8.true
+    c.if-low-ge8.false
     c.id_of-device.ensures
     c.id_of-id.ensures
     c.phase_of-phase.ensures
     c.pos_of-pos.ensures
     (forced _ _ _ c.if-low-eq1.true c.float_of-force.ensures)
 
-pub returns-then-low-lt8 : goal.returns-then-low-lt8
-returns-then-low-lt8 c =
+pub returns : goal.returns
+returns c =
     touched c.args.feed.now c.args.at _ _ _ _ _ _
-    c.if-low-lt8.true
+    c.if-low-ge8.false
     c.id_of-device.ensures
     c.id_of-id.ensures
     c.phase_of-phase.ensures
     c.pos_of-pos.ensures
     (unforced _ _ c.if-low-eq1.false)
 
-pub returns : goal.returns
+pub returns-then-low-ge8 : goal.returns-then-low-ge8
 unfolding touch_shape clean
-returns c = rw (le-ltb _ _ c.if-low-lt8.false)
+returns-then-low-ge8 c = rw (le-ltb _ _ c.if-low-ge8.true)

@@ -1,0 +1,2 @@
+-- What an event that is given on a condition is.
+mod Kept
