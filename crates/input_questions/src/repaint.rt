@@ -25,33 +25,27 @@ fn pointer_wants_repaint(delta: Vec2, h: Held) -> bool
     if counted(h.event_count) > 0 {
         return true;
     }
-    let zero = Vec2::zero();
-    delta != zero
+    delta != Vec2::zero()
 }
 
 // Is there scroll left to smooth that can be seen?
+#[tactic(auto, unfolding(model::specs::Numbers::fifth))]
 fn wheel_wants_repaint(w: WheelState) -> bool
     ensures { result ≡ lt fifth (max_elem (vec_abs w.unprocessed_wheel_delta)) }
 {
-    let unprocessed = w.unprocessed_wheel_delta;
-    let size = unprocessed.abs();
-    size.max_elem() > 0.2
+    w.unprocessed_wheel_delta.abs().max_elem() > 0.2
 }
 
 // How long until a press turns into a context menu.
+#[tactic(auto, unfolding(model::specs::Questions::until_menu))]
 fn until_menu(options: InputOptions, time: f64, start: Option<f64>) -> Option<f64>
     ensures { result ≡ until_menu options time start }
 {
-    match start {
-        None => None,
-        Some(t) => {
-            let duration = time - t;
-            if duration < options.max_click_duration {
-                return Some(options.max_click_duration - duration);
-            }
-            None
-        }
+    let duration = time - start?;
+    if duration < options.max_click_duration {
+        return Some(options.max_click_duration - duration);
     }
+    None
 }
 
 // In f64 seconds; `time` is the panel's, `pointer_time` that of the pointer's last pass.
@@ -69,15 +63,12 @@ pub fn wants_repaint_after(
     ensures { OfWaiting ask.wants_repaint_after p s codes.now w feed_empty ds options time pointer_time (maybe_seconds result) }
 {
     let h = s.held;
-    let past = s.past;
-    let delta = p.delta;
-    let start = h.press_start_time;
-    if pointer_wants_repaint(delta, h) | wheel_wants_repaint(w) | !feed_empty {
+    if pointer_wants_repaint(p.delta, h) | wheel_wants_repaint(w) | !feed_empty {
         return Some(0.0);
     }
-    let moved = past.has_moved_too_much_for_a_click;
+    let moved = s.past.has_moved_too_much_for_a_click;
     if any_touches(ds) & !is_decidedly_dragging(h, codes, options, pointer_time, moved) {
-        return until_menu(options, time, start);
+        return until_menu(options, time, h.press_start_time);
     }
     None
 }

@@ -1,4 +1,5 @@
 // The pass's pointer events, in order. The caller lends the places for `MAX_EVENTS` of them: specs/Events.antt says what stands where.
+// The codes and their count stand apart: C lends the codes, and the count is a field of a record by value.
 #![tactic(auto)]
 
 ghost use Rattle.std.specs.Prelude.{◌≡◌, List, ◌+◌, ◌*◌, ◌<◌, length, Float, None, Some};
@@ -21,7 +22,7 @@ pub const CODES: usize = 4 * MAX_EVENTS;
 
 pub const PLACES: usize = 2 * MAX_EVENTS;
 
-// An event in numbers.
+// An event in numbers, no enum: the caller lends the codes as plain words (docs/DECISIONS.md, 28).
 #[derive(Clone, Copy)]
 pub struct Entry {
     // 0 moved, 1 pressed, 2 released, 3 released with a click
@@ -33,7 +34,7 @@ pub struct Entry {
     pub pos: Pos2,
 }
 
-// What a question looks for among the events.
+// What a question looks for among the events. A value, no closure: `asks` says once what it means, a closure would need its contract at each question.
 #[derive(Clone, Copy)]
 pub enum Sought {
     Press,

@@ -27,11 +27,11 @@ pub struct Place {
 
 impl Place {
     // Default for PointerState
+    #[tactic(auto, unfolding(model::specs::Pass::fresh_place))]
     pub fn fresh() -> Place
         ensures { (times positions : List Float) → place times positions result ≡ fresh_place }
     {
         let zero = Vec2::zero();
-        let history = History::new();
         Place {
             latest_pos: None,
             interact_pos: None,
@@ -39,53 +39,46 @@ impl Place {
             motion: None,
             velocity: zero,
             direction: zero,
-            history,
+            history: History::new(),
         }
     }
 }
 
+#[tactic(auto, unfolding(model::specs::Pointer::unwrap_or_default))]
 fn unwrap_or_default(v: Option<Vec2>) -> Vec2
     ensures { result ≡ unwrap_or_default v }
 {
-    match v {
-        None => Vec2::zero(),
-        Some(w) => w,
-    }
+    v.unwrap_or(Vec2::zero())
 }
 
+#[tactic(auto, unfolding(model::specs::Pointer::zero_motion))]
 fn zero_motion(motion: Option<Vec2>) -> Option<Vec2>
     ensures { result ≡ zero_motion motion }
 {
-    match motion {
-        None => None,
-        Some(_) => Some(Vec2::zero()),
-    }
+    motion.map(|_| Vec2::zero())
 }
 
+#[tactic(auto, unfolding(model::specs::Pointer::add_motion))]
 fn add_motion(motion: Option<Vec2>, v: Vec2) -> Option<Vec2>
     ensures { result ≡ add_motion v motion }
 {
-    match motion {
-        None => Some(Vec2::zero() + v),
-        Some(w) => Some(w + v),
-    }
+    Some(motion.unwrap_or(Vec2::zero()) + v)
 }
 
 // Before the events: the interact position is the latest one, and a known motion is zero.
+#[tactic(auto, unfolding(model::specs::Pointer::start_place, model::specs::Pointer::with_place))]
 pub fn start_place(p: Place) -> Place
     ensures { Placed start_place p result }
 {
-    let latest = p.latest_pos;
-    let known = p.motion;
-    let motion = zero_motion(known);
     Place {
-        interact_pos: latest,
-        motion,
+        interact_pos: p.latest_pos,
+        motion: zero_motion(p.motion),
         ..p
     }
 }
 
 // An event's effect on it: the pointer moved.
+#[tactic(auto, unfolding(model::specs::Pointer::place_event, model::specs::Pointer::with_place))]
 pub fn moved_place(p: Place, pos: Pos2) -> Place
     ensures { Placed (place_event (PointerMoved pos)) p result }
 {
@@ -97,59 +90,56 @@ pub fn moved_place(p: Place, pos: Pos2) -> Place
 }
 
 // The mouse moved by `delta`.
+#[tactic(auto, unfolding(model::specs::Pointer::place_event, model::specs::Pointer::with_place))]
 pub fn motion_place(p: Place, delta: Vec2) -> Place
     ensures { Placed (place_event (MouseMoved delta)) p result }
 {
-    let known = p.motion;
-    let motion = add_motion(known, delta);
-    Place { motion, ..p }
+    Place {
+        motion: add_motion(p.motion, delta),
+        ..p
+    }
 }
 
 // A press clears the history.
+#[tactic(auto, unfolding(model::specs::Pointer::place_event, model::specs::Pointer::with_place))]
 pub fn button_place(p: Place, pos: Pos2, pressed: bool) -> Place
     ensures { (b : PointerButton) (m : Modifiers) → Placed (place_event (Button pos b pressed m)) p result }
 {
     if pressed {
-        let history = p.history.clear();
         return Place {
             latest_pos: Some(pos),
             interact_pos: Some(pos),
-            history,
+            history: p.history.clear(),
             ..p
         };
     }
-    Place {
-        latest_pos: Some(pos),
-        interact_pos: Some(pos),
-        ..p
-    }
+    moved_place(p, pos)
 }
 
 // A pointer that is gone keeps its interact position.
+#[tactic(auto, unfolding(model::specs::Pointer::place_event, model::specs::Pointer::with_place))]
 pub fn gone_place(p: Place) -> Place
     ensures { Placed (place_event PointerGone) p result }
 {
-    let kept = p.interact_pos;
     Place {
         latest_pos: None,
-        interact_pos: kept,
+        interact_pos: p.interact_pos,
         ..p
     }
 }
 
+#[tactic(auto, unfolding(model::specs::Pointer::delta_of))]
 fn delta_of(old: Option<Pos2>, new: Option<Pos2>) -> Vec2
     ensures { result ≡ delta_of old new }
 {
-    match old {
-        None => Vec2::zero(),
-        Some(a) => match new {
-            None => Vec2::zero(),
-            Some(b) => b - a,
-        },
+    if let (Some(a), Some(b)) = (old, new) {
+        return b - a;
     }
+    Vec2::zero()
 }
 
 // Of at least 3 samples over more than 0.01 s.
+#[tactic(auto, unfolding(model::specs::Pointer::velocity_of, model::specs::Numbers::hundredth))]
 fn velocity_of(h: History, times: &[f64; MAX_LEN], positions: &[f32; PARTS]) -> Vec2
     ensures { result ≡ velocity_of (view times.now positions.now h) }
 {
@@ -198,6 +188,7 @@ fn cleared(h: History, gone: bool) -> History
 }
 
 // The end of a pass that began with the pointer at `old`: delta, history, velocity, direction.
+#[tactic(auto, unfolding(model::specs::Pointer::end_place, model::specs::Pointer::finish_place))]
 pub fn end_place(
     p: Place,
     times: &mut [f64; MAX_LEN],

@@ -27,9 +27,8 @@ pub fn multi_touch(ds: Devices) -> Option<MultiTouchInfo>
     let a = ds.places;
     for i in 0..n {
         let info = touch_device::info::info(a[i]);
-        match info {
-            Some(g) => return Some(g),
-            None => {}
+        if let Some(g) = info {
+            return Some(g);
         }
     }
     None

@@ -1,4 +1,5 @@
 // The devices that are known, by ascending id in the first `count` places: egui's BTreeMap.
+// A sorted array with its count, no map: the memory is fixed, and there is no heap.
 ghost use Rattle.std.specs.Prelude.{◌≡◌, [], map, ◌≤◌, ◌<◌, length};
 ghost use Rattle.data.specs.Limits.{max_devices};
 ghost use Rattle.model.specs.Touch.{no_place, find_device};
@@ -39,7 +40,7 @@ fn ids(ds: Devices) -> [u64; MAX_DEVICES]
     [a[0].id, a[1].id, a[2].id, a[3].id]
 }
 
-// The first place with this id or a greater one.
+// The first place with this id or a greater one. Not one walk with `index_of`: a closure for the test would need its contract at both.
 fn place_of(ds: Devices, id: u64) -> usize
     ensures { result ≡ place device_id id (known ds) }
 {
@@ -97,6 +98,7 @@ fn insert_at(ds: Devices, i: usize, d: Device) -> Devices
 {
     let n = len(ds);
     let mut a = ds.places;
+    // one element carried along: `copy_within` and a write are three lines less, and a lemma of forty lines more
     let mut carry = d;
     for k in i..n {
         let x = a[k];

@@ -1,4 +1,5 @@
 // The touches that a device holds, by ascending id in the first `count` places: egui's BTreeMap.
+// A sorted array with its count, no map: the memory is fixed, and there is no heap.
 #![tactic(auto)]
 
 ghost use Rattle.std.specs.Prelude.{◌≡◌, [], length};

@@ -18,85 +18,74 @@ const RESTING_FINGER_TIMEOUT: f64 = 1.0;
 pub fn default() -> WheelState
     ensures { result ≡ wheel_default }
 {
-    let modifiers = Modifiers::none();
     let zero = Vec2::zero();
     WheelState {
         status: Status::Static,
         source: MouseWheelSource::Unknown,
-        modifiers: modifiers,
+        modifiers: Modifiers::none(),
         last_wheel_event: -1.0 / 0.0,
         unprocessed_wheel_delta: zero,
         smooth_wheel_delta: zero,
     }
 }
 
+#[tactic(auto, unfolding(model::specs::Wheel::is_static))]
 fn is_static(status: Status) -> bool
     ensures { result ≡ is_static status }
 {
-    match status {
-        Status::Static => true,
-        Status::Smoothing => false,
-        Status::InTouch => false,
-    }
+    matches!(status, Status::Static)
 }
 
+#[tactic(auto, unfolding(model::specs::Wheel::is_in_touch))]
 pub fn is_in_touch(status: Status) -> bool
     ensures { result ≡ is_in_touch status }
 {
-    match status {
-        Status::Static => false,
-        Status::Smoothing => false,
-        Status::InTouch => true,
-    }
+    matches!(status, Status::InTouch)
 }
 
+#[tactic(auto, unfolding(model::specs::Wheel::is_trackpad))]
 fn is_trackpad(source: MouseWheelSource) -> bool
     ensures { result ≡ is_trackpad source }
 {
-    match source {
-        MouseWheelSource::Unknown => false,
-        MouseWheelSource::Wheel => false,
-        MouseWheelSource::Trackpad => true,
-        MouseWheelSource::Momentum => false,
-    }
+    matches!(source, MouseWheelSource::Trackpad)
 }
 
+#[tactic(auto, unfolding(model::specs::Wheel::is_scrolling))]
 pub fn is_scrolling(w: WheelState) -> bool
     ensures { result ≡ is_scrolling w }
 {
-    let status = w.status;
-    !is_static(status)
+    !is_static(w.status)
 }
 
 fn timeout(w: WheelState) -> f64
     ensures { result ≡ timeout w }
 {
-    let status = w.status;
-    let source = w.source;
-    if is_in_touch(status) & is_trackpad(source) {
+    if is_in_touch(w.status) & is_trackpad(w.source) {
         return RESTING_FINGER_TIMEOUT;
     }
     SCROLL_ACTION_TIMEOUT
 }
 
 // Has it been so long since the last scroll event that the scroll action must be over?
+#[tactic(auto, unfolding(model::specs::Wheel::is_scroll_action_over))]
 pub fn is_scroll_action_over(w: WheelState, time: f64) -> bool
     ensures { result ≡ is_scroll_action_over time w }
 {
     is_scrolling(w) & (timeout(w) < time - w.last_wheel_event)
 }
 
+#[tactic(auto, unfolding(model::specs::Wheel::end_scroll_action_if))]
 pub fn end_scroll_action(w: WheelState) -> WheelState
     ensures { result ≡ end_scroll_action_if true w }
 {
-    let none = Modifiers::none();
     WheelState {
         status: Status::Static,
-        modifiers: none,
+        modifiers: Modifiers::none(),
         ..w
     }
 }
 
+#[tactic(auto, unfolding(model::specs::Wheel::end_scroll_action_if))]
 pub fn end_if_over(w: WheelState, time: f64) -> WheelState
     ensures { result ≡ end_scroll_action_if (is_scroll_action_over time w) w }
 {
@@ -130,9 +119,7 @@ fn smoothed(t: f32, w: WheelState) -> WheelState
     ensures { result ≡ smoothed t w }
 {
     let old = w.unprocessed_wheel_delta;
-    let zero = Vec2::zero();
-    if old != zero {
-        let smooth = w.smooth_wheel_delta;
+    if old != Vec2::zero() {
         let step = Vec2 {
             x: applied(t, old.x),
             y: applied(t, old.y),
@@ -141,11 +128,11 @@ fn smoothed(t: f32, w: WheelState) -> WheelState
             x: unapplied(t, old.x),
             y: unapplied(t, old.y),
         };
-        let sum = smooth + step;
-        let mut v = w;
-        v.unprocessed_wheel_delta = rest;
-        v.smooth_wheel_delta = sum;
-        return v;
+        return WheelState {
+            unprocessed_wheel_delta: rest,
+            smooth_wheel_delta: w.smooth_wheel_delta + step,
+            ..w
+        };
     }
     w
 }
@@ -153,15 +140,14 @@ fn smoothed(t: f32, w: WheelState) -> WheelState
 fn end_if_still(time: f64, w: WheelState) -> WheelState
     ensures { result ≡ end_if_still time w }
 {
-    let smooth = w.smooth_wheel_delta;
-    let zero = Vec2::zero();
-    if smooth != zero {
+    if w.smooth_wheel_delta != Vec2::zero() {
         return w;
     }
     end_if_over(w, time)
 }
 
 // `t` is the smoothing factor of the pass.
+#[tactic(auto, unfolding(model::specs::Wheel::after_events))]
 pub fn after_events(w: WheelState, time: f64, t: f32) -> WheelState
     ensures { result ≡ after_events time t w }
 {
@@ -170,11 +156,12 @@ pub fn after_events(w: WheelState, time: f64, t: f32) -> WheelState
 }
 
 // The smooth delta is a pass's own.
+#[tactic(auto, unfolding(model::specs::Wheel::clear_smooth))]
 pub fn clear_smooth(w: WheelState) -> WheelState
     ensures { result ≡ clear_smooth w }
 {
-    let zero = Vec2::zero();
-    let mut v = w;
-    v.smooth_wheel_delta = zero;
-    v
+    WheelState {
+        smooth_wheel_delta: Vec2::zero(),
+        ..w
+    }
 }

@@ -19,7 +19,7 @@ returns-in-Some c = rw (← first_of c.len-n.result c.args.ds.count c.args.ds.pl
 pub loop-i-preserved : goal.loop-i-preserved
 unfolding first_info
 loop-i-preserved c =
-    (omega arith, c.loop-i.invariant.1, c.loop-i.invariant.2, multi_stops _ _ _ _ c.loop-i-test.true c.loop-i.invariant.1 _ (sym c.info-info.ensures ∙ c.in-None.is) ∙ c.loop-i.invariant.3)
+    (omega arith, c.loop-i.invariant.1, c.loop-i.invariant.2, multi_stops _ _ _ _ c.loop-i-test.true c.loop-i.invariant.1 _ (sym c.info-info.ensures ∙ c.in_default.is) ∙ c.loop-i.invariant.3)
 
 pub returns : goal.returns
 returns c = rw (← first_of c.len-n.result c.args.ds.count c.args.ds.places c.len-n.ensures) (multi_ends _ _ _ c.loop-i-test.false c.loop-i.invariant.1 ∙ c.loop-i.invariant.3)

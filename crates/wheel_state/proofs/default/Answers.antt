@@ -4,4 +4,4 @@ use Rattle.wheel_state.proofs.default.Goals as goal
 
 pub returns : goal.returns
 unfolding wheel_default of_bits neg div
-returns c = rw (c.zero-zero.ensures, c.none-modifiers.ensures)
+returns c = rw (c.zero-zero.ensures, c.none.ensures)

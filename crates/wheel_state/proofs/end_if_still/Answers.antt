@@ -4,8 +4,8 @@ use Rattle.wheel_state.proofs.end_if_still.Goals as goal
 
 pub returns-then-ne : goal.returns-then-ne
 unfolding end_if_still end_scroll_action_if
-returns-then-ne c = rw (← c.zero-zero.ensures, ← not_equal c.args.w.smooth_wheel_delta c.zero-zero.result, ← c.ne.ensures, c.if-ne.true)
+returns-then-ne c = rw (← c.zero.ensures, ← not_equal c.args.w.smooth_wheel_delta c.zero.result, ← c.ne.ensures, c.if-ne.true)
 
 pub returns : goal.returns
 unfolding end_if_still end_scroll_action_if
-returns c = rw (← c.zero-zero.ensures, ← not_equal c.args.w.smooth_wheel_delta c.zero-zero.result, ← c.ne.ensures, c.if-ne.false, c.end_if_over.ensures)
+returns c = rw (← c.zero.ensures, ← not_equal c.args.w.smooth_wheel_delta c.zero.result, ← c.ne.ensures, c.if-ne.false, c.end_if_over.ensures)

@@ -30,6 +30,6 @@ returns c cs ps =
     rw (
       none (held cs ps c.args.h).pointer_events (rw (events_length, ← c.counted.ensures) c.if-counted-gt0.false),
       c.ne.ensures,
-      not_equal c.args.delta c.zero-zero.result,
-      c.zero-zero.ensures,
+      not_equal c.args.delta c.zero.result,
+      c.zero.ensures,
     )

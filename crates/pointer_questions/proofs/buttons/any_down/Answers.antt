@@ -1,6 +1,0 @@
-use Rattle.model.specs.Questions.{reply}
-use Rattle.pointer_questions.proofs.buttons.any_down.Goals as goal
-
-pub returns : goal.returns
-unfolding reply
-returns c cs ps s e = rw (e, c.any_down.ensures)

@@ -1,7 +1,0 @@
-use Rattle.model.specs.Questions.{reply}
-use Rattle.pointer_events.specs.Events.{asks}
-use Rattle.pointer_questions.proofs.buttons.any_pressed.Goals as goal
-
-pub returns : goal.returns
-unfolding reply asks
-returns c ps s e = rw (e, c.any.ensures ps)

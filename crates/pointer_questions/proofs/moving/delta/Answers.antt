@@ -1,6 +1,0 @@
-use Rattle.model.specs.Questions.{reply}
-use Rattle.pointer_questions.proofs.moving.delta.Goals as goal
-
-pub returns : goal.returns
-unfolding reply
-returns c ts ps s e = rw e
