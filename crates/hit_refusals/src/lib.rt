@@ -61,6 +61,7 @@ fn hit_refusal(hit: Option<Hit>) -> Result<(), InteractRefusal>
 fn buffers_refusal(hovered: usize, contains: usize) -> Result<(), InteractRefusal>
     ensures { refusal_of result ≡ buffers_refusal hovered contains }
 {
+    // an if for each buffer: one `||` would be no plainer
     if hovered < ID_PLACES {
         return Err(InteractRefusal::ShortBuffer);
     }

@@ -52,6 +52,7 @@ pub fn insert_some(ids: &mut [u64], count: usize, id: Option<u64>) -> usize
     requires { count < length ids.old }
     ensures { Written (insert_some id (take count ids.old)) ids.old result ids.new }
 {
+    // a match: a closure for `map_or` would take the buffer along, and need the contract of `insert_id` once more
     match id {
         None => count,
         Some(d) => insert_id(ids, count, d),

@@ -61,6 +61,7 @@ fn tally_after(tally: u32, started: Option<u64>) -> u32
     requires { (is_some started && leb max_tally tally) ≡ false }
     ensures { result ≡ tally + one_if started }
 {
+    // a match: the sum in a closure for `map_or` would ask for the precondition once more
     match started {
         None => tally,
         Some(_) => tally + 1,

@@ -23,6 +23,7 @@ pub struct Insertion {
 }
 
 // What is to be done: in the lent slice, the record at `from` goes, each after it up to `to` falls by one, and `widget` comes last.
+// The answer beside the rest, no Result of the rest: refused or taken, the caller goes on with the set and settles the slice without a match.
 #[derive(Clone, Copy)]
 pub struct Decision {
     pub answer: Result<Insertion, InsertRefusal>,
@@ -46,6 +47,7 @@ pub fn refuse(h: WidgetRects, w: WidgetRect, why: InsertRefusal) -> Decision
 
 // ---- stores of one record
 
+// Eight stores by index: C lends the edges as plain numbers.
 pub fn put_edges(edges: &mut Edges, s: usize, w: WidgetRect)
     requires { s < 1024 }
     ensures { edges.new ≡ with_edges s w edges.old }

@@ -1,4 +1,5 @@
 // The widget set: a header by value, and its table in three lent arrays of numbers. Fresh arrays may hold anything.
+// Places counted by hand, and three parameters: C lends the arrays, each by itself, as plain numbers.
 ghost use Rattle.std.specs.Prelude.{◌≡◌, ◌<◌, ◌≤◌, Float};
 ghost use Rattle.model.specs.Widgets.{same_layer};
 ghost use Rattle.widget_index.specs.Layout.{id_at, link_at, place_at, layer_of, position_of, place, count_at, packed, sense_of, enabled_of, visible_of};
@@ -65,6 +66,7 @@ pub fn layers_of(h: WidgetRects) -> usize
     h.layers.min(MAX_LAYERS)
 }
 
+// Two comparisons, the model's definition word for word: a derived `==` would need a lemma besides, that it is this one.
 #[tactic(auto, unfolding(model::specs::Widgets::same_layer))]
 pub fn same_layer(a: LayerId, b: LayerId) -> bool
     ensures { result ≡ same_layer a b }

@@ -58,6 +58,7 @@ pub fn order(
 pub fn layer_count(h: WidgetRects, words: &Words, numbers: &Numbers, layer: LayerId) -> usize
     ensures { Counts h words.now numbers.now layer result }
 {
+    // a match: a closure for `map_or` would have to ask for l < 32, as `count_at` does
     match find_layer(words, numbers, layer, layers_of(h)) {
         None => 0,
         Some(l) => count_at(numbers, l),
