@@ -31,28 +31,21 @@ fn seen(
 {
     let time = clock.pointer_time;
     let options = screen.options;
-    let place = pointer.place;
-    let press = pointer.press;
-    let held = press.held;
-    let past = press.past;
-    let down = held.down;
-    let moved = past.has_moved_too_much_for_a_click;
-    let escape_pressed = key_state::keys::key_pressed(presses, ESCAPE);
-    let long = is_long_touch(clock, screen, pointer, devices);
-    let dragging = is_decidedly_dragging(held, codes, options, time, moved);
-    let could = could_any_button_be_click(held, codes, options, time, moved);
+    let held = pointer.press.held;
+    let moved = pointer.press.past.has_moved_too_much_for_a_click;
     Seen {
-        escape_pressed,
-        is_long_touch: long,
-        is_decidedly_dragging: dragging,
-        could_any_button_be_click: could,
-        any_down: any_down(down),
-        has_pointer: has_pointer(place),
+        escape_pressed: key_state::keys::key_pressed(presses, ESCAPE),
+        is_long_touch: is_long_touch(clock, screen, pointer, devices),
+        is_decidedly_dragging: is_decidedly_dragging(held, codes, options, time, moved),
+        could_any_button_be_click: could_any_button_be_click(held, codes, options, time, moved),
+        any_down: any_down(held.down),
+        has_pointer: has_pointer(pointer.place),
     }
 }
 
 // Refused, with both id buffers as before; or taken: the answer holds the interaction and the tally for the next interact. `top` gets the hovered ids,
 // `all` those that contain the pointer, both ascending; 66 places each. The widgets are those of the set, whose rectangles are not read.
+// As many parameters as the host's call: C lends each array by itself.
 pub fn interact(
     clock: Clock,
     screen: Screen,
@@ -80,12 +73,10 @@ pub fn interact(
         result top.new all.new }
 {
     let view = seen(clock, screen, pointer, devices, codes, presses);
-    let press = pointer.press;
-    let held = press.held;
     interaction::interact::interact(
         view,
         codes,
-        held.event_count,
+        pointer.press.held.event_count,
         set,
         words,
         numbers,

@@ -1,4 +1,5 @@
 // Keys and modifiers. `key` is its place in egui's Key; over 144 it is not down and has 0 presses.
+// Calls handed on: the clauses are what this door adds.
 ghost use Rattle.model.specs.Questions.{settled, bool, count, flags};
 ghost use Rattle.model.specs.Questions as ask;
 ghost use Rattle.panel.specs.Answers.{OfKeys, OfPresses};

@@ -1,4 +1,5 @@
 // Where the pointer is and how it moves.
+// Calls handed on: the clauses are what this door adds.
 ghost use Rattle.model.specs.Questions.{settled, bool, vector, maybe_vector, maybe_position, maybe_number};
 ghost use Rattle.model.specs.Questions as ask;
 ghost use Rattle.panel.specs.Answers.{OfPlace, OfPlaceAndPress, OfLastMove};
@@ -73,16 +74,12 @@ pub fn is_moving(place: Place) -> bool
 pub fn time_since_last_movement(pointer: Pointer, clock: Clock) -> Option<f32>
     ensures { OfLastMove ask.time_since_last_movement pointer clock (maybe_number result) }
 {
-    let last = pointer.last_move_time;
-    pointer_questions::moving::time_since_last_movement(last, clock.pointer_time)
+    pointer_questions::moving::time_since_last_movement(pointer.last_move_time, clock.pointer_time)
 }
 
 // How far the pointer moved since the press, if there is one.
 pub fn total_drag_delta(pointer: Pointer) -> Option<Vec2>
     ensures { OfPlaceAndPress (settled ask.total_drag_delta) pointer (maybe_vector result) }
 {
-    let place = pointer.place;
-    let press = pointer.press;
-    let held = press.held;
-    pointer_questions::moving::total_drag_delta(place, held)
+    pointer_questions::moving::total_drag_delta(pointer.place, pointer.press.held)
 }

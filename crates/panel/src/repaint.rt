@@ -23,17 +23,14 @@ pub fn wants_repaint_after(
 ) -> Option<f64>
     ensures { OfWaiting (settled ask.wants_repaint_after) clock screen pointer codes.now wheel keys devices (maybe_seconds result) }
 {
-    let options = screen.options;
-    let place = pointer.place;
-    let press = pointer.press;
     input_questions::repaint::wants_repaint_after(
-        place,
-        press,
+        pointer.place,
+        pointer.press,
         codes,
         wheel,
         keys.feed_empty,
         devices,
-        options,
+        screen.options,
         clock.time,
         clock.pointer_time,
     )

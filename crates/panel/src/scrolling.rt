@@ -1,4 +1,5 @@
 // The wheel.
+// Calls handed on: the clauses are what this door adds.
 ghost use Rattle.model.specs.Questions.{settled, bool, number, vector, source};
 ghost use Rattle.model.specs.Questions as ask;
 ghost use Rattle.panel.specs.Answers.{OfSums, OfWheel, OfWheelAt, NumberedSource};

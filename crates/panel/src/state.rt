@@ -23,17 +23,14 @@ pub fn fresh(presses: &mut [u8; PRESSES]) -> Panel
     ensures { Fresh presses.new result }
 {
     *presses = [0; PRESSES];
-    let input = input_state::state::fresh();
-    let devices = touch_state::devices::none();
-    let interaction = Interaction {
-        potential_click_id: None,
-        potential_drag_id: None,
-        dragged: None,
-    };
     Panel {
-        input,
-        devices,
-        interaction,
+        input: input_state::state::fresh(),
+        devices: touch_state::devices::none(),
+        interaction: Interaction {
+            potential_click_id: None,
+            potential_drag_id: None,
+            dragged: None,
+        },
         tally: 0,
     }
 }
@@ -42,14 +39,10 @@ pub fn fresh(presses: &mut [u8; PRESSES]) -> Panel
 pub fn after_pass(panel: Panel, begun: Begun) -> Panel
     ensures { result ≡ after_pass panel begun }
 {
-    let input = begun.state;
-    let devices = begun.devices;
-    let interaction = panel.interaction;
     Panel {
-        input,
-        devices,
-        interaction,
-        tally: panel.tally,
+        input: begun.state,
+        devices: begun.devices,
+        ..panel
     }
 }
 
@@ -58,17 +51,11 @@ pub fn after_interact(panel: Panel, interacted: Result<Answer, InteractRefusal>)
     ensures { result ≡ after_interact panel interacted }
 {
     match interacted {
-        Err(why) => panel,
-        Ok(answer) => {
-            let input = panel.input;
-            let devices = panel.devices;
-            let interaction = answer.interaction;
-            Panel {
-                input,
-                devices,
-                interaction,
-                tally: answer.tally,
-            }
-        }
+        Err(_) => panel,
+        Ok(answer) => Panel {
+            interaction: answer.interaction,
+            tally: answer.tally,
+            ..panel
+        },
     }
 }

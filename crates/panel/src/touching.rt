@@ -1,4 +1,5 @@
 // Touches and gestures.
+// Calls handed on: the clauses are what this door adds.
 ghost use Rattle.model.specs.Questions.{settled, bool, gesture};
 ghost use Rattle.model.specs.Questions as ask;
 ghost use Rattle.panel.specs.Answers.{OfDevices, OfLongTouch};
@@ -47,8 +48,12 @@ pub fn any_touches_of(devices: Devices, device_id: u64) -> bool
 pub fn is_long_touch(clock: Clock, screen: Screen, pointer: Pointer, devices: Devices) -> bool
     ensures { OfLongTouch (settled ask.is_long_touch) clock screen pointer devices (bool result) }
 {
-    let options = screen.options;
-    let press = pointer.press;
     let started = pointer.started_decidedly_dragging;
-    scroll_questions::touching::is_long_touch(devices, press, options, clock.pointer_time, started)
+    scroll_questions::touching::is_long_touch(
+        devices,
+        pointer.press,
+        screen.options,
+        clock.pointer_time,
+        started,
+    )
 }

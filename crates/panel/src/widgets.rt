@@ -1,4 +1,5 @@
 // The widget set: a header by value, with its table in three lent arrays. Fresh arrays may hold anything.
+// Calls handed on: the clauses are what this door adds.
 ghost use Rattle.widget_rect.specs.Told.{Inserts};
 ghost use Rattle.widget_rect.specs.Questions.{Empty, Contains, Gets, Orders, Counts, Layers};
 

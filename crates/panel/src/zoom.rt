@@ -1,4 +1,5 @@
 // Zoom, rotation and translation: those of the first device by id that has a gesture, or else the sums of the pass.
+// Calls handed on: the clauses are what this door adds.
 use data::touch::Rotation;
 use emath::vec2::Vec2;
 use input_state::screen::Screen;
@@ -24,14 +25,12 @@ pub fn zoom_delta(devices: Devices, sums: Sums) -> Zoom
 pub fn zoom_delta_2d(devices: Devices, sums: Sums, keys: Keys, screen: Screen) -> Zoom2d
     ensures { OfGestureByAxis (settled ask.zoom_delta_2d) devices sums keys screen (zoom_2d_answer result) }
 {
-    let modifiers = keys.modifiers;
-    let options = screen.options;
     scroll_questions::zoom::zoom_delta_2d(
         devices,
         sums.zoom_factor,
         sums.zoom_exponent,
-        modifiers,
-        options,
+        keys.modifiers,
+        screen.options,
     )
 }
 
@@ -45,6 +44,5 @@ pub fn rotation_delta(devices: Devices, sums: Sums) -> Rotation
 pub fn translation_delta(devices: Devices, sums: Sums) -> Vec2
     ensures { OfGesture (settled ask.translation_delta) devices sums (vector result) }
 {
-    let delta = sums.smooth_scroll_delta;
-    scroll_questions::zoom::translation_delta(devices, delta)
+    scroll_questions::zoom::translation_delta(devices, sums.smooth_scroll_delta)
 }

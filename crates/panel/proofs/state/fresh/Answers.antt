@@ -9,5 +9,5 @@ unfolding fresh no_interaction interaction_of
 returns c =
     record {
       no_press = refl;
-      shows_fresh = λ l e. rw c.none-devices.ensures (c.fresh-input.ensures l (λ key. rw e (cleared key)));
+      shows_fresh = λ l e. rw c.none.ensures (c.fresh.ensures l (λ key. rw e (cleared key)));
     }
