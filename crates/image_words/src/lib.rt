@@ -30,13 +30,6 @@ pub fn low(b: u64) -> u32
     (b % HALF) as u32
 }
 
-// u64::from, under a name that the proofs of the sums cite.
-fn wide(x: u32) -> u64
-    ensures { result ≡ x }
-{
-    x as u64
-}
-
 // "A not-a-number has one form", 7FC00000. Each says too that the float fits its format: that is what its type is.
 pub fn single_word(x: f32) -> u32
     ensures { (result ≡ to_bits binary32 x) × T (fits binary32 x) }
@@ -68,7 +61,7 @@ pub fn two_at(words: &[u32], at: usize) -> u64
     ensures { result ≡ two_at words.now at }
 {
     if at < words.len() {
-        return wide(words[at]) * HALF + wide(word_at(words, at + 1));
+        return words[at] as u64 * HALF + word_at(words, at + 1) as u64;
     }
     0
 }
@@ -212,12 +205,12 @@ fn count_of(w: u32, name: u32, size: u32) -> u64
     requires { (name < 16) × (0 < size) }
     ensures { result ≡ count_of name size w }
 {
-    let base = wide(name) * NAME;
-    let v = wide(w);
+    let base = name as u64 * NAME;
+    let v = w as u64;
     if v < base {
         return 0;
     }
-    (v - base) / wide(size)
+    (v - base) / size as u64
 }
 
 // A whole number of entries, up to the most.
@@ -226,7 +219,7 @@ fn table_ok(w: u32, name: u32, most: u32, size: u32) -> bool
     ensures { result ≡ table_ok name most size w }
 {
     let n = count_of(w, name, size);
-    (wide(name) * NAME + n * wide(size) == wide(w)) & (n <= wide(most))
+    (name as u64 * NAME + n * size as u64 == w as u64) & (n <= most as u64)
 }
 
 // The leading word of a list.
@@ -243,7 +236,7 @@ pub fn table_count(words: &[u32], at: usize, name: u32, most: u32, size: u32) ->
     ensures { (result ≤ most) × (word_bad (table_ok name most size) words.now at ≡ None → result ≡ count_of name size (get_or words.now at 0)) }
 {
     let n = count_of(word_at(words, at), name, size);
-    if n <= wide(most) {
+    if n <= most as u64 {
         return n as usize;
     }
     0

@@ -3,7 +3,7 @@ use native.Mathlib.Omega.{arith}
 use Rattle.image_words.proofs.count_of.Goals as goal
 
 pub returns-then-v-base : goal.returns-then-v-base
-returns-then-v-base c = let a = c.args in count_over a.name a.size a.w (omega (arith, c.if-v-base.true, c.wide-v.ensures, c.wide-base.ensures))
+returns-then-v-base c = let a = c.args in count_over a.name a.size a.w (omega arith)
 
 pub returns : goal.returns
-returns c = let a = c.args in rw (c.wide.ensures, c.wide-v.ensures, c.wide-base.ensures) (count_is a.name a.size a.w)
+returns c = let a = c.args in count_is a.name a.size a.w

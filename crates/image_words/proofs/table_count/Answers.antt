@@ -4,8 +4,8 @@ use mathlib.Core.Path.{ap, ◌∙◌}
 use native.Mathlib.Omega.{arith}
 use Rattle.image_words.proofs.table_count.Goals as goal
 
-pub returns-then-n-wide : goal.returns-then-n-wide
-returns-then-n-wide c = (omega (arith, c.if-n-wide.true, c.wide.ensures), λ e. rw (c.count_of-n.ensures, c.word_at.ensures))
+pub returns-then-n-most : goal.returns-then-n-most
+returns-then-n-most c = (omega arith, λ e. rw (c.count_of-n.ensures, c.word_at.ensures))
 
 pub returns : goal.returns
 returns c = (
@@ -15,5 +15,5 @@ returns c = (
       let w = c.word_at.ensures in
       let m = table_most a.name a.size _ a.most (passed (table_ok a.name a.most a.size) _ _ e) in
       let n = c.count_of-n.ensures ∙ ap (count_of a.name a.size) w in
-      absurd (omega (arith, m, n, c.if-n-wide.false, c.wide.ensures)),
+      absurd (omega (arith, m, n)),
 )

@@ -5,11 +5,11 @@ use borrow.Author.Rules.{rules}
 use Rattle.image_words.proofs.table_ok.Goals as goal
 
 pub overflow_mul-result-2 : goal.overflow_mul-result-2
-overflow_mul-result-2 c = let a = c.args in rw (c.wide-2.ensures, c.count_of-n.ensures) (fits_le _ _ (count_times a.name a.size a.w) (search rules))
+overflow_mul-result-2 c = let a = c.args in rw c.count_of-n.ensures (fits_le _ _ (count_times a.name a.size a.w) (search rules))
 
 pub overflow_add-result : goal.overflow_add-result
-overflow_add-result c = let a = c.args in rw (c.wide-2.ensures, c.wide.ensures, c.count_of-n.ensures) (omega (arith, count_times a.name a.size a.w))
+overflow_add-result c = let a = c.args in rw c.count_of-n.ensures (omega (arith, count_times a.name a.size a.w))
 
 pub returns : goal.returns
 unfolding table_ok
-returns c = rw (c.wide-4.ensures, c.wide-3.ensures, c.wide-2.ensures, c.wide.ensures, c.count_of-n.ensures)
+returns c = rw c.count_of-n.ensures

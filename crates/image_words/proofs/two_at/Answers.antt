@@ -6,14 +6,14 @@ use Prim.Native.Nat.{◌+◌}
 use Rattle.image_words.proofs.two_at.Goals as goal
 
 pub overflow_mul-result : goal.overflow_mul-result
-overflow_mul-result c = omega (arith, c.wide.ensures, c.shared_slice_known-then-at-words-1.given c.args.at)
+overflow_mul-result c = omega (arith, c.shared_slice_known-then-at-words-1.given c.args.at)
 
 pub overflow_add-result : goal.overflow_add-result
-overflow_add-result c = omega (arith, c.wide-then-at-words.ensures, c.word_at.ensures, c.wide.ensures, c.shared_slice_known-then-at-words-1.given c.args.at, c.shared_slice_known-then-at-words-1.given (c.args.at + 1))
+overflow_add-result c = omega (arith, c.word_at.ensures, c.shared_slice_known-then-at-words-1.given c.args.at, c.shared_slice_known-then-at-words-1.given (c.args.at + 1))
 
 pub returns-then-at-words : goal.returns-then-at-words
 unfolding two_at
-returns-then-at-words c = rw (c.wide-then-at-words.ensures, c.word_at.ensures, c.wide.ensures, add-one)
+returns-then-at-words c = rw (c.word_at.ensures, add-one)
 
 pub returns : goal.returns
 returns c = two_none _ _ c.if-at-words.false
