@@ -19,6 +19,7 @@
 //
 // Each function of `panel` is exported as fivvarul_ and its name; after_pass and after_interact are none, since fivvarul_pass and fivvarul_interact
 // write the memory. Beside them: fivvarul_zoom_factor (02 A.5); fivvarul_kernel_fresh and fivvarul_read_records (02 A.1).
+// Four devices are lent as three arrays each, by name: C passes plain arrays, and each export stands by itself.
 #![tactic(auto)]
 
 pub mod factor;

@@ -1,4 +1,5 @@
 // What an interact is given and what it answers, as they cross to and from the host, and the interaction as the host's memory holds it.
+// Flags beside ids, and the number of a refusal: C reads the records and lends the arrays.
 #![tactic(auto)]
 
 ghost use Rattle.std.specs.Prelude.{◌≡◌};

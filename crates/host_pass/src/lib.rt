@@ -1,4 +1,5 @@
 // What a pass is given beside its feed, and the answer that it gives, as they cross to and from the host.
+// Flags beside values, modifiers as bits, and the number of a refusal: C writes the one record and reads the other.
 #![tactic(auto)]
 
 ghost use Rattle.std.specs.Prelude.{◌≡◌, None};
