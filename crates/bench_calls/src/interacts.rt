@@ -122,6 +122,7 @@ fn ends(g: Going, top: &[u64; ID_PLACES], all: &[u64; ID_PLACES]) -> u64 {
     mix(mix(g.sum, top[1]), all[2])
 }
 
+// The parameters are those of the interaction's call: the arrays are the caller's, in the C interface.
 fn call_on(
     g: Going,
     told: u32,

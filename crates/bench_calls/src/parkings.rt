@@ -24,6 +24,7 @@ fn given() -> PassInput {
     }
 }
 
+// The arrays one by one, here and below, as the panel's calls have them: they are the caller's, in the C interface.
 fn after_passes(
     start: Panel,
     stamps: &mut [f64; MAX_LEN],

@@ -143,7 +143,8 @@ fn rest(m: Machine, a: &mut Answer, w: &[u32]) -> Reply {
     taken(a.len())
 }
 
-// The calls that change no input. A new one is an arm here.
+// The calls that change no input. A new one is an arm here. The arrays one by one: they are the caller's, in the C interface, and `Changes` speaks
+// of each.
 fn change(
     m: Machine,
     times: &[f64; MAX_LEN],
@@ -182,7 +183,7 @@ fn change(
     }
 }
 
-// One request.
+// One request. The arrays one by one, as `Called` speaks of them.
 pub fn call(
     m: Machine,
     times: &mut [f64; MAX_LEN],

@@ -84,6 +84,7 @@ fn answered(
     Going { machine, tally }
 }
 
+// The arrays one by one, as `call` has them.
 fn one_call(
     before: Going,
     times: &mut [f64; MAX_LEN],
@@ -154,7 +155,8 @@ pub fn replay(form: Form, limit: usize) {
     let mut request = [0u32; WORDS];
     let mut s = start(&mut presses);
     let mut left = limit;
-    // ends where the input or the limit does
+    // Ends where the input or the limit does. A for and no while let: a loop that reads has no measure but what is left of the limit, and would need
+    // a proof of its own that says so.
     for _ in 0..u64::MAX {
         let Some(first) = read(&mut request, 1) else {
             break;

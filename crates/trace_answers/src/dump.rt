@@ -50,7 +50,7 @@ fn input(a: &mut Answer, s: InputState, p: &[u8; PRESSES]) {
     options(a, s.screen.options);
 }
 
-// All but the widgets.
+// All but the widgets. The arrays one by one: they are the caller's, in the C interface.
 pub fn dump(
     a: &mut Answer,
     s: InputState,

@@ -69,7 +69,7 @@ fn focus(out: &mut Output, low: u32) -> fmt::Result {
     out.write_str("focus gained")
 }
 
-// Kinds 7 and up.
+// Kinds 7 and up, by their numbers, as the decoder matches them.
 fn from_zoom(out: &mut Output, kind: u32, low: u32, e: &[u32]) -> fmt::Result {
     match kind {
         ZOOM_KIND => write!(out, "zoom by {}", Float(at(e, 1))),

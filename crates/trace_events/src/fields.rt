@@ -67,6 +67,7 @@ pub fn two_floats(e: &[u32], i: usize) -> Pair {
     Pair(Float(at(e, i)), Float(at(e, i.saturating_add(1))))
 }
 
+// By the numbers of a feed's words, as the decoder matches them; a number that it refuses has a name too.
 pub fn pressed(is: u32) -> &'static str {
     match is {
         0 => "released",

@@ -12,7 +12,7 @@ use trace_words::request::{at, id};
 use trace_words::words::Answer;
 use widget_index::table::{Numbers, WidgetRects, Words};
 
-// The panel after an interact, and the answer.
+// The panel after an interact, and the answer. No Result: a refused interact has both too.
 #[derive(Clone, Copy)]
 pub struct Stepped {
     pub panel: Panel,
@@ -103,6 +103,7 @@ fn reply_of(
     }
 }
 
+// The arrays one by one, as the panel's call has them: they are the caller's, in the C interface.
 fn interact_with(
     a: &mut Answer,
     p: Panel,

@@ -18,11 +18,11 @@ pub struct Machine {
     pub panel: Panel,
     pub set: WidgetRects,
     pub kernel: KernelTouches,
-    // how many words the last image has; 0: none was written
+    // how many words the last image has; 0: none was written. No Option: RESTORE_LAST takes so many of its words.
     pub parked: usize,
 }
 
-// What a call makes of the machine, and its answer.
+// What a call makes of the machine, and its answer. No Result: a refused call has both too.
 #[derive(Clone, Copy)]
 pub struct Step {
     pub machine: Machine,

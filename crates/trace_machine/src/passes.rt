@@ -10,6 +10,7 @@ use pointer_events::{CODES, PLACES};
 use trace_words::request::PASS_WORDS;
 use trace_words::words::Answer;
 
+// The arrays one by one, as the panel's pass has them: they are the caller's, in the C interface.
 pub fn pass(
     m: Machine,
     times: &mut [f64; MAX_LEN],

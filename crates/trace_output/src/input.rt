@@ -1,4 +1,6 @@
 // The words of standard input, a record at a time.
+ghost use Rattle.std.specs.Prelude.{◌≡◌, ◌≤◌, IfSome, length};
+
 const STDIN_FILENO: i32 = 0;
 
 // A record has fewer than 1 MiB.
@@ -22,7 +24,9 @@ fn unpack(words: &mut [u32], bytes: &[u8]) {
 }
 
 // The next `len` words, if they could be read.
-pub fn read(request: &mut Record, len: usize) -> Option<&[u32]> {
+pub fn read(request: &mut Record, len: usize) -> Option<&[u32]>
+    ensures { IfSome result (λ words. (length words.now ≡ len) × (len ≤ 262144)) }
+{
     let words = request.get_mut(..len)?;
     let mut bytes = [0u8; CHUNK_BYTES];
     for chunk in words.chunks_mut(CHUNK) {

@@ -1,5 +1,5 @@
 // Bytes for standard output, gathered till the buffer is full.
-ghost use Rattle.std.specs.Prelude.{◌≤◌};
+ghost use Rattle.std.specs.Prelude.{◌≡◌, ◌≤◌};
 
 use std::fmt;
 
@@ -16,7 +16,9 @@ pub struct Output {
 }
 
 impl Output {
-    pub fn new() -> Output {
+    pub fn new() -> Output
+        ensures { result.len ≡ 0 }
+    {
         Output {
             bytes: [0; SIZE],
             len: 0,

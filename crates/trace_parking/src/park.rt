@@ -69,6 +69,7 @@ fn parked(m: Machine, image: &Image, a: &mut Answer, done: Result<usize, ParkRef
     }
 }
 
+// The arrays one by one, as the panel's parking has them: they are the caller's, in the C interface.
 pub fn park(
     m: Machine,
     times: &[f64; MAX_LEN],

@@ -38,6 +38,7 @@ fn restored(m: Machine, a: &mut Answer, read: Restored) -> Step
     stepped(m, Machine { panel, ..m }, restore_answer(a, refusal))
 }
 
+// The arrays one by one, as the panel's restoring has them: they are the caller's, in the C interface.
 pub fn restore(
     m: Machine,
     times: &mut [f64; MAX_LEN],

@@ -1,4 +1,5 @@
-// The calls that a trace may hold. Constants: the contract of a call speaks of the number in the request.
+// The calls that a trace may hold. Constants and no enum: the contract of a call speaks of the number in the request, and one that is no call is
+// answered too.
 
 pub const RESET: u32 = 0;
 

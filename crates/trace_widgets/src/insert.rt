@@ -17,7 +17,7 @@ use widget_index::table::{
 use widget_insert::decide;
 use widget_slices::settled;
 
-// The set after an insertion, and the answer.
+// The set after an insertion, and the answer. No Result: a refused insertion has both too.
 #[derive(Clone, Copy)]
 pub struct Placed {
     pub set: WidgetRects,

@@ -19,6 +19,7 @@ fn record(lent: &[u32], slot: usize) -> WidgetRect {
     widget(lent)
 }
 
+// Two words by index, the low one first: the lent record is plain words, and a shift and a cast would be no plainer.
 fn put_id(lent: &mut Lent, at: usize, d: u64)
     requires { at ≤ 17406 }
 {

@@ -13,6 +13,7 @@ use widget_index::table::{
 
 // ---- layers
 
+// By hand: used in this file alone, and a derived order would have to stand in data.
 fn before(a: LayerId, b: LayerId) -> bool {
     a.order < b.order || a.order == b.order && a.id < b.id
 }
@@ -33,6 +34,7 @@ fn next_layer(
 ) -> Option<usize>
     ensures { IfSome result (λ l. l < 32) }
 {
+    // a loop: the least is sought among the rest, and its number carried along
     let mut best: Option<usize> = None;
     let mut least = LayerId {
         order: u32::MAX,
@@ -102,6 +104,7 @@ fn layers(a: &mut Answer, h: WidgetRects, words: &Words, numbers: &Numbers, lent
 fn next_slot(h: WidgetRects, words: &Words, last: u64) -> Option<usize>
     ensures { IfSome result (λ s. s < 1024) }
 {
+    // a loop, as above
     let mut best: Option<usize> = None;
     let mut least: u64 = 0;
     for s in 0..widgets_of(h) {

@@ -6,7 +6,7 @@ ghost use Rattle.trace_words.specs.Reply.{Answers};
 use crate::words::Answer;
 use data::refusal::{InsertRefusal, InteractRefusal, PassRefusal};
 
-// Two numbers, as they are written: 0 is taken.
+// Two numbers, as they are written: 0 is taken. No Result: either way both stand in an answer's first word.
 #[derive(Clone, Copy)]
 pub struct Reply {
     pub code: u32,

@@ -46,7 +46,7 @@ impl Answer {
     pub fn len(&self) -> usize
         ensures { result ≡ self.now.len }
     {
-        self.len
+        self.words().len()
     }
 
     // What is written.
