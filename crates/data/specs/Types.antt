@@ -1,4 +1,4 @@
--- The declared types of src/, by short names; the cases of each enum under egui's names, those of each Option under names of their own.
+-- The declared types of src/, by short names; the cases of each enum under egui's names. An Option is the library's.
 pub use Rattle.emath.specs.declared.pos2.Pos2.{Pos2}
 pub use Rattle.emath.specs.declared.vec2.Vec2.{Vec2}
 pub use Rattle.emath.specs.declared.rect.Rect.{Rect}

@@ -5,8 +5,5 @@ ghost use Rattle.data.specs.Bits.{bit_number};
 pub fn bit_number(b: bool) -> u32
     ensures { (result ≡ bit_number b) × (result ≤ 1) }
 {
-    if b {
-        return 1;
-    }
-    0
+    u32::from(b)
 }

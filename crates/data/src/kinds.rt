@@ -1,4 +1,5 @@
 // The kinds of "The feed". specs/Kinds.antt has the same under the same names.
+// Kept (01): "The decoder matches the kind number over 0 to 15", so the kinds are numbers, those that stand for no event among them.
 
 // What one kind counts in an event's first word: its top 4 bits are the kind.
 pub const KIND_UNIT: u32 = 0x1000_0000;

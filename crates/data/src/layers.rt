@@ -2,7 +2,7 @@
 
 // `order` is a plain number, so that one over 4 can be given and refused.
 #[repr(C)]
-#[derive(Clone, Copy)]
+#[derive(Clone, Copy, PartialEq, Eq, PartialOrd, Ord)]
 pub struct LayerId {
     pub order: u32,
     pub id: u64,

@@ -1,4 +1,4 @@
-// egui's input data as plain values. Each Option is an enum of its own.
+// egui's input data as plain values. An Option is the library's, at its type.
 #![tactic(auto)]
 
 pub mod bits;

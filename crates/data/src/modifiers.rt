@@ -5,7 +5,7 @@ ghost use Rattle.data.specs.Modifiers.{no_modifiers, modifiers_or, matches_any, 
 use crate::bits::bit_number;
 
 // State of the modifier keys.
-#[derive(Clone, Copy)]
+#[derive(Clone, Copy, PartialEq, Eq)]
 pub struct Modifiers {
     pub alt: bool,
     pub ctrl: bool,
@@ -15,7 +15,9 @@ pub struct Modifiers {
 }
 
 impl Modifiers {
-    // egui's Modifiers::NONE
+    // egui's Modifiers::NONE.
+    // A function and no constant: a constant has no clause.
+    #[tactic(auto, unfolding(crate::specs::Modifiers::no_modifiers))]
     pub fn none() -> Modifiers
         ensures { result ≡ no_modifiers }
     {
@@ -28,6 +30,7 @@ impl Modifiers {
         }
     }
 
+    #[tactic(auto, unfolding(crate::specs::Modifiers::modifiers_or))]
     pub fn bitor(self, rhs: Modifiers) -> Modifiers
         ensures { result ≡ modifiers_or self rhs }
     {
@@ -40,6 +43,7 @@ impl Modifiers {
         }
     }
 
+    #[tactic(auto, unfolding(crate::specs::Modifiers::matches_any))]
     pub fn matches_any(self, pattern: Modifiers) -> bool
         ensures { result ≡ matches_any self pattern }
     {
@@ -52,6 +56,8 @@ impl Modifiers {
     }
 
     // 01's flags: bit 0 alt, 1 ctrl, 2 shift, 3 mac_cmd, 4 command.
+    // Kept (plain): no From, since a u32 made of it says nothing of 01's bits, and `of` takes five bits of a word that holds more.
+    #[tactic(auto, unfolding(crate::specs::Modifiers::modifiers_number))]
     pub fn number(self) -> u32
         ensures { (result ≡ modifiers_number self) × (result < 32) }
     {
@@ -64,6 +70,8 @@ impl Modifiers {
     }
 
     // The flags in the low five bits of `w`.
+    // Kept (plain): no From, since the other bits of the word are another field's and not looked at.
+    #[tactic(auto, unfolding(crate::specs::Modifiers::modifiers_of))]
     pub fn of(w: u32) -> Modifiers
         ensures { result ≡ modifiers_of w }
     {

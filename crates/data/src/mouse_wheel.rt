@@ -1,11 +1,13 @@
 // egui's data/input/mouse_wheel_unit.rs and mouse_wheel_source.rs, and the state of input_state/wheel_state.rs.
+// Kept (plain): `number` is a method and no bare `as`, so that the number, which feeds, images and traces have, and its bound are a contract that
+// callers have; a From's law would say no bound, and a trait over these enums would repeat both at each.
 ghost use Rattle.std.specs.Prelude.{◌≡◌, ◌≤◌};
 ghost use Rattle.data.specs.Numbers.{unit_number, source_number, status_number};
 
 use crate::modifiers::Modifiers;
 use emath::vec2::Vec2;
 
-#[derive(Clone, Copy)]
+#[derive(Clone, Copy, PartialEq, Eq)]
 pub enum MouseWheelUnit {
     Point,
     Line,
@@ -17,15 +19,11 @@ impl MouseWheelUnit {
     pub fn number(self) -> u32
         ensures { (result ≡ unit_number self) × (result ≤ 2) }
     {
-        match self {
-            MouseWheelUnit::Point => 0,
-            MouseWheelUnit::Line => 1,
-            MouseWheelUnit::Page => 2,
-        }
+        self as u32
     }
 }
 
-#[derive(Clone, Copy)]
+#[derive(Clone, Copy, PartialEq, Eq)]
 pub enum MouseWheelSource {
     Unknown,
     Wheel,
@@ -38,16 +36,11 @@ impl MouseWheelSource {
     pub fn number(self) -> u32
         ensures { (result ≡ source_number self) × (result ≤ 3) }
     {
-        match self {
-            MouseWheelSource::Unknown => 0,
-            MouseWheelSource::Wheel => 1,
-            MouseWheelSource::Trackpad => 2,
-            MouseWheelSource::Momentum => 3,
-        }
+        self as u32
     }
 }
 
-#[derive(Clone, Copy)]
+#[derive(Clone, Copy, PartialEq, Eq)]
 pub enum Status {
     Static,
     Smoothing,
@@ -59,11 +52,7 @@ impl Status {
     pub fn number(self) -> u32
         ensures { (result ≡ status_number self) × (result ≤ 2) }
     {
-        match self {
-            Status::Static => 0,
-            Status::Smoothing => 1,
-            Status::InTouch => 2,
-        }
+        self as u32
     }
 }
 

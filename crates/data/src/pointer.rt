@@ -5,7 +5,7 @@ ghost use Rattle.data.specs.Numbers.{button_number, pointer_event_number};
 use crate::modifiers::Modifiers;
 use emath::pos2::Pos2;
 
-#[derive(Clone, Copy)]
+#[derive(Clone, Copy, PartialEq, Eq)]
 pub enum PointerButton {
     Primary,
     Secondary,
@@ -16,20 +16,16 @@ pub enum PointerButton {
 
 impl PointerButton {
     // Its number in the feed.
+    // Kept (plain): a method and no bare `as`, so that 01's number and its bound are a contract that callers have; a From's law would say no bound.
     pub fn number(self) -> u32
         ensures { (result ≡ button_number self) × (result ≤ 4) }
     {
-        match self {
-            PointerButton::Primary => 0,
-            PointerButton::Secondary => 1,
-            PointerButton::Middle => 2,
-            PointerButton::Extra1 => 3,
-            PointerButton::Extra2 => 4,
-        }
+        self as u32
     }
 }
 
 // Which buttons are down, and how many.
+// Kept (02): A.7 asks for the number of buttons down beside the flags, so that no question counts them.
 #[derive(Clone, Copy)]
 pub struct ButtonsDown {
     pub primary: bool,
@@ -40,7 +36,7 @@ pub struct ButtonsDown {
     pub count: u8,
 }
 
-// `count` is 1, 2 (double click) or 3 (triple click).
+// `count` is 1, 2 (double click) or 3 (triple click): no length of an array.
 #[derive(Clone, Copy)]
 pub struct Click {
     pub pos: Pos2,
@@ -57,6 +53,7 @@ pub enum PointerEvent {
 
 impl PointerEvent {
     // Its place in the enum.
+    // Kept (plain): a match, since `as` takes no enum whose cases hold values.
     pub fn number(self) -> u32
         ensures { (result ≡ pointer_event_number self) × (result ≤ 2) }
     {

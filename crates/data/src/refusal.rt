@@ -1,5 +1,5 @@
 // What a refused call answers. Each carries the word or entry index where 01 returns one.
-// The numbers are 01's and not the places in the enum, so a match names each.
+// Kept (01): the numbers are those of 01's rows and not the places in the enum, so a match names each.
 ghost use Rattle.std.specs.Prelude.{◌≡◌};
 ghost use Rattle.data.specs.Numbers.{pass_refusal_number, insert_refusal_number, interact_refusal_number};
 

@@ -5,7 +5,7 @@ ghost use Rattle.data.specs.Numbers.{phase_number, pinch_number, rotation_number
 use emath::pos2::Pos2;
 use emath::vec2::Vec2;
 
-#[derive(Clone, Copy)]
+#[derive(Clone, Copy, PartialEq, Eq)]
 pub enum TouchPhase {
     Start,
     Move,
@@ -15,15 +15,11 @@ pub enum TouchPhase {
 
 impl TouchPhase {
     // Its number in the feed.
+    // Kept (plain): a method and no bare `as`, so that 01's number and its bound are a contract that callers have; a From's law would say no bound.
     pub fn number(self) -> u32
         ensures { (result ≡ phase_number self) × (result ≤ 3) }
     {
-        match self {
-            TouchPhase::Start => 0,
-            TouchPhase::Move => 1,
-            TouchPhase::End => 2,
-            TouchPhase::Cancel => 3,
-        }
+        self as u32
     }
 }
 
@@ -35,7 +31,7 @@ pub struct ActiveTouch {
     pub force: Option<f32>,
 }
 
-#[derive(Clone, Copy)]
+#[derive(Clone, Copy, PartialEq, Eq)]
 pub enum PinchType {
     Horizontal,
     Vertical,
@@ -44,14 +40,11 @@ pub enum PinchType {
 
 impl PinchType {
     // Its place in the enum.
+    // Kept (plain): a method and no bare `as`, so that the number, which images and traces have, and its bound are a contract that callers have; a From's law would say no bound.
     pub fn number(self) -> u32
         ensures { (result ≡ pinch_number self) × (result ≤ 2) }
     {
-        match self {
-            PinchType::Horizontal => 0,
-            PinchType::Vertical => 1,
-            PinchType::Proportional => 2,
-        }
+        self as u32
     }
 }
 
@@ -83,6 +76,7 @@ pub enum Rotation {
 
 impl Rotation {
     // Its place in the enum.
+    // Kept (plain): a match, since `as` takes no enum whose cases hold values.
     pub fn number(self) -> u32
         ensures { (result ≡ rotation_number self) × (result ≤ 1) }
     {

@@ -129,8 +129,8 @@ other_layers_stay =
     ∷ stands_at 11 0 ∷ stands_at 13 1 ∷ stands_at 12 2
     ∷ inserts true (in_layer 11 (layer 1 1)) (13 ∷ 12 ∷ 11 ∷ []) ∷ stands_at 13 0 ∷ stands_at 12 1 ∷ stands_at 11 2 ∷ stands_at 21 0 ∷ stands_at 22 1 ∷ []
 
-unfoldable pub OfInsertion : List (List Step)
-OfInsertion = records_refused ∷ thirty_third_layer ∷ full_set ∷ insert_order ∷ short_slices ∷ known_again ∷ other_layers_stay ∷ []
+unfoldable pub of_insertion : List (List Step)
+of_insertion = records_refused ∷ thirty_third_layer ∷ full_set ∷ insert_order ∷ short_slices ∷ known_again ∷ other_layers_stay ∷ []
 
 -- ---- interact
 
@@ -352,10 +352,10 @@ full_tally =
     ∷ tallies 4294967294 ∷ drags (on (handle 7)) (Some 7) (Some 7) None ∷ replies tally (count max_tally)
     ∷ then (dec 2 0) (release (pos 5 5) ∷ []) ∷ drags (on (handle 7)) None None (Some 7) ∷ replies tally (count max_tally) ∷ []
 
-unfoldable pub OfInteract : List (List Step)
-OfInteract =
+unfoldable pub of_interact : List (List Step)
+of_interact =
     disabled_drag ∷ disabled_click ∷ clicked_once ∷ clicked_and_gone ∷ pressed_twice ∷ decided_drag ∷ dragged_and_gone ∷ escaped ∷ another_dragged ∷ long_touched ∷ long_pressed
     ∷ interact_order ∷ full_tally ∷ (undecided ++ hovered_sets)
 
 unfoldable pub interact_edges : List (List Step)
-interact_edges = OfInsertion ++ OfInteract
+interact_edges = of_insertion ++ of_interact

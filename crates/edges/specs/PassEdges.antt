@@ -143,8 +143,8 @@ smoothed_out =
 unfoldable pub still_smoothing : List Step
 still_smoothing = then (dec 1 0) (point (vec 0 64) ∷ []) ∷ then (dec 3 0) [] ∷ answers Q.is_scrolling (bool true) ∷ []
 
-unfoldable pub OfTheWheel : List (List Step)
-OfTheWheel =
+unfoldable pub of_the_wheel : List (List Step)
+of_the_wheel =
     timeouts ++ (rests ++ (deltas ++ (in_touch ∷ start_keeps ∷ stops End ∷ stops Cancel ∷ modifiers_let_go ∷ smoothed_out ∷ still_smoothing ∷ [])))
 
 -- ---- touches
@@ -282,8 +282,8 @@ first_device =
     ∷ has_started (dec 1 1250) (pos 1 1)
     ∷ then (dec 1 2500) (finger_starts 2 (pos 4 0) ∷ []) ∷ has_started (dec 1 2500) (pos 1 1) ∷ []
 
-unfoldable pub OfTouches : List (List Step)
-OfTouches =
+unfoldable pub of_touches : List (List Step)
+of_touches =
     start_position ∷ no_start_position ∷ pointer_just_gone ∷ pointer_long_gone ∷ fingers_by_id ∷ three_fingers ∷ finger_comes ∷ finger_elsewhere ∷ third_finger_goes End ∷ third_finger_goes Cancel
     ∷ finger_goes End ∷ finger_goes Cancel ∷ headings ∷ forces ∷ first_device ∷ pinch_types
 
@@ -416,8 +416,8 @@ pointer_rests =
 unfoldable pub pointer_rests_moving : List Step
 pointer_rests_moving = three_samples (dec 0 625) ++ (then (dec 0 825) (PointerGone ∷ []) ∷ moved_ago (dec 0 0) ∷ then (dec 1 825) [] ∷ moved_ago (dec 1 0) ∷ [])
 
-unfoldable pub OfThePointer : List (List Step)
-OfThePointer =
+unfoldable pub of_the_pointer : List (List Step)
+of_the_pointer =
     pointer_rests ∷ pointer_rests_moving ∷ moved_too_far ∷ triple ∷ not_triple ∷ flags_of_release ∷ decided ∷ long_touch ∷ slow_repaint ∷ no_repaint ∷ drags_delta ∷ gone_moving ∷ pressed_moving ∷ motions
     ∷ (presses ++ velocities)
 
@@ -560,9 +560,9 @@ pass_order =
     ∷ refused (encode_all (four_devices ++ (Touch 5 1 Start (on_x (past32 (dec 65536 0))) None ∷ []))) (row 2 28)
     ∷ refused (encode_all (four_devices ++ (touch 5 1 Start ∷ PointerMoved (on_x (past32 (dec 65536 0))) ∷ []))) (row 5 28) ∷ []
 
-unfoldable pub OfAPass : List (List Step)
-OfAPass =
+unfoldable pub of_a_pass : List (List Step)
+of_a_pass =
     keys ∷ zooms_and_turns ∷ not_given ∷ repaint_requested ∷ never_given ∷ fifth_device ∷ eleventh_touch ∷ (axes ++ (malformed ++ (domain ++ (crowds ++ pass_order))))
 
 unfoldable pub pass_edges : List (List Step)
-pass_edges = OfTheWheel ++ (OfTouches ++ (OfThePointer ++ OfAPass))
+pass_edges = of_the_wheel ++ (of_touches ++ (of_the_pointer ++ of_a_pass))

@@ -13,7 +13,7 @@ pub struct Pos2 {
 }
 
 impl Pos2 {
-    // egui's `ZERO`, a function as `Vec2::zero` is
+    // egui's `ZERO`.
     #[tactic(auto, using(crate::proofs::Parts::zero_value), unfolding(crate::specs::Vec::pos_zero))]
     pub fn zero() -> Pos2
         ensures { result ≡ pos_zero }

@@ -18,7 +18,8 @@ pub fn abs(x: f32) -> f32
     x.abs()
 }
 
-// (std's `max` leaves open which of 0.0 and -0.0 it gives.)
+// The larger of two parts; the other one where one is not a number.
+// Kept (01): std's `max` may give either of 0.0 and -0.0, and 01's results are bit-exact.
 #[tactic(auto, unfolding(crate::specs::Vec::larger))]
 fn larger(x: f32, y: f32) -> f32
     ensures { result ≡ larger x y }
@@ -36,7 +37,8 @@ fn larger(x: f32, y: f32) -> f32
 }
 
 impl Vec2 {
-    // egui's `ZERO`. (A constant has no clause: each caller's proof would unfold `vec_zero`.)
+    // egui's `ZERO`.
+    // A function and no constant: a constant has no clause.
     #[tactic(auto, using(crate::proofs::Parts::zero_value), unfolding(crate::specs::Vec::vec_zero))]
     pub fn zero() -> Vec2
         ensures { result ≡ vec_zero }

@@ -16,15 +16,16 @@ pub const PARTS: usize = 2 * MAX_LEN;
 
 pub const MAX_AGE: f32 = 0.1;
 
-// The two arrays are two parameters, and no struct of loans: a host lends them apart, `flush` and `duration` read the times
-// alone, and what an addition leaves of each is said of that array.
 // `len` samples from place `start` on. Any numbers mean something: the place is taken modulo 1,000, and a larger count is 1,000.
+// Kept (C): the samples lie in two arrays that C lends; the count is a field of the record by value.
 #[derive(Clone, Copy)]
 pub struct History {
     pub start: usize,
     pub len: usize,
 }
 
+// Kept (C): two arrays, and no struct of loans: a host lends them apart. `flush` and `duration` read the times alone, and what
+// an addition leaves of each is said of that array.
 impl History {
     #[tactic(auto, unfolding(crate::specs::Ring::view, crate::specs::Ring::samples))]
     pub fn new() -> History
@@ -37,19 +38,17 @@ impl History {
     pub fn clear(self) -> History
         ensures { Cleared self result }
     {
-        History {
-            start: self.start,
-            len: 0,
-        }
+        History { len: 0, ..self }
     }
 
     #[tactic(auto, using(crate::proofs::Samples::view_count))]
     pub fn len(self) -> usize
         ensures { (times positions : List Float) → result ≡ length (view times positions self) }
     {
-        count(self)
+        self.count()
     }
 
+    #[tactic(auto, using(crate::proofs::Samples::add_grown))]
     pub fn add(
         self,
         times: &mut [f64; MAX_LEN],
@@ -59,10 +58,10 @@ impl History {
     ) -> History
         ensures { Added self time pos times.old positions.old result times.new positions.new }
     {
-        let i = free(self);
+        let i = self.free();
         set_time(times, i, time);
         set_position(positions, i, pos);
-        grown(self).flush(times, time)
+        self.grown().flush(times, time)
     }
 
     // Drops old samples from the front, down to two.
@@ -71,8 +70,8 @@ impl History {
     {
         let limit = time - MAX_AGE as f64;
         let mut start = self.start % MAX_LEN;
-        let mut len = count(self);
-        // no `for`: it ends where a sample is young enough, and a ring's place goes on from the last to the first
+        let mut len = self.count();
+        // Kept (plain): no `for`: it ends where a sample is young enough, and a ring's place goes on from the last to the first
         while MIN_LEN < len && times[start] < limit {
             start = (start + 1) % MAX_LEN;
             len -= 1;
@@ -81,10 +80,11 @@ impl History {
     }
 
     // From the oldest sample to the newest, in seconds.
+    #[tactic(auto, using(crate::proofs::Samples::duration_none, crate::proofs::Samples::duration_some), unfolding(crate::specs::Ring::view))]
     pub fn duration(self, times: &[f64; MAX_LEN]) -> f32
         ensures { (positions : List Float) → result ≡ duration (view times.now positions self) }
     {
-        let n = count(self);
+        let n = self.count();
         if n == 0 {
             return 0.0;
         }
@@ -93,10 +93,11 @@ impl History {
         ieee_narrow::narrow(times[last] - times[first])
     }
 
+    #[tactic(auto, using(crate::proofs::Samples::velocity_none, crate::proofs::Samples::velocity_some, crate::proofs::Samples::velocity_slow), unfolding(crate::specs::Ring::view))]
     pub fn velocity(self, times: &[f64; MAX_LEN], positions: &[f32; PARTS]) -> Option<Vec2>
         ensures { result ≡ velocity (view times.now positions.now self) }
     {
-        let n = count(self);
+        let n = self.count();
         if n == 0 {
             return None;
         }
@@ -110,35 +111,35 @@ impl History {
         }
         None
     }
-}
 
-fn count(h: History) -> usize
-    ensures { result ≡ count h }
-{
-    h.len.min(MAX_LEN)
-}
-
-// The place for one sample more: the one after the newest, which is the oldest's where all are taken.
-fn free(h: History) -> usize
-    ensures { result ≡ free h }
-{
-    (h.start % MAX_LEN + count(h)) % MAX_LEN
-}
-
-// One sample more at the end. Where all places are taken, the oldest sample's is the one that was written.
-#[tactic(auto, using(crate::proofs::Samples::place_next), unfolding(crate::specs::Ring::grown))]
-fn grown(h: History) -> History
-    ensures { result ≡ grown h }
-{
-    if h.len < MAX_LEN {
-        return History {
-            start: h.start,
-            len: h.len + 1,
-        };
+    fn count(self) -> usize
+        ensures { result ≡ count self }
+    {
+        self.len.min(MAX_LEN)
     }
-    History {
-        start: (h.start % MAX_LEN + 1) % MAX_LEN,
-        len: MAX_LEN,
+
+    // The place for one sample more: the one after the newest, which is the oldest's where all are taken.
+    fn free(self) -> usize
+        ensures { result ≡ free self }
+    {
+        (self.start % MAX_LEN + self.count()) % MAX_LEN
+    }
+
+    // One sample more at the end. Where all places are taken, the oldest sample's is the one that was written.
+    #[tactic(auto, using(crate::proofs::Samples::place_next), unfolding(crate::specs::Ring::grown))]
+    fn grown(self) -> History
+        ensures { result ≡ grown self }
+    {
+        if self.len < MAX_LEN {
+            return History {
+                len: self.len + 1,
+                ..self
+            };
+        }
+        History {
+            start: (self.start % MAX_LEN + 1) % MAX_LEN,
+            len: MAX_LEN,
+        }
     }
 }
 
@@ -149,6 +150,7 @@ fn set_time(times: &mut [f64], i: usize, time: f64)
     times[i] = time;
 }
 
+// Kept (C): a host lends the positions as floats, x and y of each one after the other.
 fn set_position(positions: &mut [f32], i: usize, pos: Pos2)
     requires { i * 2 + 1 < length positions.old }
     ensures { positions.new ≡ set_position positions.old i pos }
@@ -157,6 +159,7 @@ fn set_position(positions: &mut [f32], i: usize, pos: Pos2)
     positions[i * 2 + 1] = pos.y;
 }
 
+// Kept (C): as `set_position`.
 #[tactic(auto, unfolding(crate::specs::Ring::position_at))]
 fn position_at(positions: &[f32; PARTS], i: usize) -> Pos2
     requires { i < max_len }

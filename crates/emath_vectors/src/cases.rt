@@ -18,23 +18,6 @@ impl Tally {
     }
 }
 
-#[derive(Clone, Copy)]
-pub struct State {
-    pub history_now: History,
-    pub vectors: Tally,
-    pub arithmetic: Tally,
-    pub history: Tally,
-}
-
-pub fn start() -> State {
-    State {
-        history_now: History::new(),
-        vectors: Tally::default(),
-        arithmetic: Tally::default(),
-        history: Tally::default(),
-    }
-}
-
 // Words 1 to 4 are two vectors; then length, its square, normalized, abs, max_elem, distance and its square, and `!=`.
 fn vector_agrees(b: &[u8; 64]) -> bool {
     let v = vec_at(b, 1);
@@ -66,54 +49,69 @@ fn arithmetic_agrees(b: &[u8; 64]) -> bool {
         && same(r.height(), f32_at(b, 14))
 }
 
-// Word 1 is the operation: 0 begins an empty history at the place of word 6, 1 adds, 2 flushes, 3 clears.
-// Words 2 and 3 are the time, 4 and 5 the position. (No enum: the numbers are the file's, and are read here alone.)
-fn step(
-    h: History,
-    b: &[u8; 64],
-    times: &mut [f64; MAX_LEN],
-    positions: &mut [f32; PARTS],
-) -> History {
-    let time = f64_at(b, 2);
-    match word(b, 1) {
-        0 => History {
-            start: word(b, 6) as usize,
-            len: 0,
-        },
-        1 => h.add(times, positions, time, pos_at(b, 4)),
-        2 => h.flush(times, time),
-        _ => h.clear(),
+// The history that the records build, with its arrays, and what was counted.
+#[derive(Drop)]
+pub struct State {
+    past: History,
+    times: [f64; MAX_LEN],
+    positions: [f32; PARTS],
+    pub vectors: Tally,
+    pub arithmetic: Tally,
+    pub history: Tally,
+}
+
+impl State {
+    pub fn new() -> State {
+        State {
+            past: History::new(),
+            times: [0.0; MAX_LEN],
+            positions: [0.0; PARTS],
+            vectors: Tally::default(),
+            arithmetic: Tally::default(),
+            history: Tally::default(),
+        }
     }
-}
 
-// Words 7 to 11: len, duration, whether there is a velocity, and the velocity.
-fn history_agrees(
-    h: History,
-    b: &[u8; 64],
-    times: &[f64; MAX_LEN],
-    positions: &[f32; PARTS],
-) -> bool {
-    let velocity_agrees = match h.velocity(times, positions) {
-        None => word(b, 9) == 0,
-        Some(v) => word(b, 9) == 1 && same_vec(v, vec_at(b, 10)),
-    };
-    h.len() == word(b, 7) as usize && same(h.duration(times), f32_at(b, 8)) && velocity_agrees
-}
+    // Word 1 is the operation: 0 begins an empty history at the place of word 6, 1 adds, 2 flushes, 3 clears.
+    // Words 2 and 3 are the time, 4 and 5 the position.
+    // Kept (plain): no enum, since the numbers are the file's, and are read here alone.
+    fn step(&mut self, b: &[u8; 64]) {
+        let h = self.past;
+        let time = f64_at(b, 2);
+        self.past = match word(b, 1) {
+            0 => History {
+                start: word(b, 6) as usize,
+                len: 0,
+            },
+            1 => h.add(&mut self.times, &mut self.positions, time, pos_at(b, 4)),
+            2 => h.flush(&self.times, time),
+            _ => h.clear(),
+        };
+    }
 
-// Word 0 is the kind: 0 vectors, 1 arithmetic, any other a history. (No enum, as in `step`.)
-pub fn replay(
-    s: &mut State,
-    b: &[u8; 64],
-    times: &mut [f64; MAX_LEN],
-    positions: &mut [f32; PARTS],
-) {
-    match word(b, 0) {
-        0 => s.vectors.count(vector_agrees(b)),
-        1 => s.arithmetic.count(arithmetic_agrees(b)),
-        _ => {
-            s.history_now = step(s.history_now, b, times, positions);
-            s.history
-                .count(history_agrees(s.history_now, b, times, positions));
+    // Words 7 to 11: len, duration, whether there is a velocity, and the velocity.
+    fn history_agrees(&self, b: &[u8; 64]) -> bool {
+        let h = self.past;
+        let velocity_agrees = match h.velocity(&self.times, &self.positions) {
+            None => word(b, 9) == 0,
+            Some(v) => word(b, 9) == 1 && same_vec(v, vec_at(b, 10)),
+        };
+        h.len() == word(b, 7) as usize
+            && same(h.duration(&self.times), f32_at(b, 8))
+            && velocity_agrees
+    }
+
+    // Word 0 is the kind: 0 vectors, 1 arithmetic, any other a history.
+    // Kept (plain): no enum, as in `step`.
+    pub fn replay(&mut self, b: &[u8; 64]) {
+        match word(b, 0) {
+            0 => self.vectors.count(vector_agrees(b)),
+            1 => self.arithmetic.count(arithmetic_agrees(b)),
+            _ => {
+                self.step(b);
+                let agrees = self.history_agrees(b);
+                self.history.count(agrees);
+            }
         }
     }
 }

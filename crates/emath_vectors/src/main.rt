@@ -5,8 +5,7 @@
 mod cases;
 mod record;
 
-use cases::Tally;
-use emath_history::history::{MAX_LEN, PARTS};
+use cases::{State, Tally};
 
 const STDIN_FILENO: i32 = 0;
 
@@ -23,16 +22,14 @@ fn print_count(name: &[u8], t: Tally) {
     io::write_all(STDOUT_FILENO, b" differ\n");
 }
 
-fn replay_all() -> cases::State {
+fn replay_all() -> State {
     let mut record = [0u8; 64];
-    let mut times = [0.0f64; MAX_LEN];
-    let mut positions = [0.0f32; PARTS];
-    let mut s = cases::start();
+    let mut s = State::new();
     for _ in 0..MAX_RECORDS {
         if io::read_full(STDIN_FILENO, &mut record) != record.len() {
             break;
         }
-        cases::replay(&mut s, &record, &mut times, &mut positions);
+        s.replay(&record);
     }
     s
 }

@@ -29,6 +29,8 @@ pub fn f64_at(b: &[u8; 64], i: usize) -> f64
     from_bits64(w)
 }
 
+// Kept (plain): a vector and a position are types of their own, as in egui. A trait that makes either of its two parts would be
+// longer than both functions.
 pub fn vec_at(b: &[u8; 64], i: usize) -> Vec2
     ensures x_value { result.x ≡ from_bits binary32 (word_at b.now (i % 16 * 4)) }
     ensures y_value { result.y ≡ from_bits binary32 (word_at b.now ((i % 16 + 1) % 16 * 4)) }
@@ -39,6 +41,7 @@ pub fn vec_at(b: &[u8; 64], i: usize) -> Vec2
     }
 }
 
+// Kept (plain): as `vec_at`.
 pub fn pos_at(b: &[u8; 64], i: usize) -> Pos2
     ensures x_value { result.x ≡ from_bits binary32 (word_at b.now (i % 16 * 4)) }
     ensures y_value { result.y ≡ from_bits binary32 (word_at b.now ((i % 16 + 1) % 16 * 4)) }
@@ -56,6 +59,7 @@ pub fn same(x: f32, y: f32) -> bool
     to_bits32(x) == to_bits32(y)
 }
 
+// Kept (plain): no `==`, which takes 0.0 and -0.0 for the same, and a NaN for none.
 pub fn same_vec(v: Vec2, w: Vec2) -> bool
     ensures { result ≡ (to_bits binary32 v.x == to_bits binary32 w.x && to_bits binary32 v.y == to_bits binary32 w.y) }
 {

@@ -1,5 +1,5 @@
 // The fields of an event's words. A number past an enum's last case is that case.
-// Functions and no From: data's enums go by other numbers elsewhere, and that the last case takes the rest holds of a feed alone.
+// Kept (plain): no From<u32>: only in a feed does a number past the last case mean the last case, and are two words an id or a position.
 ghost use Rattle.std.specs.Prelude.{◌≡◌};
 ghost use Rattle.feed.specs.Shape.{button_of, phase_of, unit_of, source_of, float_of, pos_of, vec_of, id_of};
 
@@ -10,6 +10,7 @@ use emath::pos2::Pos2;
 use emath::vec2::Vec2;
 use std::num::f32_from_bits_with_nan;
 
+#[tactic(auto, unfolding(crate::specs::Shape::button_of))]
 pub fn button_of(n: u32) -> PointerButton
     ensures { result ≡ button_of n }
 {
@@ -22,6 +23,7 @@ pub fn button_of(n: u32) -> PointerButton
     }
 }
 
+#[tactic(auto, unfolding(crate::specs::Shape::phase_of))]
 pub fn phase_of(n: u32) -> TouchPhase
     ensures { result ≡ phase_of n }
 {
@@ -33,6 +35,7 @@ pub fn phase_of(n: u32) -> TouchPhase
     }
 }
 
+#[tactic(auto, unfolding(crate::specs::Shape::unit_of))]
 pub fn unit_of(n: u32) -> MouseWheelUnit
     ensures { result ≡ unit_of n }
 {
@@ -43,6 +46,7 @@ pub fn unit_of(n: u32) -> MouseWheelUnit
     }
 }
 
+#[tactic(auto, unfolding(crate::specs::Shape::source_of))]
 pub fn source_of(n: u32) -> MouseWheelSource
     ensures { result ≡ source_of n }
 {
@@ -62,6 +66,7 @@ pub fn float_of(w: u32) -> f32
     f32_from_bits_with_nan(w)
 }
 
+#[tactic(auto, unfolding(crate::specs::Shape::pos_of))]
 pub fn pos_of(x: u32, y: u32) -> Pos2
     ensures { result ≡ pos_of x y }
 {
@@ -71,6 +76,7 @@ pub fn pos_of(x: u32, y: u32) -> Pos2
     }
 }
 
+#[tactic(auto, unfolding(crate::specs::Shape::vec_of))]
 pub fn vec_of(x: u32, y: u32) -> Vec2
     ensures { result ≡ vec_of x y }
 {
@@ -81,6 +87,7 @@ pub fn vec_of(x: u32, y: u32) -> Vec2
 }
 
 // An id of its low and high word.
+#[tactic(auto, unfolding(crate::specs::Shape::id_of))]
 pub fn id_of(low: u32, high: u32) -> u64
     ensures { result ≡ id_of low high }
 {

@@ -11,6 +11,7 @@ const LENGTHS: [u8; 16] = [0, 0, 0, 2, 2, 2, 0, 1, 1, 6, 2, 0, 0, 0, 0, 0];
 const TOUCH: usize = TOUCH_KIND as usize;
 
 // The words that follow the first word `head` of an event.
+#[tactic(auto, using(crate::proofs::Lengths::length_le), unfolding(crate::specs::Split::following))]
 pub fn following(head: u32) -> usize
     ensures { result ≡ following head }
 {
@@ -23,6 +24,7 @@ pub fn following(head: u32) -> usize
 }
 
 // The words of an event whose first word is `head`.
+#[tactic(auto, using(crate::proofs::Lengths::following_le), unfolding(crate::specs::Split::piece_length))]
 pub fn piece_length(head: u32) -> usize
     ensures { result ≡ piece_length head }
 {

@@ -8,31 +8,28 @@ use domain::event_ok;
 use feed::found::FeedError;
 use feed::split::following;
 
+#[tactic(auto, unfolding(feed::specs::Decode::found_at, feed::specs::Decode::check_floats))]
 fn check_floats(e: Option<Event>, next: usize) -> Result<(Event, usize), FeedError>
     ensures { result ≡ found_at (check_floats e) next }
 {
-    match e {
-        None => Err(FeedError::Malformed),
-        Some(event) => {
-            if event_ok(event) {
-                return Ok((event, next));
-            }
-            Err(FeedError::OutsideDomain)
-        }
+    let event = e.ok_or(FeedError::Malformed)?;
+    if !event_ok(event) {
+        return Err(FeedError::OutsideDomain);
     }
+    Ok((event, next))
 }
 
 // The event whose first word is at `at`. Past the end there is none: cut short.
+#[tactic(auto, using(feed::proofs::Reading::event_at_past, feed::proofs::Reading::event_at_short, feed::proofs::Reading::event_at_whole))]
 pub fn event_at(feed: &[u32], at: usize) -> Result<(Event, usize), FeedError>
     ensures { result ≡ event_at feed.now at }
 {
-    if at < feed.len() {
-        let n = following(feed[at]);
-        if n < feed.len() - at {
-            let e = shape_at(feed, at);
-            return check_floats(e, at + (n + 1));
-        }
+    if at >= feed.len() {
         return Err(FeedError::Malformed);
     }
-    Err(FeedError::Malformed)
+    let n = following(feed[at]);
+    if n >= feed.len() - at {
+        return Err(FeedError::Malformed);
+    }
+    check_floats(shape_at(feed, at), at + (n + 1))
 }

@@ -1,4 +1,5 @@
 // An event's words, by their kind.
+// Kept (01): "The decoder matches the kind number over 0 to 15".
 ghost use Rattle.std.specs.Prelude.{◌≡◌, suc, ◌+◌, ◌<◌, get_or, length, drop};
 ghost use Rattle.feed.specs.Split.{kind, low_bits, following};
 ghost use Rattle.feed.specs.Shape.{shape_by_kind};
@@ -14,6 +15,7 @@ use feed_shape::shape::{
 };
 
 // The event at `at`, whose words are all there.
+#[tactic(auto, using(crate::proofs::ByKind::as_0, crate::proofs::ByKind::as_1, crate::proofs::ByKind::as_2, crate::proofs::ByKind::as_3, crate::proofs::ByKind::as_4, crate::proofs::ByKind::as_5, crate::proofs::ByKind::as_6, crate::proofs::ByKind::as_7, crate::proofs::ByKind::as_8, crate::proofs::ByKind::as_9, crate::proofs::ByKind::as_10, crate::proofs::ByKind::as_11, crate::proofs::ByKind::as_12, crate::proofs::ByKind::unknown, feed::proofs::Lengths::length_least, feed::proofs::Lengths::touch_following))]
 pub fn shape_at(feed: &[u32], at: usize) -> Option<Event>
     requires { at + following (get_or feed.now at 0) < length feed.now }
     ensures { result ≡ shape_by_kind (kind (get_or feed.now at 0)) (low_bits (get_or feed.now at 0)) (drop (suc at) feed.now) }

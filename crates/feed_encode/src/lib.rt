@@ -41,7 +41,8 @@ const FOCUS_HEAD: u32 = FOCUS_KIND * KIND_UNIT;
 
 const OTHER_HEAD: u32 = OTHER_KIND * KIND_UNIT;
 
-// The first `count` of `words`: an event has one to eight words, and without a heap they lie in an array.
+// The first `count` of `words`.
+// Kept (01): no heap: an event has one to eight words, and they lie in an array.
 #[derive(Clone, Copy)]
 pub struct EventWords {
     pub words: [u32; 8],
@@ -56,7 +57,8 @@ pub fn float_word(x: f32) -> u32
     f32_to_bits_with_nan(x)
 }
 
-// One, two or three words. One function of a slice would copy place by place what these write as they stand.
+// One, two or three words.
+#[tactic(auto, unfolding(crate::specs::Words::words_of))]
 fn one(head: u32) -> EventWords
     ensures { words_of result ≡ head ∷ [] }
 {
@@ -66,6 +68,7 @@ fn one(head: u32) -> EventWords
     }
 }
 
+#[tactic(auto, unfolding(crate::specs::Words::words_of))]
 fn two(head: u32, a: u32) -> EventWords
     ensures { words_of result ≡ head ∷ a ∷ [] }
 {
@@ -75,6 +78,7 @@ fn two(head: u32, a: u32) -> EventWords
     }
 }
 
+#[tactic(auto, unfolding(crate::specs::Words::words_of))]
 fn three(head: u32, a: u32, b: u32) -> EventWords
     ensures { words_of result ≡ head ∷ a ∷ b ∷ [] }
 {
@@ -84,6 +88,7 @@ fn three(head: u32, a: u32, b: u32) -> EventWords
     }
 }
 
+#[tactic(auto, unfolding(crate::specs::Words::words_of, feed::specs::Encode::encode, feed::specs::Encode::fields, feed::specs::Encode::words_after, feed::specs::Encode::pos_words, feed::specs::Encode::id_words, feed::specs::Encode::force_words))]
 fn touch_words(device: u64, id: u64, phase: TouchPhase, pos: Pos2, force: Option<f32>) -> EventWords
     ensures { words_of result ≡ encode (Touch device id phase pos force) }
 {
@@ -99,69 +104,41 @@ fn touch_words(device: u64, id: u64, phase: TouchPhase, pos: Pos2, force: Option
             words: [TOUCH_HEAD + (p + 0), a, b, c, d, x, y, 0],
             count: 7,
         },
-        Some(f) => {
-            let z = float_word(f);
-            EventWords {
-                words: [TOUCH_HEAD + (p + 4), a, b, c, d, x, y, z],
-                count: 8,
-            }
-        }
+        Some(f) => EventWords {
+            words: [TOUCH_HEAD + (p + 4), a, b, c, d, x, y, float_word(f)],
+            count: 8,
+        },
     }
 }
 
+#[tactic(auto, unfolding(feed::specs::Encode::encode, feed::specs::Encode::fields, feed::specs::Encode::words_after, feed::specs::Encode::pos_words, feed::specs::Encode::vec_words))]
 pub fn encode(e: Event) -> EventWords
     ensures { words_of result ≡ encode e }
 {
     match e {
-        Event::Key(place, pressed) => {
-            let p = bit_number(pressed);
-            one(KEY_HEAD + (place % 256 + 256 * p))
-        }
-        Event::ModifiersChanged(modifiers) => {
-            let m = modifiers.number();
-            one(MODIFIERS_HEAD + m)
-        }
-        Event::PointerMoved(pos) => {
-            let x = float_word(pos.x);
-            let y = float_word(pos.y);
-            three(MOVED_HEAD, x, y)
-        }
-        Event::MouseMoved(delta) => {
-            let x = float_word(delta.x);
-            let y = float_word(delta.y);
-            three(MOTION_HEAD, x, y)
-        }
-        Event::PointerButton(pos, button, pressed, modifiers) => {
-            let m = modifiers.number();
-            let b = button.number();
-            let p = bit_number(pressed);
-            let x = float_word(pos.x);
-            let y = float_word(pos.y);
-            three(BUTTON_HEAD + (m + 32 * b + 256 * p), x, y)
+        Event::Key(place, pressed) => one(KEY_HEAD + (place % 256 + 256 * bit_number(pressed))),
+        Event::ModifiersChanged(m) => one(MODIFIERS_HEAD + m.number()),
+        Event::PointerMoved(pos) => three(MOVED_HEAD, float_word(pos.x), float_word(pos.y)),
+        Event::MouseMoved(delta) => three(MOTION_HEAD, float_word(delta.x), float_word(delta.y)),
+        Event::PointerButton(pos, button, pressed, m) => {
+            let fields = m.number() + 32 * button.number() + 256 * bit_number(pressed);
+            three(BUTTON_HEAD + fields, float_word(pos.x), float_word(pos.y))
         }
         Event::PointerGone => one(GONE_HEAD),
-        Event::Zoom(factor) => {
-            let x = float_word(factor);
-            two(ZOOM_HEAD, x)
-        }
-        Event::Rotate(radians) => {
-            let x = float_word(radians);
-            two(ROTATE_HEAD, x)
-        }
+        Event::Zoom(factor) => two(ZOOM_HEAD, float_word(factor)),
+        Event::Rotate(radians) => two(ROTATE_HEAD, float_word(radians)),
         Event::Touch(device, id, phase, pos, force) => touch_words(device, id, phase, pos, force),
-        Event::MouseWheel(unit, delta, phase, source, modifiers) => {
-            let m = modifiers.number();
-            let u = unit.number();
+        Event::MouseWheel(unit, delta, phase, source, m) => {
             let p = phase.number();
             let s = source.number();
-            let x = float_word(delta.x);
-            let y = float_word(delta.y);
-            three(WHEEL_HEAD + (m + 32 * u + 128 * p + 512 * s), x, y)
+            let fields = m.number() + 32 * unit.number() + 128 * p + 512 * s;
+            three(
+                WHEEL_HEAD + fields,
+                float_word(delta.x),
+                float_word(delta.y),
+            )
         }
-        Event::WindowFocused(focused) => {
-            let f = bit_number(focused);
-            one(FOCUS_HEAD + f)
-        }
+        Event::WindowFocused(focused) => one(FOCUS_HEAD + bit_number(focused)),
         Event::Other => one(OTHER_HEAD),
     }
 }

@@ -1,7 +1,7 @@
 ghost use Rattle.std.specs.Prelude.{◌≤◌, ◌<◌};
 
-use crate::fields::fields_of;
-use crate::record::{event_words, feed_words, word};
+use crate::fields::Fields;
+use crate::record::{feed_words, word};
 use data::event::Event;
 use data::modifiers::Modifiers;
 use feed::found::FeedError;
@@ -40,7 +40,7 @@ fn event_case(b: &[u8; 128]) -> bool {
     }
     match read(feed, n, at) {
         Ok((e, next)) => {
-            let fields = fields_of(e) == event_words(b);
+            let fields = Fields::from(e) == Fields::read(b);
             let place = next == word(b, 4) as usize;
             refusal == 0 && place && fields && written(e, &feed, at, next)
         }
@@ -61,18 +61,18 @@ fn modifiers_case(b: &[u8; 128]) -> bool {
     for p in 0..32 {
         let m = Modifiers::of(p);
         let or = a.bitor(m);
-        let flags = (or.alt == bit(word(b, 3), p))
-            & (or.ctrl == bit(word(b, 4), p))
-            & (or.shift == bit(word(b, 5), p))
-            & (or.mac_cmd == bit(word(b, 6), p))
-            & (or.command == bit(word(b, 7), p));
+        let flags = or.alt == bit(word(b, 3), p)
+            && or.ctrl == bit(word(b, 4), p)
+            && or.shift == bit(word(b, 5), p)
+            && or.mac_cmd == bit(word(b, 6), p)
+            && or.command == bit(word(b, 7), p);
         let any = a.matches_any(m) == bit(word(b, 2), p);
-        same = same & flags & any & (m.number() == p);
+        same = same && flags && any && m.number() == p;
     }
     same
 }
 
-fn same_case(b: &[u8; 128]) -> bool {
+fn agrees(b: &[u8; 128]) -> bool {
     match word(b, 0) {
         1 => event_case(b),
         2 => modifiers_case(b),
@@ -83,6 +83,6 @@ fn same_case(b: &[u8; 128]) -> bool {
 pub fn replay(t: Tally, b: &[u8; 128]) -> Tally {
     Tally {
         cases: t.cases.wrapping_add(1),
-        differ: t.differ.wrapping_add(u64::from(!same_case(b))),
+        differ: t.differ.wrapping_add(u64::from(!agrees(b))),
     }
 }

@@ -9,15 +9,19 @@ mod record;
 
 use cases::Tally;
 
+const STDIN_FILENO: i32 = 0;
+
 const STDOUT_FILENO: i32 = 1;
 
-// A million records at most, so that the loop ends.
+// so that the loop ends
+const MAX_RECORDS: u64 = 1_000_000;
+
 fn replay_all() -> Tally {
     let mut record = [0u8; 128];
     let mut t = Tally::default();
-    for _ in 0..1_000_000 {
-        if io::read_full(0, &mut record) != 128 {
-            return t;
+    for _ in 0..MAX_RECORDS {
+        if io::read_full(STDIN_FILENO, &mut record) != record.len() {
+            break;
         }
         t = cases::replay(t, &record);
     }

@@ -16,12 +16,3 @@ pub fn feed_words(b: &[u8; 128]) -> [u32; 12] {
     }
     words
 }
-
-// The event's fields as the record has them.
-pub fn event_words(b: &[u8; 128]) -> [u32; 11] {
-    let mut words = [0u32; 11];
-    for i in 0..11 {
-        words[i] = word(b, 5 + i);
-    }
-    words
-}

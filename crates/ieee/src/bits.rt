@@ -1,6 +1,7 @@
 // Bit patterns of floats, for every pattern and every value: the language's own `from_bits` and
 // `to_bits` leave out NaN. Every NaN pattern is the one NaN, and that is written as one pattern.
-// (Two for each type and no trait over the types: each is one call of std's, and no caller is generic over the float types.)
+// Kept (plain): two for each type and no trait over the types, since each is one call of std's, and no caller is generic over
+// the float types.
 ghost use Rattle.std.specs.Prelude.{◌≡◌, from_bits, to_bits};
 ghost use Rattle.std.specs.Float.{binary32, binary64};
 

@@ -1,4 +1,5 @@
 // An f64 rounded to an f32, as Rust's `as` does it, by way of the bit patterns.
+// Kept (01): "Bit-exact f32 and f64 arithmetic with own square root, narrowing", so the rounding is computed here, though std has it.
 #![tactic(auto)]
 
 ghost use Rattle.std.specs.Prelude.{◌≡◌, ◌≤◌, ◌<◌, ◌^◌};
@@ -19,6 +20,7 @@ fn shift_nearest(q: u64, n: u64) -> u64
 
 // b is an f64's pattern without its sign, and no NaN's. The result is an f32's.
 // In units of the f32's least value, 2^-149, the f64 is digits * 2^(field - 926).
+#[tactic(auto, using(crate::proofs::Narrowing::below, crate::proofs::Narrowing::middle, crate::proofs::Narrowing::upper, crate::proofs::Narrowing::over, ieee::proofs::Closest::closest_le))]
 fn narrow_pattern(b: u64) -> u64
     requires { b ≤ 0x7ff0_0000_0000_0000 }
     ensures { Narrowed b result }
@@ -40,7 +42,7 @@ fn narrow_pattern(b: u64) -> u64
 }
 
 // The nearest f32, of two as near the even one; an infinity from 2^128 less half a step on.
-// (std's `nearest_f64_to_f32_with_nan` gives the same, and takes 7 instructions more.)
+// (std's `nearest_f64_to_f32_with_nan` gives the same too, and takes 7 instructions more.)
 pub fn narrow(x: f64) -> f32
     ensures { result ≡ narrow binary32 x }
 {

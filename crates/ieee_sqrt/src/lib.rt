@@ -1,5 +1,6 @@
 // Square roots, correctly rounded. One code serves both formats: p is how many digits the format
 // keeps, and 2^-low is its least value.
+// Kept (01): "Bit-exact f32 and f64 arithmetic with own square root, narrowing", so the root is computed here, though std has it.
 #![tactic(auto)]
 
 ghost use Rattle.std.specs.Prelude.{◌≡◌, ◌≤◌, ◌<◌, ◌^◌, cond, leb};
@@ -68,8 +69,8 @@ fn root_bits(b: u64, p: u64, low: u64) -> u64
 }
 
 // A zero, the infinity and a NaN are their own roots. What is below zero has none.
-// (A function for each type and no generic one: what the two share is `root_bits`. What is left names the type's patterns and
-// constants in each line, and a trait that has these for both would be longer than both.)
+// Kept (plain): a function for each type and no generic one. What the two share is `root_bits`; what is left names the type's
+// patterns and constants in each line, and a trait that has these for both would be longer than both.
 pub fn sqrt32(x: f32) -> f32
     ensures { result ≡ sqrt binary32 x }
 {
@@ -85,6 +86,8 @@ pub fn sqrt32(x: f32) -> f32
     x
 }
 
+// As `sqrt32`.
+// Kept (plain): see there.
 pub fn sqrt64(x: f64) -> f64
     ensures { result ≡ sqrt binary64 x }
 {

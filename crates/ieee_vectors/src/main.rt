@@ -27,7 +27,7 @@ impl Tally {
         let mut buf = io::large_buffer();
         let n = io::read_full(STDIN_FILENO, &mut buf);
         self.pairs = self.pairs.wrapping_add((n / PAIR) as u64);
-        self.differ = self.differ.wrapping_add(pairs::differ(kind, &buf[..n]));
+        self.differ = self.differ.wrapping_add(kind.differ(&buf[..n]));
     }
 }
 

@@ -38,44 +38,46 @@ fn value32(b: u64) -> f32
     from_bits32((b % 0x1_0000_0000) as u32)
 }
 
-fn computed(kind: Kind, x: u64) -> u64
-    ensures { result ≡ answer kind x }
-{
-    match kind {
-        Kind::Narrow => to_bits32(ieee_narrow::narrow(from_bits64(x))) as u64,
-        Kind::Sqrt32 => to_bits32(ieee_sqrt::sqrt32(value32(x))) as u64,
-        Kind::Sqrt64 => to_bits64(ieee_sqrt::sqrt64(from_bits64(x))),
-    }
-}
-
-fn expected(kind: Kind, y: u64) -> u64
-    ensures { result ≡ stored kind y }
-{
-    match kind {
-        Kind::Narrow | Kind::Sqrt32 => to_bits32(value32(y)) as u64,
-        Kind::Sqrt64 => to_bits64(from_bits64(y)),
-    }
-}
-
-fn differs(kind: Kind, s: &[u8], at: usize) -> bool
-    requires { at + 16 ≤ length s.now }
-    ensures { result ≡ is_different kind s.now at }
-{
-    let x = computed(kind, word_at(s, at));
-    let y = expected(kind, word_at(s, at + 8));
-    x != y
-}
-
-// How many of the pairs of s differ.
-#[tactic(auto, unfolding(crate::specs::Pairs::differing))]
-pub fn differ(kind: Kind, s: &[u8]) -> u64
-    ensures { result ≡ differing kind s.now (length s.now / PAIR) }
-{
-    let mut count: u64 = 0;
-    for i in 0..s.len() / PAIR {
-        if differs(kind, s, i * PAIR) {
-            count += 1;
+impl Kind {
+    fn computed(self, x: u64) -> u64
+        ensures { result ≡ answer self x }
+    {
+        match self {
+            Kind::Narrow => to_bits32(ieee_narrow::narrow(from_bits64(x))) as u64,
+            Kind::Sqrt32 => to_bits32(ieee_sqrt::sqrt32(value32(x))) as u64,
+            Kind::Sqrt64 => to_bits64(ieee_sqrt::sqrt64(from_bits64(x))),
         }
     }
-    count
+
+    fn expected(self, y: u64) -> u64
+        ensures { result ≡ stored self y }
+    {
+        match self {
+            Kind::Narrow | Kind::Sqrt32 => to_bits32(value32(y)) as u64,
+            Kind::Sqrt64 => to_bits64(from_bits64(y)),
+        }
+    }
+
+    fn differs(self, s: &[u8], at: usize) -> bool
+        requires { at + 16 ≤ length s.now }
+        ensures { result ≡ is_different self s.now at }
+    {
+        let x = self.computed(word_at(s, at));
+        let y = self.expected(word_at(s, at + 8));
+        x != y
+    }
+
+    // How many of the pairs of s differ.
+    #[tactic(auto, unfolding(crate::specs::Pairs::differing))]
+    pub fn differ(self, s: &[u8]) -> u64
+        ensures { result ≡ differing self s.now (length s.now / PAIR) }
+    {
+        let mut count: u64 = 0;
+        for i in 0..s.len() / PAIR {
+            if self.differs(s, i * PAIR) {
+                count += 1;
+            }
+        }
+        count
+    }
 }

@@ -77,7 +77,7 @@ unfolding feed_Split.following feed_Split.piece_length feed_Split.pieces_from fe
 feed_split = Type 0
 
 unfoldable pub model_calls : Type 1
-unfolding model_Calls.OfPass model_Calls.OfInteract model_Calls.call model_Calls.after model_Calls.run model_Calls.outcomes
+unfolding model_Calls.of_pass model_Calls.of_interact model_Calls.call model_Calls.after model_Calls.run model_Calls.outcomes
 model_calls = Type 0
 
 unfoldable pub model_interact : Type 1

@@ -18,17 +18,17 @@ pub data Outcome : Type 0 where
   passed : Panel → Outcome
   answered : InteractionSnapshot → Panel → Outcome
 
-unfoldable pub OfPass : Passed → Outcome
-OfPass (P.refused r) = refused_pass r
-OfPass (P.taken p) = passed p
+unfoldable pub of_pass : Passed → Outcome
+of_pass (P.refused r) = refused_pass r
+of_pass (P.taken p) = passed p
 
-unfoldable pub OfInteract : Interacted → Outcome
-OfInteract (I.refused r) = refused_interact r
-OfInteract (I.answered s p) = answered s p
+unfoldable pub of_interact : Interacted → Outcome
+of_interact (I.refused r) = refused_interact r
+of_interact (I.answered s p) = answered s p
 
 unfoldable pub call : Panel → Call → Outcome
-call p (passes i) = OfPass (pass p i)
-call p (interacts x) = OfInteract (interact p x)
+call p (passes i) = of_pass (pass p i)
+call p (interacts x) = of_interact (interact p x)
 
 -- 01: "Each call gets the panel that the last one returned, or left if refused"
 unfoldable pub after : Panel → Outcome → Panel

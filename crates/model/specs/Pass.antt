@@ -212,12 +212,12 @@ rotation_of (e ∷ es) a = rotation_of es (rotation_event e a)
 -- 01 item 6: "an exponent, scroll_zoom_speed · (x + y), 0 without the zoom modifier"; the wheel zooms or scrolls
 unfoldable pub sums_of : InputOptions → List Event → WheelState → Sums
 sums_of o es w =
-    let is-zoom = matches_any w.modifiers o.zoom_modifier in
+    let is_zoom = matches_any w.modifiers o.zoom_modifier in
     record {
       zoom_factor = zoom_of es one;
-      zoom_exponent = cond is-zoom (mul binary32 o.scroll_zoom_speed (add binary32 w.smooth_wheel_delta.x w.smooth_wheel_delta.y)) +0;
+      zoom_exponent = cond is_zoom (mul binary32 o.scroll_zoom_speed (add binary32 w.smooth_wheel_delta.x w.smooth_wheel_delta.y)) +0;
       rotation_radians = rotation_of es +0;
-      smooth_scroll_delta = cond is-zoom vec_zero w.smooth_wheel_delta;
+      smooth_scroll_delta = cond is_zoom vec_zero w.smooth_wheel_delta;
     }
 
 -- ---- a pass that is taken

@@ -1,4 +1,4 @@
--- The types of `emath` and `data` that the model speaks of, by short names; the cases of each Option under names of their own.
+-- The types of `emath` and `data` that the model speaks of, by short names. An Option is the library's.
 pub use Rattle.emath.specs.declared.pos2.Pos2.{Pos2}
 pub use Rattle.emath.specs.declared.vec2.Vec2.{Vec2}
 pub use Rattle.emath.specs.declared.rect.Rect.{Rect}

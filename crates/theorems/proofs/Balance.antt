@@ -11,7 +11,7 @@ use Rattle.model.specs.Types.{PassRefusal, InteractRefusal}
 use Rattle.model.specs.Types.interaction.{TallyFull}
 use Rattle.model.specs.Pass.{Panel, PassInput, Interaction, fresh, pass, pass_by, pass_refusal, begin_pass, no_interaction}
 use Rattle.model.specs.Interact.{InteractInput, InteractionSnapshot, seen, interact, interact_seen, interact_by, input_refusal, tally_after, tally_refusal, tallied, tallied_by, snapshot, interaction_after, with_interaction, if_changed, same_id, one_if, is_some}
-use Rattle.model.specs.Calls.{Call, passes, interacts, Outcome, refused_pass, refused_interact, passed, answered, OfPass, OfInteract, call, after, run, outcomes}
+use Rattle.model.specs.Calls.{Call, passes, interacts, Outcome, refused_pass, refused_interact, passed, answered, of_pass, of_interact, call, after, run, outcomes}
 use Rattle.theorems.specs.Balance.{one_if_is, starts, stops, last_dragged, all_starts, Balance}
 
 -- ---- what a taken call does to the widget dragged and to the tally
@@ -31,16 +31,16 @@ Done p (refused_interact r) = Unit {0}
 Done p (passed q) = Unchanged p q
 Done p (answered s q) = Dragged p s q
 
-pass_done : (p : Panel) (i : PassInput) → Done p (OfPass (pass p i))
-unfolding OfPass pass pass_by begin_pass
+pass_done : (p : Panel) (i : PassInput) → Done p (of_pass (pass p i))
+unfolding of_pass pass pass_by begin_pass
 pass_done p i = go (pass_refusal p i)
   where
-    go : (r : Option PassRefusal) → Done p (OfPass (pass_by r p i))
+    go : (r : Option PassRefusal) → Done p (of_pass (pass_by r p i))
     go (Some r) = tt
     go None = record { dragged = refl; tally = refl }
 
-interact_done : (p : Panel) (x : InteractInput) → Done p (OfInteract (interact p x))
-unfolding OfInteract interact interact_seen interact_by tallied tallied_by snapshot interaction_after with_interaction
+interact_done : (p : Panel) (x : InteractInput) → Done p (of_interact (interact p x))
+unfolding of_interact interact interact_seen interact_by tallied tallied_by snapshot interaction_after with_interaction
 interact_done p x = go (input_refusal x)
   where
     s : InteractionSnapshot
@@ -49,11 +49,11 @@ interact_done p x = go (input_refusal x)
     d : Interaction
     d = interaction_after (seen p) x p.interaction
 
-    full : (r : Option InteractRefusal) → Done p (OfInteract (tallied_by r p s d))
+    full : (r : Option InteractRefusal) → Done p (of_interact (tallied_by r p s d))
     full (Some r) = tt
     full None = record { now = refl; started = refl; stopped = refl; tally = refl }
 
-    go : (r : Option InteractRefusal) → Done p (OfInteract (interact_by r (seen p) p x))
+    go : (r : Option InteractRefusal) → Done p (of_interact (interact_by r (seen p) p x))
     go (Some r) = tt
     go None = full (tally_refusal s p.tally)
 
@@ -102,16 +102,16 @@ balanced_from w p (c ∷ cs) = go (call p c) (call_done p c) (λ q. balanced_fro
 abbrev Fits : Panel → Type 0
 Fits p = p.tally ≤ max_tally
 
-pass_fits : (p : Panel) (i : PassInput) → Fits p → Fits (after p (OfPass (pass p i)))
-unfolding OfPass pass pass_by begin_pass after
+pass_fits : (p : Panel) (i : PassInput) → Fits p → Fits (after p (of_pass (pass p i)))
+unfolding of_pass pass pass_by begin_pass after
 pass_fits p i h = go (pass_refusal p i)
   where
-    go : (r : Option PassRefusal) → Fits (after p (OfPass (pass_by r p i)))
+    go : (r : Option PassRefusal) → Fits (after p (of_pass (pass_by r p i)))
     go (Some r) = h
     go None = h
 
-interact_fits : (p : Panel) (x : InteractInput) → Fits p → Fits (after p (OfInteract (interact p x)))
-unfolding OfInteract interact interact_seen interact_by tallied tallied_by tally_after tally_refusal with_interaction after is_some one_if
+interact_fits : (p : Panel) (x : InteractInput) → Fits p → Fits (after p (of_interact (interact p x)))
+unfolding of_interact interact interact_seen interact_by tallied tallied_by tally_after tally_refusal with_interaction after is_some one_if
 interact_fits p x h = go (input_refusal x)
   where
     s : InteractionSnapshot
@@ -120,12 +120,12 @@ interact_fits p x h = go (input_refusal x)
     d : Interaction
     d = interaction_after (seen p) x p.interaction
 
-    full : (o : Option ℕ) (b : Bool) → (T (not b) → p.tally < max_tally) → s.drag_started ≡ o → Fits (after p (OfInteract (tallied_by (cond (is_some o && b) (Some TallyFull) None) p s d)))
+    full : (o : Option ℕ) (b : Bool) → (T (not b) → p.tally < max_tally) → s.drag_started ≡ o → Fits (after p (of_interact (tallied_by (cond (is_some o && b) (Some TallyFull) None) p s d)))
     full None b k e = rw e (omega arith)
     full (Some w) true k e = h
     full (Some w) false k e = let z = k tt in rw e (omega arith)
 
-    go : (r : Option InteractRefusal) → Fits (after p (OfInteract (interact_by r (seen p) p x)))
+    go : (r : Option InteractRefusal) → Fits (after p (of_interact (interact_by r (seen p) p x)))
     go (Some r) = h
     go None = full s.drag_started (leb max_tally p.tally) (nleb→lt max_tally p.tally) refl
 

@@ -165,14 +165,14 @@ pub clearing_within : (D : Float) (p₀ q₀ : Panel) → Reached p₀ → Reach
 clearing_within D p₀ q₀ rp rq later c x p q h tp tq f =
     let takes_p = passed_is p₀ c tp.cleared tp.takes_pass in
     let takes_q = passed_is q₀ c tq.cleared tq.takes_pass in
-    let answers-p = answered_is tp.cleared x tp.snapshot p tp.takes_interact in
-    let answers-q = answered_is tq.cleared x tq.snapshot q tq.takes_interact in
+    let answers_p = answered_is tp.cleared x tp.snapshot p tp.takes_interact in
+    let answers_q = answered_is tq.cleared x tq.snapshot q tq.takes_interact in
     let fin : T (finite h.time) =
     subst (λ (z : Float). T (finite z)) (time_is p₀ c h.time h.screen_rect h.ends h.rest h.gives_time h.gives_rect h.feed)
     (time_in_range (time_of c p₀.clock.time) takes_p.in_domain).is_finite in
-    cleared_on D h.time c h.screen_rect h.rest p q later fin (interact_reaches tp.cleared x tp.snapshot p (pass_reaches p₀ c tp.cleared rp takes_p) answers-p)
-    (clears c h.time h.screen_rect h.rest h.ends h.gives_time h.gives_rect h.feed p₀ tp.cleared p x tp.snapshot rp h.ends_p takes_p answers-p)
-    (clears c h.time h.screen_rect h.rest h.ends h.gives_time h.gives_rect h.feed q₀ tq.cleared q x tq.snapshot rq h.ends_q takes_q answers-q) f
+    cleared_on D h.time c h.screen_rect h.rest p q later fin (interact_reaches tp.cleared x tp.snapshot p (pass_reaches p₀ c tp.cleared rp takes_p) answers_p)
+    (clears c h.time h.screen_rect h.rest h.ends h.gives_time h.gives_rect h.feed p₀ tp.cleared p x tp.snapshot rp h.ends_p takes_p answers_p)
+    (clears c h.time h.screen_rect h.rest h.ends h.gives_time h.gives_rect h.feed q₀ tq.cleared q x tq.snapshot rq h.ends_q takes_q answers_q) f
 
 -- ---- twice the delay is no sooner than the delay
 max_duration_finite : T (finite max_duration)

@@ -11,14 +11,14 @@ use Rattle.model.specs.Types.{Point, Unknown}
 use Rattle.model.specs.Pass.{Panel, PassInput, fresh, pass_events, pass, pass_by, pass_refusal, begin_pass, Tally}
 use Rattle.model.specs.Interact.{InteractInput, InteractionSnapshot, interact, interact_seen, interact_by, input_refusal, tally_after, tally_refusal, tallied, tallied_by, seen, snapshot, interaction_after, with_interaction}
 use Rattle.model.specs.Questions.{ask, settled, dragged, widget, tally, count}
-use Rattle.model.specs.Calls.{Call, passes, interacts, passed, answered, OfPass, OfInteract, call, run}
+use Rattle.model.specs.Calls.{Call, passes, interacts, passed, answered, of_pass, of_interact, call, run}
 use Rattle.theorems.specs.Clearing.{TouchEnd, end_event, is_ended, EndsAll, Rest, rest_events, Clears, FirstIsPress, button_event, first_button, button_came, is_refused, twice, Fair, done, both_refused, both_passed, both_answered}
 use Rattle.theorems.specs.Example.{Example, two_seconds, hundred, zero32, corner, screen, pass_at, on_widget, on_nothing, drag_without_end, clearing_pass, press_pass, malformed_pass, release_pass, later}
 use Rattle.theorems.proofs.Opened.{opened}
 
 -- ---- a call that is not refused
 pass_is_taken : (p : Panel) (i : PassInput) → pass_refusal p i ≡ None → call p (passes i) ≡ passed (begin_pass p i)
-unfolding call OfPass pass pass_by
+unfolding call of_pass pass pass_by
 pass_is_taken p i e = rw e
 
 abbrev answer : Panel → InteractInput → InteractionSnapshot
@@ -28,7 +28,7 @@ abbrev then : Panel → InteractInput → Panel
 then p x = with_interaction p (interaction_after (seen p) x p.interaction) (tally_after (answer p x) p.tally)
 
 interact_is_answered : (p : Panel) (x : InteractInput) → input_refusal x ≡ None → tally_refusal (answer p x) p.tally ≡ None → call p (interacts x) ≡ answered (answer p x) (then p x)
-unfolding call OfInteract interact interact_seen interact_by tallied tallied_by
+unfolding call of_interact interact interact_seen interact_by tallied tallied_by
 interact_is_answered p x e f = rw (e, f)
 
 abbrev NotFull : Panel → InteractInput → Type 0

@@ -13,7 +13,7 @@ use Rattle.model.specs.Pass.{Panel, PassInput, Interaction, Tally, Passed, pass,
 use Rattle.model.specs.Pass as P
 use Rattle.model.specs.Interact.{InteractInput, InteractionSnapshot, Interacted, seen, interact, interact_seen, interact_by, input_refusal, tally_after, tally_refusal, tallied, tallied_by, snapshot, interaction_after, with_interaction, is_some}
 use Rattle.model.specs.Interact as I
-use Rattle.model.specs.Calls.{Call, passes, interacts, Outcome, refused_pass, refused_interact, passed, answered, OfPass, OfInteract, call}
+use Rattle.model.specs.Calls.{Call, passes, interacts, Outcome, refused_pass, refused_interact, passed, answered, of_pass, of_interact, call}
 use Rattle.model.proofs.Ids.{impossible}
 
 -- ---- a taken pass
@@ -53,10 +53,10 @@ taken_is p i q h = own (own_numbers_ok i t) (lt t p.clock.time) (λ x. x) (λ x.
     own true false x y k = fed (survey max_events (items i.feed) p.touch_states) refl (x tt) (y tt) k
 
 pub passed_is : (p : Panel) (i : PassInput) (q : Panel) → call p (passes i) ≡ passed q → Taken p i q
-unfolding call OfPass
+unfolding call of_pass
 passed_is p i q h = taken_is p i q (go (pass p i) h)
   where
-    go : (r : Passed) → OfPass r ≡ passed q → r ≡ P.taken q
+    go : (r : Passed) → of_pass r ≡ passed q → r ≡ P.taken q
     go (P.refused r) k = impossible (cc)
     go (P.taken x) k = cc
 
@@ -87,10 +87,10 @@ interacted_is p x s q h = go (input_refusal x) h
     go None k = full (tally_refusal t p.tally) k
 
 pub answered_is : (p : Panel) (x : InteractInput) (s : InteractionSnapshot) (q : Panel) → call p (interacts x) ≡ answered s q → Answered p x s q
-unfolding call OfInteract
+unfolding call of_interact
 answered_is p x s q h = interacted_is p x s q (go (interact p x) h)
   where
-    go : (r : Interacted) → OfInteract r ≡ answered s q → r ≡ I.answered s q
+    go : (r : Interacted) → of_interact r ≡ answered s q → r ≡ I.answered s q
     go (I.refused r) k = impossible (cc)
     go (I.answered t y) k = cc
 
@@ -113,14 +113,14 @@ pub data CallView (p : Panel) : Call → Outcome → Type 0 where
   interact_taken : (x : InteractInput) (s : InteractionSnapshot) (q : Panel) → Answered p x s q → CallView p (interacts x) (answered s q)
 
 pub call_view : (p : Panel) (c : Call) → CallView p c (call p c)
-unfolding call OfPass OfInteract pass pass_by interact interact_seen interact_by tallied tallied_by
+unfolding call of_pass of_interact pass pass_by interact interact_seen interact_by tallied tallied_by
 call_view p (passes i) = go (pass p i) refl
   where
     refusal : (o : Option PassRefusal) (r : PassRefusal) → pass_by o p i ≡ P.refused r → o ≡ Some r
     refusal None r k = impossible (cc)
     refusal (Some s) r k = cc
 
-    go : (r : Passed) → pass p i ≡ r → CallView p (passes i) (OfPass r)
+    go : (r : Passed) → pass p i ≡ r → CallView p (passes i) (of_pass r)
     go (P.refused r) k = pass_refused i r (refusal (pass_refusal p i) r k)
     go (P.taken q) k = pass_taken i q (taken_is p i q k)
 call_view p (interacts x) = go (interact p x) refl
@@ -136,6 +136,6 @@ call_view p (interacts x) = go (interact p x) refl
     refusal None r e k = interact_full x r e (full (tally_refusal t p.tally) r k)
     refusal (Some s) r e k = interact_refused x r (cc)
 
-    go : (r : Interacted) → interact p x ≡ r → CallView p (interacts x) (OfInteract r)
+    go : (r : Interacted) → interact p x ≡ r → CallView p (interacts x) (of_interact r)
     go (I.refused r) k = refusal (input_refusal x) r refl k
     go (I.answered s q) k = interact_taken x s q (interacted_is p x s q k)

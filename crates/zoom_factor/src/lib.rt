@@ -16,6 +16,8 @@ pub enum ZoomRefusal {
 
 impl ZoomRefusal {
     // 02's number of it.
+    // Kept (02): the number is that of 02's row and not the place in the enum.
+    #[tactic(auto, unfolding(crate::specs::Answer::zoom_refusal_number))]
     pub fn number(self) -> u32
         ensures { result ≡ zoom_refusal_number self }
     {
@@ -43,6 +45,7 @@ const UNIT_FIELD: u64 = 97;
 const WHOLE_FIELD: u64 = 150;
 
 // The size of the value with this pattern, which has no sign, in units, cut to a whole number.
+#[tactic(auto, using(crate::proofs::Patterns::below, crate::proofs::Patterns::moved))]
 fn units(pattern: u64) -> u64
     requires { pattern ≤ 0x3f80_0000 }
     ensures { CutPattern pattern result }
@@ -55,15 +58,11 @@ fn units(pattern: u64) -> u64
 }
 
 // The k-th term, where it is below 0.
+#[tactic(auto, unfolding(crate::specs::Series::below_zero))]
 fn minus_part(negative: bool, k: u64, term: u64) -> u64
     ensures { result ≡ cond (below_zero negative k) term 0 }
 {
-    if negative {
-        if k % 2 == 1 {
-            return term;
-        }
-    }
-    0
+    if negative && k % 2 == 1 { term } else { 0 }
 }
 
 // The sum, in units, for an exponent of this size. Each term is made of the one before it, and cut.

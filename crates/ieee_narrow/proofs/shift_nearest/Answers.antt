@@ -2,7 +2,7 @@ use mathlib.Core.Path.{◌≡◌, ap, ◌∙◌}
 use Prim.Native.Nat.{ℕ, ◌+◌, ◌-◌, ◌*◌, ◌/◌, ◌%◌, ◌^◌, ◌<◌}
 use native.Mathlib.Nat.{mod-eq_of_lt, one-mul}
 use native.Mathlib.Omega.{arith}
-use lib.Pow.{pow_pos, pow-lt}
+use lib.Pow.{pow-lt}
 use Rattle.ieee.proofs.Closest.{closest_shift}
 use Rattle.ieee_narrow.proofs.shift_nearest.Goals as goal
 
@@ -11,15 +11,6 @@ shl : (n : ℕ) → n < 63 → (1 * 2 ^ (n - 1) % 2 ^ 64 ≡ 2 ^ (n - 1)) × (2 
 shl n h =
     let l : 2 ^ (n - 1) < 2 ^ 63 = pow-lt {i = n - 1} {j = 63} (omega arith) in
     (ap (λ (x : ℕ). x % 2 ^ 64) (one-mul (2 ^ (n - 1))) ∙ mod-eq_of_lt (omega arith), l)
-
-pub overflow_sub-result : goal.overflow_sub-result
-overflow_sub-result c = omega (arith, shl c.args.n c.requires.2, pow_pos (c.args.n - 1))
-
-pub overflow_add-result : goal.overflow_add-result
-overflow_add-result c = omega (arith, shl c.args.n c.requires.2)
-
-pub overflow_add-result-2 : goal.overflow_add-result-2
-overflow_add-result-2 c = omega (arith, shl c.args.n c.requires.2)
 
 pub returns : goal.returns
 returns c =

@@ -3,7 +3,7 @@ use mathlib.Core.Logic.{◌⊎◌, inl, inr}
 use mathlib.Core.Bool.{Bool, true, false, not, cond}
 use lib.Dec.{T, leb, leb→le, nleb→lt}
 use Prim.Native.Nat.{ℕ, ◌+◌, ◌-◌, ◌*◌, ◌/◌, ◌%◌, ◌^◌, ◌≤◌, ◌<◌}
-use native.Mathlib.Nat.{le_antisymm, lt-suc_self, mod-lt, div-add-mod', mul_assoc, mul_comm, mul-one, add-zero, pow-suc, pow-succ'}
+use native.Mathlib.Nat.{le_antisymm, mod-lt, div-add-mod', mul_assoc, mul_comm, mul-one, add-zero, pow-suc, pow-succ'}
 use native.Mathlib.Numerals.{add-one}
 use native.Mathlib.Omega.{arith}
 use lib.Arith.{digits_div, digits_mod}
@@ -98,12 +98,6 @@ step d n left rem root i one f h e = go (digit_cases (rem * 4 + left / 2 ^ 60) (
 found : (c : After-digit-one) → ((c.loop-i.root * 4 + 1) * c.digit-one.result ≤ c.loop-i.rem * 4 + c.loop-i.left / 2 ^ 60) × (c.digit-one.result ≤ 1)
 found c = let l = c.loop-i in fits_in (l.rem * 4 + l.left / 2 ^ 60) (l.root * 4 + 1) c.digit-one.result c.digit-one.ensures
 
-pub loop-i-init : goal.loop-i-init
-loop-i-init c =
-    let d = c.args.d in
-    let k = parts (0 * 0 + 0) d (d * 4 ^ 0) (omega arith) (omega arith) in
-    record { turns = omega arith; sum = k.0; small = omega arith; digits = lt-suc_self 0; rest = k.1 }
-
 pub overflow_mul-rem : goal.overflow_mul-rem
 overflow_mul-rem c = omega (arith, bound c.loop-i.invariant c.loop-i-test.true c.requires.1)
 
@@ -118,15 +112,6 @@ overflow_add-t c = omega (arith, bound c.loop-i.invariant c.loop-i-test.true c.r
 
 pub overflow_mul-rem-in-loop-i : goal.overflow_mul-rem-in-loop-i
 overflow_mul-rem-in-loop-i c = omega (arith, found c, bound c.loop-i.invariant c.loop-i-test.true c.requires.1)
-
-pub overflow_sub-rem : goal.overflow_sub-rem
-overflow_sub-rem c = omega (arith, found c)
-
-pub overflow_mul-root : goal.overflow_mul-root
-overflow_mul-root c = omega (arith, bound c.loop-i.invariant c.loop-i-test.true c.requires.1)
-
-pub overflow_add-root : goal.overflow_add-root
-overflow_add-root c = omega (arith, found c, bound c.loop-i.invariant c.loop-i-test.true c.requires.1)
 
 pub loop-i-preserved : goal.loop-i-preserved
 loop-i-preserved c =

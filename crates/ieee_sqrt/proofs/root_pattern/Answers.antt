@@ -99,37 +99,13 @@ Kept p j t = (half p j * 2 ^ (p - 1) + (t + 1) / 2 < 2 ^ 63) × (half p j * 2 ^ 
 all-fits : (c : After-root_digits-r) → Kept c.args.p c.args.j c.root_digits-r.result
 all-fits c = fits c.args.p c.args.q c.args.j c.root_digits-r.result c.requires (found c)
 
-pub overflow_add-odd : goal.overflow_add-odd
-overflow_add-odd c = omega (arith, ranges c.requires)
-
-pub overflow_add-odd-2 : goal.overflow_add-odd-2
-overflow_add-odd-2 c = omega (arith, ranges c.requires)
-
-pub overflow_sub-p : goal.overflow_sub-p
-overflow_sub-p c = omega (arith, ranges c.requires)
-
-pub overflow_shl-q : goal.overflow_shl-q
-overflow_shl-q c = omega (arith, ranges c.requires)
-
 pub root_digits-r-requires : goal.root_digits-r-requires
 root_digits-r-requires c =
     let a = c.args in
     (in_range a.p a.q (odd a.p a.j) c.requires.within (ranges c.requires).1 (omega arith), omega (arith, ranges c.requires))
 
-pub overflow_add-k : goal.overflow_add-k
-overflow_add-k c = omega (arith, ranges c.requires)
-
-pub overflow_sub-result : goal.overflow_sub-result
-overflow_sub-result c = omega (arith, ranges c.requires)
-
-pub overflow_shl-result : goal.overflow_shl-result
-overflow_shl-result c = omega (arith, ranges c.requires)
-
 pub overflow_add-result : goal.overflow_add-result
 overflow_add-result c = omega (arith, all-fits c)
-
-pub overflow_add-result-2 : goal.overflow_add-result-2
-overflow_add-result-2 c = omega (arith, all-fits c)
 
 pub returns : goal.returns
 returns c =

@@ -1,8 +1,7 @@
 use mathlib.Core.Path.{refl, sym, subst}
-use native.Mathlib.Omega.{arith}
 use lib.Dec.{T}
 use lib.Ieee.{binary32, fits}
-use Rattle.ieee_sqrt.proofs.Special.{negative_root, own_root, above_zero_number, some_bits, infinity_root, rooted_at, rooted_no_nan}
+use Rattle.ieee_sqrt.proofs.Special.{negative_root, own_root, some_bits, infinity_root, rooted_at, rooted_no_nan}
 use Rattle.ieee_sqrt.proofs.sqrt32.Goals as goal
 use Rattle.ieee_sqrt.proofs.sqrt32.Goals.{Start}
 
@@ -13,16 +12,9 @@ held c = subst T (sym c.well_formed.0.1) tt
 pub returns-then-x : goal.returns-then-x
 returns-then-x c = negative_root binary32 c.args.x (subst T (sym c.if-x.true) tt)
 
-pub float_to_bits-b : goal.float_to_bits-b
-float_to_bits-b c = above_zero_number binary32 c.args.x (subst T (sym c.if-x-2.true) tt)
-
 pub root_bits-requires : goal.root_bits-requires
 root_bits-requires c =
     record { format = binary32; keeps = refl; least = refl; above = some_bits binary32 c.args.x (held (goal.at.root_bits-requires c).Start) (subst T (sym c.if-x-2.true) tt); below = c.if-b-lt2139095040.true }
-
-pub overflow_cast-result : goal.overflow_cast-result
-overflow_cast-result c =
-    omega (arith, (rooted_at binary32 c.args.x c.root_bits.result (held (goal.at.overflow_cast-result c).Start) c.if-b-lt2139095040.true c.root_bits.ensures).0)
 
 pub float_from_bits-result : goal.float_from_bits-result
 float_from_bits-result c =

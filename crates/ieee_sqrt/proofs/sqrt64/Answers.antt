@@ -1,7 +1,7 @@
 use mathlib.Core.Path.{refl, sym, subst}
 use lib.Dec.{T}
 use lib.Ieee.{binary64, fits}
-use Rattle.ieee_sqrt.proofs.Special.{negative_root, own_root, above_zero_number, some_bits, infinity_root, rooted_at, rooted_no_nan}
+use Rattle.ieee_sqrt.proofs.Special.{negative_root, own_root, some_bits, infinity_root, rooted_at, rooted_no_nan}
 use Rattle.ieee_sqrt.proofs.sqrt64.Goals as goal
 use Rattle.ieee_sqrt.proofs.sqrt64.Goals.{Start}
 
@@ -11,9 +11,6 @@ held c = subst T (sym c.well_formed.0.1) tt
 
 pub returns-then-x : goal.returns-then-x
 returns-then-x c = negative_root binary64 c.args.x (subst T (sym c.if-x.true) tt)
-
-pub float_to_bits-b : goal.float_to_bits-b
-float_to_bits-b c = above_zero_number binary64 c.args.x (subst T (sym c.if-x-2.true) tt)
 
 pub root_bits-requires : goal.root_bits-requires
 root_bits-requires c =

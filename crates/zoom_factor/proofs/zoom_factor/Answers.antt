@@ -6,7 +6,7 @@ use lib.Dec.{T}
 use lib.Ieee.{Float, binary32, fits, le, neg, of_bits}
 use Rattle.zoom_factor.specs.Answer.{unit_sized}
 use Rattle.zoom_factor.proofs.Errors.{itself}
-use Rattle.zoom_factor.proofs.Exponent.{number, pattern_small, answer}
+use Rattle.zoom_factor.proofs.Exponent.{pattern_small, answer}
 use Rattle.zoom_factor.proofs.zoom_factor.Goals as goal
 use Rattle.zoom_factor.proofs.zoom_factor.Goals.{Start}
 
@@ -34,14 +34,8 @@ first a b p = subst (λ (x : Bool). T (not (x && b))) (sym p) tt
 second : (a b : Bool) → a ≡ true → b ≡ false → T (not (a && b))
 second a b p q = subst (λ (x : Bool). T (not (x && b))) (sym p) (subst (λ (x : Bool). T (not x)) (sym q) tt)
 
-pub float_to_bits-bits : goal.float_to_bits-bits
-float_to_bits-bits c = number c.args.exponent (is_true c.if-exponent-2.true)
-
 pub units-size-requires : goal.units-size-requires
 units-size-requires c = pattern_small c.args.exponent (held (goal.at.units-size-requires c).Start) (is_true (above c.args.exponent true c.if-exponent.true)) (is_true c.if-exponent-2.true)
-
-pub series-sum-requires : goal.series-sum-requires
-series-sum-requires c = c.units-size.ensures.small
 
 pub nearest-requires : goal.nearest-requires
 nearest-requires c = (c.series-sum.ensures c.units-size.result (2 ^ 30) c.units-size.ensures.small (omega arith) (itself c.units-size.result)).some

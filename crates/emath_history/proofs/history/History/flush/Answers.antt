@@ -1,10 +1,7 @@
-use Rattle.std.proofs.Common.{◌∙◌, refl, rules, arith}
+use Rattle.std.proofs.Common.{◌∙◌, rules, arith}
 use Rattle.emath.specs.History.{max_age}
 use Rattle.emath_history.proofs.Samples.{few, recent, dropped, flushed}
 use Rattle.emath_history.proofs.history.History.flush.Goals as goal
-
-pub loop-len-init : goal.loop-len-init
-loop-len-init c = record { in_ring = search rules; held = omega (arith, c.count-len.ensures); same = λ positions. refl }
 
 pub loop-len-preserved : goal.loop-len-preserved
 loop-len-preserved c =

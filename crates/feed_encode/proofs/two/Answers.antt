@@ -1,7 +1,0 @@
-use Rattle.feed_encode.specs.Words.{words_of}
-use mathlib.Core.Path.{refl}
-use Rattle.feed_encode.proofs.two.Goals as goal
-
-pub returns : goal.returns
-unfolding words_of
-returns c = refl
