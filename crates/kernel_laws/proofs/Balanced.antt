@@ -22,7 +22,7 @@ use Rattle.kernel_report.specs.declared.change.Change.TheVariants.{Still, Begun,
 use Rattle.kernel_report.specs.Report.{touch, same_place, moved, replaced, change, change_events, slot_events, report}
 use Rattle.kernel_read.specs.Read.{acts, events, KernelOutcome, refused, taken, all_records, kernel_of, is_taken}
 use Rattle.kernel_laws.specs.Calls.{Call, outcome, events_in, after_calls, calls_events}
-use Rattle.kernel_laws.specs.Slots.{SlotEvent, numbered, slots_report, slots_run, slots_call, slots_calls, OfSlot, in_phase, count, starts, ends, reported, held_in, held}
+use Rattle.kernel_laws.specs.Slots.{SlotEvent, numbered, slots_report, slots_run, slots_call, slots_calls, of_slot, in_phase, count, starts, ends, reported, held_in, held}
 use Rattle.kernel_laws.specs.Laws.{Balance}
 use Rattle.kernel_laws.proofs.Runs.{Steps, last, step, steps_of, taken_call}
 
@@ -85,54 +85,54 @@ unfolding count
 even_none a = refl
 
 -- ---- the events of one slot
-OfAppend : (i : ℕ) (es fs : List SlotEvent) → OfSlot i (es ++ fs) ≡ OfSlot i es ++ OfSlot i fs
-unfolding OfSlot
-OfAppend i [] fs = refl
-OfAppend i (e ∷ es) fs = ap (λ (l : List Event). cond (eqb e.slot i) (e.event ∷ l) l) (OfAppend i es fs) ∙ go (eqb e.slot i)
+of_append : (i : ℕ) (es fs : List SlotEvent) → of_slot i (es ++ fs) ≡ of_slot i es ++ of_slot i fs
+unfolding of_slot
+of_append i [] fs = refl
+of_append i (e ∷ es) fs = ap (λ (l : List Event). cond (eqb e.slot i) (e.event ∷ l) l) (of_append i es fs) ∙ go (eqb e.slot i)
   where
-    go : (b : Bool) → cond b (e.event ∷ (OfSlot i es ++ OfSlot i fs)) (OfSlot i es ++ OfSlot i fs) ≡ cond b (e.event ∷ OfSlot i es) (OfSlot i es) ++ OfSlot i fs
+    go : (b : Bool) → cond b (e.event ∷ (of_slot i es ++ of_slot i fs)) (of_slot i es ++ of_slot i fs) ≡ cond b (e.event ∷ of_slot i es) (of_slot i es) ++ of_slot i fs
     go true = refl
     go false = refl
 
-OfOwn : (i : ℕ) (es : List Event) → OfSlot i (numbered i es) ≡ es
-unfolding OfSlot numbered
-OfOwn i [] = refl
-OfOwn i (e ∷ es) = (λ j. cond (eq-eqb i i refl j) (e ∷ OfOwn i es j) (OfOwn i es j))
+of_own : (i : ℕ) (es : List Event) → of_slot i (numbered i es) ≡ es
+unfolding of_slot numbered
+of_own i [] = refl
+of_own i (e ∷ es) = (λ j. cond (eq-eqb i i refl j) (e ∷ of_own i es j) (of_own i es j))
 
-of_other : (i n : ℕ) (es : List Event) → (n ≡ i → ⊥) → OfSlot i (numbered n es) ≡ []
-unfolding OfSlot numbered
+of_other : (i n : ℕ) (es : List Event) → (n ≡ i → ⊥) → of_slot i (numbered n es) ≡ []
+unfolding of_slot numbered
 of_other i n [] h = refl
 of_other i n (e ∷ es) h = (λ j. cond (ne_eqb n i h j) (e ∷ of_other i n es h j) (of_other i n es h j))
 
-OfEarlier : (d i n : ℕ) (ss : List Slot) → i < n → OfSlot i (slots_report d n ss) ≡ []
+of_earlier : (d i n : ℕ) (ss : List Slot) → i < n → of_slot i (slots_report d n ss) ≡ []
 unfolding slots_report
-OfEarlier d i n [] h = unfold OfSlot in refl
-OfEarlier d i n (s ∷ ss) h =
-    OfAppend i (numbered n (slot_events d s)) (slots_report d (suc n) ss)
-    ∙ (λ j. of_other i n (slot_events d s) (λ e. omega arith) j ++ OfEarlier d i (suc n) ss (omega arith) j)
+of_earlier d i n [] h = unfold of_slot in refl
+of_earlier d i n (s ∷ ss) h =
+    of_append i (numbered n (slot_events d s)) (slots_report d (suc n) ss)
+    ∙ (λ j. of_other i n (slot_events d s) (λ e. omega arith) j ++ of_earlier d i (suc n) ss (omega arith) j)
 
 -- ---- a report
 abbrev acted_fingers : List Slot → List Finger
 acted_fingers ss = map (λ (s : Slot). s.acted) ss
 
 slot_report_even : (d n j : ℕ) (ss : List Slot) →
-    Even (held_in j (acted_fingers ss)) (held_in j (acted_fingers (map settle ss))) (OfSlot (n + j) (slots_report d n ss))
+    Even (held_in j (acted_fingers ss)) (held_in j (acted_fingers (map settle ss))) (of_slot (n + j) (slots_report d n ss))
 unfolding slots_report held_in settle
-slot_report_even d n j [] = unfold OfSlot in even_none 0
+slot_report_even d n j [] = unfold of_slot in even_none 0
 slot_report_even d n zero (s ∷ ss) =
     let here : n + 0 ≡ n = omega arith in
-    let all : OfSlot (n + 0) (numbered n (slot_events d s) ++ slots_report d (suc n) ss) ≡ slot_events d s =
-    ap (λ (i : ℕ). OfSlot i (numbered n (slot_events d s) ++ slots_report d (suc n) ss)) here
-    ∙ OfAppend n (numbered n (slot_events d s)) (slots_report d (suc n) ss)
-    ∙ (λ j. OfOwn n (slot_events d s) j ++ OfEarlier d n (suc n) ss (omega arith) j)
+    let all : of_slot (n + 0) (numbered n (slot_events d s) ++ slots_report d (suc n) ss) ≡ slot_events d s =
+    ap (λ (i : ℕ). of_slot i (numbered n (slot_events d s) ++ slots_report d (suc n) ss)) here
+    ∙ of_append n (numbered n (slot_events d s)) (slots_report d (suc n) ss)
+    ∙ (λ j. of_own n (slot_events d s) j ++ of_earlier d n (suc n) ss (omega arith) j)
     ∙ append-nil (slot_events d s) in
     subst (λ (es : List Event). Even (holds s.acted) (holds s.now) es) (sym all) (slot_even d s)
 slot_report_even d n (suc j) (s ∷ ss) =
     let there : suc n + j ≡ n + suc j = omega arith in
-    let all : OfSlot (suc n + j) (slots_report d (suc n) ss) ≡ OfSlot (n + suc j) (numbered n (slot_events d s) ++ slots_report d (suc n) ss) =
-    ap (λ (i : ℕ). OfSlot i (slots_report d (suc n) ss)) there
-    ∙ ap (λ (l : List Event). l ++ OfSlot (n + suc j) (slots_report d (suc n) ss)) (sym (of_other (n + suc j) n (slot_events d s) (λ e. omega arith)))
-    ∙ sym (OfAppend (n + suc j) (numbered n (slot_events d s)) (slots_report d (suc n) ss)) in
+    let all : of_slot (suc n + j) (slots_report d (suc n) ss) ≡ of_slot (n + suc j) (numbered n (slot_events d s) ++ slots_report d (suc n) ss) =
+    ap (λ (i : ℕ). of_slot i (slots_report d (suc n) ss)) there
+    ∙ ap (λ (l : List Event). l ++ of_slot (n + suc j) (slots_report d (suc n) ss)) (sym (of_other (n + suc j) n (slot_events d s) (λ e. omega arith)))
+    ∙ sym (of_append (n + suc j) (numbered n (slot_events d s)) (slots_report d (suc n) ss)) in
     subst (λ (es : List Event). Even (held_in j (acted_fingers ss)) (held_in j (acted_fingers (map settle ss))) es) all (slot_report_even d (suc n) j ss)
 
 report_even : (d : ℕ) (ss : List Slot) → Even (held (acted_fingers ss)) (held (acted_fingers (map settle ss))) (report d ss)
@@ -199,20 +199,20 @@ after_settles r k a = go k.skipping refl
 
 -- the events of a record, by slot and together
 record_even : (d i : ℕ) (r : KernelRecord) (k : KernelTouches) →
-    Even (held_in i (reported k)) (held_in i (reported (after r k))) (OfSlot i (cond (acts r k) (slots_report d 0 k.slots) []))
+    Even (held_in i (reported k)) (held_in i (reported (after r k))) (of_slot i (cond (acts r k) (slots_report d 0 k.slots) []))
 unfolding reported
 record_even d i r k = go (acts r k) refl
   where
-    go : (b : Bool) → acts r k ≡ b → Even (held_in i (acted_fingers k.slots)) (held_in i (acted_fingers (after r k).slots)) (OfSlot i (cond b (slots_report d 0 k.slots) []))
+    go : (b : Bool) → acts r k ≡ b → Even (held_in i (acted_fingers k.slots)) (held_in i (acted_fingers (after r k).slots)) (of_slot i (cond b (slots_report d 0 k.slots) []))
     go true a =
-        subst (λ (ss : List Slot). Even (held_in i (acted_fingers k.slots)) (held_in i (acted_fingers ss)) (OfSlot i (slots_report d 0 k.slots))) (sym (after_settles r k a))
-        (subst (λ (n : ℕ). Even (held_in i (acted_fingers k.slots)) (held_in i (acted_fingers (map settle k.slots))) (OfSlot n (slots_report d 0 k.slots))) here (slot_report_even d 0 i k.slots))
+        subst (λ (ss : List Slot). Even (held_in i (acted_fingers k.slots)) (held_in i (acted_fingers ss)) (of_slot i (slots_report d 0 k.slots))) (sym (after_settles r k a))
+        (subst (λ (n : ℕ). Even (held_in i (acted_fingers k.slots)) (held_in i (acted_fingers (map settle k.slots))) (of_slot n (slots_report d 0 k.slots))) here (slot_report_even d 0 i k.slots))
       where
         here : 0 + i ≡ i
         here = omega arith
     go false a =
-        subst (λ (fs : List Finger). Even (held_in i (acted_fingers k.slots)) (held_in i fs) (OfSlot i [])) (sym (after_kept r k a))
-        (unfold OfSlot in even_none (held_in i (acted_fingers k.slots)))
+        subst (λ (fs : List Finger). Even (held_in i (acted_fingers k.slots)) (held_in i fs) (of_slot i [])) (sym (after_kept r k a))
+        (unfold of_slot in even_none (held_in i (acted_fingers k.slots)))
 
 events_even : (d : ℕ) (r : KernelRecord) (k : KernelTouches) → Even (held (reported k)) (held (reported (after r k))) (events d r k)
 unfolding reported events
@@ -262,15 +262,15 @@ steps_together device room next all (r ∷ rs) k es (step v s) =
 
 -- ---- the records of a taken call
 steps_slot_even : (device room i : ℕ) (next : KernelTouches) (all : List Event) (rs : List KernelRecord) (k : KernelTouches) (es : List Event) →
-    Steps device room next all rs k es → Even (held_in i (reported k)) (held_in i (reported next)) (OfSlot i (slots_run device rs k))
+    Steps device room next all rs k es → Even (held_in i (reported k)) (held_in i (reported next)) (of_slot i (slots_run device rs k))
 unfolding slots_run
 steps_slot_even device room i next all _ k es (last e f) =
-    subst (λ (x : KernelTouches). Even (held_in i (reported k)) (held_in i (reported x)) (OfSlot i [])) e (unfold OfSlot in even_none (held_in i (reported k)))
+    subst (λ (x : KernelTouches). Even (held_in i (reported k)) (held_in i (reported x)) (of_slot i [])) e (unfold of_slot in even_none (held_in i (reported k)))
 steps_slot_even device room i next all (r ∷ rs) k es (step v s) =
     let here = cond (acts r k) (slots_report device 0 k.slots) [] in
     let later = slots_run device rs (after r k) in
-    subst (λ (l : List Event). Even (held_in i (reported k)) (held_in i (reported next)) l) (sym (OfAppend i here later))
-    (even_append (held_in i (reported k)) (held_in i (reported (after r k))) (held_in i (reported next)) (OfSlot i here) (OfSlot i later)
+    subst (λ (l : List Event). Even (held_in i (reported k)) (held_in i (reported next)) l) (sym (of_append i here later))
+    (even_append (held_in i (reported k)) (held_in i (reported (after r k))) (held_in i (reported next)) (of_slot i here) (of_slot i later)
     (record_even device i r k) (steps_slot_even device room i next all rs (after r k) (es ++ events device r k) s))
 
 steps_even : (device room before : ℕ) (next : KernelTouches) (all : List Event) (rs : List KernelRecord) (k : KernelTouches) (es : List Event) →
@@ -296,13 +296,13 @@ module _ (k : KernelTouches) (c : Call) where
       go (refused q) e = refl
       go (taken next es) e = steps_together c.device c.room next es (all_records c.bytes) k [] (taken_steps next es e)
 
-  call_slot_even : (i : ℕ) → Even (held_in i (reported k)) (held_in i (reported (kernel_of k (outcome k c)))) (OfSlot i (slots_call k c))
+  call_slot_even : (i : ℕ) → Even (held_in i (reported k)) (held_in i (reported (kernel_of k (outcome k c)))) (of_slot i (slots_call k c))
   unfolding slots_call is_taken kernel_of
   call_slot_even i = go (outcome k c) refl
     where
       go : (o : KernelOutcome) → outcome k c ≡ o →
-          Even (held_in i (reported k)) (held_in i (reported (kernel_of k o))) (OfSlot i (cond (is_taken o) (slots_run c.device (all_records c.bytes) k) []))
-      go (refused q) e = unfold OfSlot in even_none (held_in i (reported k))
+          Even (held_in i (reported k)) (held_in i (reported (kernel_of k o))) (of_slot i (cond (is_taken o) (slots_run c.device (all_records c.bytes) k) []))
+      go (refused q) e = unfold of_slot in even_none (held_in i (reported k))
       go (taken next es) e = steps_slot_even c.device c.room i next es (all_records c.bytes) k [] (taken_steps next es e)
 
   call_even : Even (held (reported k)) (held (reported (kernel_of k (outcome k c)))) (events_in (outcome k c))
@@ -322,13 +322,13 @@ calls_together k (c ∷ cs) =
     let next = kernel_of k (outcome k c) in
     map-append (λ (e : SlotEvent). e.event) (slots_call k c) (slots_calls next cs) ∙ (λ j. call_together k c j ++ calls_together next cs j)
 
-calls_slot_even : (k : KernelTouches) (cs : List Call) (i : ℕ) → Even (held_in i (reported k)) (held_in i (reported (after_calls k cs))) (OfSlot i (slots_calls k cs))
+calls_slot_even : (k : KernelTouches) (cs : List Call) (i : ℕ) → Even (held_in i (reported k)) (held_in i (reported (after_calls k cs))) (of_slot i (slots_calls k cs))
 unfolding slots_calls after_calls
-calls_slot_even k [] i = unfold OfSlot in even_none (held_in i (reported k))
+calls_slot_even k [] i = unfold of_slot in even_none (held_in i (reported k))
 calls_slot_even k (c ∷ cs) i =
     let next = kernel_of k (outcome k c) in
-    subst (λ (l : List Event). Even (held_in i (reported k)) (held_in i (reported (after_calls next cs))) l) (sym (OfAppend i (slots_call k c) (slots_calls next cs)))
-    (even_append (held_in i (reported k)) (held_in i (reported next)) (held_in i (reported (after_calls next cs))) (OfSlot i (slots_call k c)) (OfSlot i (slots_calls next cs))
+    subst (λ (l : List Event). Even (held_in i (reported k)) (held_in i (reported (after_calls next cs))) l) (sym (of_append i (slots_call k c) (slots_calls next cs)))
+    (even_append (held_in i (reported k)) (held_in i (reported next)) (held_in i (reported (after_calls next cs))) (of_slot i (slots_call k c)) (of_slot i (slots_calls next cs))
     (call_slot_even k c i) (calls_slot_even next cs i))
 
 calls_even : (k : KernelTouches) (cs : List Call) → Even (held (reported k)) (held (reported (after_calls k cs))) (calls_events k cs)

@@ -16,12 +16,11 @@ use Rattle.kernel_touch.specs.declared.slots.KernelTouches.{KernelTouches}
 use Rattle.kernel_touch.specs.declared.answer.KernelRefusal.{KernelRefusal}
 use Rattle.kernel_touch.specs.declared.answer.KernelRefusal.TheVariants.{FeedFull}
 use Rattle.kernel_touch.specs.declared.answer.Taken.{Taken}
-use Rattle.kernel_touch.specs.declared.answer.KernelRead.{KernelRead}
 use Rattle.std.specs.Prelude.{Result, Ok, Err, ⊤}
 use Rattle.kernel_touch.specs.Slots.{fresh}
 use Rattle.kernel_touch.specs.Step.{after, refusal, unless}
 use Rattle.kernel_report.proofs.Written.{encode_append}
-use Rattle.kernel_read.specs.Read.{acts, events, verdict, KernelOutcome, refused, taken, by, run, all_records, read, words_of, feed_of, answer_of, read_of}
+use Rattle.kernel_read.specs.Read.{KernelRead, acts, events, verdict, KernelOutcome, refused, taken, by, run, all_records, read, words_of, feed_of, answer_of, read_of}
 use Rattle.kernel_read.proofs.Run.{shifted}
 use Rattle.kernel_laws.specs.Calls.{Call, Called, none_yet, once, outcome, events_in, after_calls, joined, then_read}
 use Rattle.kernel_laws.specs.Slots.{InRange}

@@ -240,13 +240,13 @@ up_to (suc left) (i ∷ is) (x ∷ es) e h =
 pub says : (es : List Event) → AllOk es → Says es (encode_all es)
 unfolding feed_refusal
 says es h =
-    let good-items = encoded_items es h in
+    let good_items = encoded_items es h in
     record {
       in_domain = h;
-      each_good = good-items;
+      each_good = good_items;
       events = encoded_events es h;
-      only_4 = only_4 max_events (items (encode_all es)) es good-items;
-      up_to_64 = up_to max_events (items (encode_all es)) es good-items;
+      only_4 = only_4 max_events (items (encode_all es)) es good_items;
+      up_to_64 = up_to max_events (items (encode_all es)) es good_items;
     }
 
 pub decodes : Decodes

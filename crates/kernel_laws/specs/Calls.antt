@@ -3,8 +3,7 @@ use Rattle.std.specs.Prelude.{ℕ, ◌-◌, List, [], ◌∷◌, ◌++◌, lengt
 use Rattle.feed.specs.Types.{Event}
 use Rattle.feed.specs.Encode.{encode_all}
 use Rattle.kernel_touch.specs.declared.slots.KernelTouches.{KernelTouches}
-use Rattle.kernel_touch.specs.declared.answer.KernelRead.{KernelRead}
-use Rattle.kernel_read.specs.Read.{KernelOutcome, refused, taken, read, kernel_of, Reads}
+use Rattle.kernel_read.specs.Read.{KernelRead, KernelOutcome, refused, taken, read, kernel_of, Reads}
 
 pub record Call : Type 0 where
   pub device : ℕ

@@ -12,11 +12,10 @@ use Rattle.model.specs.Pass.{Panel, PassInput, own_refusal, pass}
 use Rattle.kernel_record.specs.Records.{record_bytes, held_dropped}
 use Rattle.kernel_touch.specs.declared.slots.KernelTouches.{KernelTouches}
 use Rattle.kernel_touch.specs.declared.answer.Taken.{Taken}
-use Rattle.kernel_touch.specs.declared.answer.KernelRead.{KernelRead}
 use Rattle.kernel_touch.specs.Slots.{fresh}
-use Rattle.kernel_read.specs.Read.{taken, all_records, read, kernel_of, Reads}
+use Rattle.kernel_read.specs.Read.{KernelRead, taken, all_records, read, kernel_of, Reads}
 use Rattle.kernel_laws.specs.Calls.{Call, Called, outcome, events_in, after_calls, calls_events, then_read}
-use Rattle.kernel_laws.specs.Slots.{InRange, SlotEvent, slots_calls, OfSlot, starts, ends, reported, held_in, held}
+use Rattle.kernel_laws.specs.Slots.{InRange, SlotEvent, slots_calls, of_slot, starts, ends, reported, held_in, held}
 
 -- ---- what follows of `after_calls` holds of the running code
 abbrev pub Running : Type 0
@@ -80,11 +79,11 @@ pub record Balance : Type 0 where
   pub together : (k : KernelTouches) (cs : List Call) → map (λ (e : SlotEvent). e.event) (slots_calls k cs) ≡ calls_events k cs
   -- each slot: Starts and the finger held before are Ends and the finger held after
   pub by_slot : (k : KernelTouches) (cs : List Call) (i : ℕ) →
-      starts (OfSlot i (slots_calls k cs)) + held_in i (reported k) ≡ ends (OfSlot i (slots_calls k cs)) + held_in i (reported (after_calls k cs))
+      starts (of_slot i (slots_calls k cs)) + held_in i (reported k) ≡ ends (of_slot i (slots_calls k cs)) + held_in i (reported (after_calls k cs))
   -- all slots
   pub in_all : (k : KernelTouches) (cs : List Call) →
       starts (calls_events k cs) + held (reported k) ≡ ends (calls_events k cs) + held (reported (after_calls k cs))
   -- from fresh slots on, none is held before
   pub from_fresh : (cs : List Call) → starts (calls_events fresh cs) ≡ ends (calls_events fresh cs) + held (reported (after_calls fresh cs))
   pub slot_from_fresh : (cs : List Call) (i : ℕ) →
-      starts (OfSlot i (slots_calls fresh cs)) ≡ ends (OfSlot i (slots_calls fresh cs)) + held_in i (reported (after_calls fresh cs))
+      starts (of_slot i (slots_calls fresh cs)) ≡ ends (of_slot i (slots_calls fresh cs)) + held_in i (reported (after_calls fresh cs))

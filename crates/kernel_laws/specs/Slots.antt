@@ -46,9 +46,9 @@ slots_calls k [] = []
 slots_calls k (c ∷ cs) = slots_call k c ++ slots_calls (kernel_of k (outcome k c)) cs
 
 -- the events of one slot
-unfoldable pub OfSlot : ℕ → List SlotEvent → List Event
-OfSlot i [] = []
-OfSlot i (e ∷ es) = cond (eqb e.slot i) (e.event ∷ OfSlot i es) (OfSlot i es)
+unfoldable pub of_slot : ℕ → List SlotEvent → List Event
+of_slot i [] = []
+of_slot i (e ∷ es) = cond (eqb e.slot i) (e.event ∷ of_slot i es) (of_slot i es)
 
 -- ---- Starts and Ends
 unfoldable pub in_phase : TouchPhase → Event → Bool

@@ -11,7 +11,6 @@ use Rattle.kernel_record.specs.Records.{record_bytes, held_dropped}
 use Rattle.kernel_touch.specs.declared.slots.KernelTouches.{KernelTouches}
 use Rattle.kernel_touch.specs.declared.answer.KernelRefusal.{KernelRefusal}
 use Rattle.kernel_touch.specs.declared.answer.KernelRefusal.TheVariants.{Length}
-use Rattle.kernel_read.specs.declared.Filled.{Filled}
 use Rattle.kernel_read.specs.Read.{KernelOutcome, refused, taken, run, all_records, read, kernel_of, words_of, feed_of, answer_of, read_of, is_taken, row_of, outcome_row, Reads}
 use Rattle.kernel_read.specs.Steps.{looked, Fills}
 
@@ -60,13 +59,13 @@ module _ (k : KernelTouches) (device : ℕ) (bytes feed : List ℕ) where
   pub will_fit : (d : Bool) (l : Result Bool KernelRefusal) → l ≡ looked (held_dropped (all_records bytes)) outcome → l ≡ Ok d → is_taken outcome ≡ true
   will_fit d l e f = (looked_fits (held_dropped (all_records bytes)) outcome d (sym e ∙ f)).0
 
-  pub taken_reads : (d : Bool) (l : Result Bool KernelRefusal) (r : Filled) (feed' : List ℕ) → length bytes % record_bytes ≡ 0 → l ≡ looked (held_dropped (all_records bytes)) outcome → l ≡ Ok d →
-      Fills k outcome feed r feed' → Reads k device bytes feed (record { kernel = r.kernel; answer = Ok (record { words = r.words; dropped = d }) }) feed'
+  pub taken_reads : (d : Bool) (l : Result Bool KernelRefusal) (next : KernelTouches) (words : ℕ) (feed' : List ℕ) → length bytes % record_bytes ≡ 0 → l ≡ looked (held_dropped (all_records bytes)) outcome → l ≡ Ok d →
+      Fills k outcome feed next words feed' → Reads k device bytes feed (record { kernel = next; answer = Ok (record { words = words; dropped = d }) }) feed'
   unfolding read_of
-  taken_reads d l r feed' h e f s =
+  taken_reads d l next words feed' h e f s =
       let held = held_dropped (all_records bytes) in
       let fits = looked_fits held outcome d (sym e ∙ f) in
-      let answers : Ok (record { words = r.words; dropped = d }) ≡ answer_of held outcome = (λ j. Ok (record { words = s.words j; dropped = fits.1 j })) ∙ sym (taken_answer held outcome fits.0) in
+      let answers : Ok (record { words = words; dropped = d }) ≡ answer_of held outcome = (λ j. Ok (record { words = s.words j; dropped = fits.1 j })) ∙ sym (taken_answer held outcome fits.0) in
       record {
         result = (λ j. record { kernel = s.kernel j; answer = answers j }) ∙ sym (ap (read_of k held) (read_run h));
         row = ap row_of answers ∙ answer_row held outcome ∙ sym (ap outcome_row (read_run h));

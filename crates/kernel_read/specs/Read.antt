@@ -9,7 +9,6 @@ use Rattle.kernel_touch.specs.declared.slots.KernelTouches.{KernelTouches}
 use Rattle.kernel_touch.specs.declared.answer.KernelRefusal.{KernelRefusal}
 use Rattle.kernel_touch.specs.declared.answer.KernelRefusal.TheVariants.{Length, SlotOutside, OutsideDomain, FeedFull}
 use Rattle.kernel_touch.specs.declared.answer.Taken.{Taken}
-use Rattle.kernel_touch.specs.declared.answer.KernelRead.{KernelRead}
 use Rattle.kernel_touch.specs.Step.{after, refusal, unless}
 use Rattle.kernel_report.specs.Report.{report}
 
@@ -55,6 +54,12 @@ unfoldable pub read : KernelTouches → ℕ → List ℕ → ℕ → KernelOutco
 read k device bytes room = cond (eqb (length bytes % record_bytes) 0) (run device room (all_records bytes) k []) (refused Length)
 
 -- ---- what the caller sees of it: refused, "all left as before"
+
+-- the slots after a call, and its answer
+pub record KernelRead : Type 0 where
+  pub kernel : KernelTouches
+  pub answer : Result Taken KernelRefusal
+
 unfoldable pub kernel_of : KernelTouches → KernelOutcome → KernelTouches
 kernel_of k (refused q) = k
 kernel_of k (taken next es) = next

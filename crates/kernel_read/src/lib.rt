@@ -12,15 +12,8 @@ ghost use Rattle.kernel_read.specs.Steps.{looked, Fills};
 
 use kernel_record::{KernelRecord, RECORD_BYTES, record_at};
 use kernel_report::report::{report_words, write_report};
-use kernel_touch::answer::{KernelRead, KernelRefusal, Taken};
+use kernel_touch::answer::{KernelRefusal, Taken};
 use kernel_touch::slots::KernelTouches;
-
-// The slots after a call, and the number of words written.
-#[derive(Clone, Copy, Debug, PartialEq, Eq)]
-pub struct Filled {
-    pub kernel: KernelTouches,
-    pub words: usize,
-}
 
 // Whether a record is a report end that is acted on.
 #[tactic(auto, unfolding(crate::specs::Read::acts))]
@@ -97,47 +90,35 @@ fn write_record(
     }
 }
 
-// The records again, each report's words written.
-fn fill(k: KernelTouches, device: u64, bytes: &[u8], feed: &mut [u32]) -> Filled
-    requires { is_taken (run device (length feed.old) (all_records bytes.now) k []) ≡ true }
-    ensures { Fills k
-        (run device (length feed.old) (all_records bytes.now) k [])
-        feed.old result feed.new }
+// The records again, each report's words written: the slots after them, and how many words.
+fn fill(k: &mut KernelTouches, device: u64, bytes: &[u8], feed: &mut [u32]) -> usize
+    requires { is_taken (run device (length feed.old) (all_records bytes.now) k.old []) ≡ true }
+    ensures { Fills k.old
+        (run device (length feed.old) (all_records bytes.now) k.old [])
+        feed.old k.new result feed.new }
 {
-    let mut kernel = k;
     let mut at = 0;
     for record in bytes.chunks_exact(RECORD_BYTES) {
         let r = record_at(record, 0);
-        at = write_record(r, kernel, device, feed, at);
-        kernel = kernel.after(r);
+        at = write_record(r, *k, device, feed, at);
+        *k = k.after(r);
     }
-    Filled { kernel, words: at }
+    at
 }
 
-// The bytes of a call become events of `device` in the feed buffer.
-pub fn read_records(k: KernelTouches, device: u64, bytes: &[u8], feed: &mut [u32]) -> KernelRead
-    ensures { Reads k device bytes.now feed.old result feed.new }
+// The bytes of a call become events of `device` in the feed buffer. Refused, the slots `k` and the buffer are as before.
+pub fn read_records(
+    k: &mut KernelTouches,
+    device: u64,
+    bytes: &[u8],
+    feed: &mut [u32],
+) -> Result<Taken, KernelRefusal>
+    ensures { Reads k.old device bytes.now feed.old (record { kernel = k.new; answer = result }) feed.new }
 {
     if bytes.len() % RECORD_BYTES != 0 {
-        return KernelRead {
-            kernel: k,
-            answer: Err(KernelRefusal::Length),
-        };
+        return Err(KernelRefusal::Length);
     }
-    match look(k, bytes, feed.len()) {
-        Err(q) => KernelRead {
-            kernel: k,
-            answer: Err(q),
-        },
-        Ok(dropped) => {
-            let f = fill(k, device, bytes, feed);
-            KernelRead {
-                kernel: f.kernel,
-                answer: Ok(Taken {
-                    words: f.words,
-                    dropped,
-                }),
-            }
-        }
-    }
+    let dropped = look(*k, bytes, feed.len())?;
+    let words = fill(k, device, bytes, feed);
+    Ok(Taken { words, dropped })
 }

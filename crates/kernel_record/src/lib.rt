@@ -3,7 +3,7 @@
 
 ghost use Rattle.std.specs.Prelude.{◌≡◌, ◌+◌, ◌≤◌, length};
 ghost use Rattle.kernel_values.specs.Value.{signed};
-ghost use Rattle.kernel_record.specs.Records.{half, word, report_record, touch_record, record_of, record_at, record_bytes, is_end, is_dropped};
+ghost use Rattle.kernel_record.specs.Records.{half, word, record_of, record_at, record_bytes, is_end, is_dropped};
 
 // 16 bytes of time, type, code and value
 pub const RECORD_BYTES: usize = 24;
@@ -69,37 +69,18 @@ fn value(bytes: &[u8], at: usize) -> i32
     i32::from_le_bytes([bytes[at], bytes[at + 1], bytes[at + 2], bytes[at + 3]])
 }
 
-#[tactic(auto, unfolding(crate::specs::Records::report_record))]
-fn report_record(code: u16) -> KernelRecord
-    ensures { result ≡ report_record code }
-{
-    match code {
-        SYN_REPORT => KernelRecord::ReportEnd,
-        SYN_DROPPED => KernelRecord::Dropped,
-        _ => KernelRecord::Other,
-    }
-}
-
-#[tactic(auto, unfolding(crate::specs::Records::touch_record))]
-fn touch_record(code: u16, value: i32) -> KernelRecord
-    ensures { result ≡ touch_record code value }
-{
-    match code {
-        ABS_MT_SLOT => KernelRecord::MtSlot(value),
-        ABS_MT_POSITION_X => KernelRecord::MtPositionX(value),
-        ABS_MT_POSITION_Y => KernelRecord::MtPositionY(value),
-        ABS_MT_TRACKING_ID => KernelRecord::MtTrackingId(value),
-        _ => KernelRecord::Other,
-    }
-}
-
-#[tactic(auto, unfolding(crate::specs::Records::record_of))]
+// Kept (plain): no From: it would take the three values as one tuple.
+#[tactic(auto, unfolding(crate::specs::Records::record_of, crate::specs::Records::report_record, crate::specs::Records::touch_record))]
 fn record_of(kind: u16, code: u16, value: i32) -> KernelRecord
     ensures { result ≡ record_of kind code value }
 {
-    match kind {
-        EV_SYN => report_record(code),
-        EV_ABS => touch_record(code, value),
+    match (kind, code) {
+        (EV_SYN, SYN_REPORT) => KernelRecord::ReportEnd,
+        (EV_SYN, SYN_DROPPED) => KernelRecord::Dropped,
+        (EV_ABS, ABS_MT_SLOT) => KernelRecord::MtSlot(value),
+        (EV_ABS, ABS_MT_POSITION_X) => KernelRecord::MtPositionX(value),
+        (EV_ABS, ABS_MT_POSITION_Y) => KernelRecord::MtPositionY(value),
+        (EV_ABS, ABS_MT_TRACKING_ID) => KernelRecord::MtTrackingId(value),
         _ => KernelRecord::Other,
     }
 }

@@ -1,6 +1,6 @@
 // How a slot changed since the last report end acted on.
 ghost use Rattle.std.specs.Prelude.{◌≡◌};
-ghost use Rattle.kernel_report.specs.Report.{same_place, moved, replaced, change};
+ghost use Rattle.kernel_report.specs.Report.{moved, replaced, change};
 
 use kernel_touch::slots::{Finger, Slot};
 use kernel_values::is_finger;
@@ -15,19 +15,13 @@ pub enum Change {
     Replaced,
 }
 
-#[tactic(auto, unfolding(crate::specs::Report::same_place, kernel_values::specs::Value::same_number))]
-fn same_place(a: Finger, b: Finger) -> bool
-    ensures { result ≡ same_place a b }
-{
-    a.x == b.x && a.y == b.y
-}
-
 // The same id, then and now.
-#[tactic(auto, unfolding(crate::specs::Report::moved))]
+#[tactic(auto, unfolding(crate::specs::Report::moved, crate::specs::Report::same_place, kernel_values::specs::Value::same_number))]
 fn moved(then: Finger, now: Finger) -> Change
     ensures { result ≡ moved then now }
 {
-    if is_finger(now.id) && !same_place(then, now) {
+    let stays = then.x == now.x && then.y == now.y;
+    if is_finger(now.id) && !stays {
         Change::Moved
     } else {
         Change::Still
@@ -47,6 +41,7 @@ fn replaced(then: i32, now: i32) -> Change
     }
 }
 
+// Kept (plain): no From: how a slot changed is one of its properties, and no other form of it.
 #[tactic(auto, unfolding(crate::specs::Report::change, kernel_values::specs::Value::same_number))]
 pub fn change_of(s: Slot) -> Change
     ensures { result ≡ change s }

@@ -4,7 +4,8 @@ ghost use Rattle.kernel_touch.specs.Slots.{fresh, chosen_finger, put_finger, wit
 
 use kernel_values::MAX_SLOTS;
 
-// A tracking id, the kernel's -1 for no finger, and the last position. `repr(C)` here and below, and no Option: a host keeps the slots from call to call, and C reads them.
+// A tracking id, the kernel's -1 for no finger, and the last position.
+// Kept (C): `repr(C)` here and below, and no Option: a host keeps the slots from call to call, and C reads them.
 #[repr(C)]
 #[derive(Clone, Copy, Debug, PartialEq, Eq)]
 pub struct Finger {
@@ -62,7 +63,7 @@ impl KernelTouches {
     fn put_finger(mut self, finger: Finger) -> KernelTouches
         ensures { result ≡ put_finger finger self }
     {
-        // No `get_mut`: its contract says nothing of the slots afterwards, and the proof does not close.
+        // Kept (proof): no `get_mut`: its contract says nothing of the slots afterwards, and the proof does not close.
         let chosen = self.chosen;
         if chosen < MAX_SLOTS {
             self.slots[chosen].now = finger;
@@ -70,6 +71,7 @@ impl KernelTouches {
         self
     }
 
+    // Kept (plain): each of three writes another field; what they share are the two methods above.
     #[tactic(auto, unfolding(crate::specs::Slots::with_x))]
     pub fn set_x(self, x: i32) -> KernelTouches
         ensures { result ≡ with_x x self }
@@ -80,6 +82,7 @@ impl KernelTouches {
         })
     }
 
+    // Kept (plain): see `set_x`.
     #[tactic(auto, unfolding(crate::specs::Slots::with_y))]
     pub fn set_y(self, y: i32) -> KernelTouches
         ensures { result ≡ with_y y self }
@@ -90,6 +93,7 @@ impl KernelTouches {
         })
     }
 
+    // Kept (plain): see `set_x`.
     #[tactic(auto, unfolding(crate::specs::Slots::with_id))]
     pub fn set_id(self, id: i32) -> KernelTouches
         ensures { result ≡ with_id id self }

@@ -1,29 +1,22 @@
 // One record: what it refuses, and what it does.
 ghost use Rattle.std.specs.Prelude.{◌≡◌};
-ghost use Rattle.kernel_touch.specs.Step.{bad, done, skipped, after, refusal, unless};
+ghost use Rattle.kernel_touch.specs.Step.{bad, done, skipped, after, refusal};
 
 use crate::answer::KernelRefusal;
 use crate::slots::KernelTouches;
 use kernel_record::KernelRecord;
 use kernel_values::{position_ok, slot_ok, tracking_id_ok};
 
-#[tactic(auto, unfolding(crate::specs::Step::unless))]
-fn unless(ok: bool, q: KernelRefusal) -> Result<(), KernelRefusal>
-    ensures { result ≡ unless ok q }
-{
-    if ok { Ok(()) } else { Err(q) }
-}
-
-#[tactic(auto, unfolding(crate::specs::Step::bad))]
+#[tactic(auto, unfolding(crate::specs::Step::bad, crate::specs::Step::unless))]
 fn bad(r: KernelRecord) -> Result<(), KernelRefusal>
     ensures { result ≡ bad r }
 {
     match r {
-        KernelRecord::MtSlot(v) => unless(slot_ok(v), KernelRefusal::SlotOutside),
-        KernelRecord::MtPositionX(v) => unless(position_ok(v), KernelRefusal::OutsideDomain),
-        KernelRecord::MtPositionY(v) => unless(position_ok(v), KernelRefusal::OutsideDomain),
-        KernelRecord::MtTrackingId(v) => unless(tracking_id_ok(v), KernelRefusal::OutsideDomain),
-        KernelRecord::ReportEnd | KernelRecord::Dropped | KernelRecord::Other => Ok(()),
+        KernelRecord::MtSlot(v) if !slot_ok(v) => Err(KernelRefusal::SlotOutside),
+        KernelRecord::MtPositionX(v) if !position_ok(v) => Err(KernelRefusal::OutsideDomain),
+        KernelRecord::MtPositionY(v) if !position_ok(v) => Err(KernelRefusal::OutsideDomain),
+        KernelRecord::MtTrackingId(v) if !tracking_id_ok(v) => Err(KernelRefusal::OutsideDomain),
+        _ => Ok(()),
     }
 }
 

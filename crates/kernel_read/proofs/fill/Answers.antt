@@ -19,14 +19,14 @@ loop-record-init c =
     record {
       size = search rules;
       places = refl;
-      fillings = subst (λ (ahead : List ℕ). Fillings c.args.device 0 bytes ahead feed feed c.args.k c.args.k) (sym all) (fill_first c.args.device bytes feed c.args.k);
+      fillings = subst (λ (ahead : List ℕ). Fillings c.args.device 0 bytes ahead feed feed c.args.k.now c.args.k.now) (sym all) (fill_first c.args.device bytes feed c.args.k.now);
     }
 
 pub write_record-at-requires : goal.write_record-at-requires
 write_record-at-requires c =
     let now = c.loop-record in
     let steps = c.in-Some.ensures.steps in
-    let go = going c.args.device now.at c.args.bytes.now _ _ _ c.args.feed.now now.feed c.args.k now.kernel c.record_at-r.result steps.1.0 (steps.1.1 ∙ now.invariant.size) c.record_at-r.ensures c.requires now.invariant.fillings in
+    let go = going c.args.device now.at c.args.bytes.now _ _ _ c.args.feed.now now.feed c.args.k.now now.k c.record_at-r.result steps.1.0 (steps.1.1 ∙ now.invariant.size) c.record_at-r.ensures c.requires now.invariant.fillings in
     omega (arith, go.room, now.invariant.places)
 
 pub loop-record-preserved : goal.loop-record-preserved
@@ -37,8 +37,8 @@ loop-record-preserved c =
       size = steps.0 ∙ now.invariant.size;
       places = ap length c.write_record-at.ensures.1 ∙ length_put _ _ now.feed ∙ now.invariant.places;
       fillings =
-          rw c.after-kernel.ensures
-          (fill_next c.args.device now.at c.args.bytes.now _ _ _ c.args.feed.now now.feed c.args.k now.kernel c.record_at-r.result _ _
+          rw c.after.ensures
+          (fill_next c.args.device now.at c.args.bytes.now _ _ _ c.args.feed.now now.feed c.args.k.now now.k c.record_at-r.result _ _
           steps.1.0
           (steps.1.1 ∙ now.invariant.size)
           c.record_at-r.ensures
@@ -54,9 +54,9 @@ returns c =
     let now = c.loop-record in
     let s = now.invariant.fillings in
     let short : length (chunks_exact_rest now.record-iterator) < record_bytes = omega (arith, c.in-None.ensures.steps.1.0, now.invariant.size) in
-    let is = fill_last c.args.device now.at c.args.bytes.now _ c.args.feed.now now.feed c.args.k now.kernel short s in
+    let is = fill_last c.args.device now.at c.args.bytes.now _ c.args.feed.now now.feed c.args.k.now now.k short s in
     record {
-      kernel = sym (ap (kernel_of c.args.k) is);
+      kernel = sym (ap (kernel_of c.args.k.now) is);
       words = s.at_is ∙ sym (ap (λ (o : KernelOutcome). length (words_of o)) is);
-      feed_is = filled_feed c.args.device now.at c.args.bytes.now _ c.args.feed.now now.feed c.args.k now.kernel s ∙ sym (ap (feed_of c.args.feed.now) is);
+      feed_is = filled_feed c.args.device now.at c.args.bytes.now _ c.args.feed.now now.feed c.args.k.now now.k s ∙ sym (ap (feed_of c.args.feed.now) is);
     }

@@ -9,5 +9,5 @@ abbrev pub invariant-loop-record : goal.invariant-loop-record
 invariant-loop-record l = record {
   size : chunks_exact_size l.record-iterator ≡ record_bytes;
   places : length l.feed ≡ length l.initial.feed;
-  fillings : Fillings l.device l.at l.bytes (chunks_exact_rest l.record-iterator) l.initial.feed l.feed l.initial.kernel l.kernel;
+  fillings : Fillings l.device l.at l.bytes (chunks_exact_rest l.record-iterator) l.initial.feed l.feed l.initial.k l.k;
 }
