@@ -16,6 +16,7 @@ pub struct Output {
 }
 
 impl Output {
+    // Kept (plain): bytes here, words in an answer: the two have a length of 0 in common.
     pub fn new() -> Output
         ensures { result.len ≡ 0 }
     {

@@ -1,3 +1,5 @@
+pub mod Calls
 pub mod Words
 pub mod Request
 pub mod Reply
+pub mod Touching

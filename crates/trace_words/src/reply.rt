@@ -6,7 +6,7 @@ ghost use Rattle.trace_words.specs.Reply.{Answers};
 use crate::words::Answer;
 use data::refusal::{InsertRefusal, InteractRefusal, PassRefusal};
 
-// Two numbers, as they are written: 0 is taken. No Result: either way both stand in an answer's first word.
+// Kept (plain): two numbers, as they are written: 0 is taken. No Result: either way both stand in an answer's first word.
 #[derive(Clone, Copy)]
 pub struct Reply {
     pub code: u32,
@@ -94,6 +94,7 @@ pub fn taken(words: usize) -> Reply
     Reply { code: 0, words }
 }
 
+// Kept (plain): the number as it is written: the refusals come from the enums of several crates, and 255 is none of theirs.
 pub fn refused(number: u32) -> Reply
     ensures { (result.code ≡ number) × (result.words ≡ 0) }
 {
@@ -104,6 +105,7 @@ pub fn refused(number: u32) -> Reply
 }
 
 // The answer is the index alone.
+// Kept (plain): see `refused`.
 pub fn refused_at(a: &mut Answer, number: u32, index: usize) -> Reply
     ensures { Answers (record { number = number; index = Some index }) a.old.words result a.new.words }
 {

@@ -1,6 +1,7 @@
 // An answer's words, one after the other. None has more than there is room for.
 ghost use Rattle.std.specs.Prelude.{◌≡◌, ◌≤◌, ◌%◌, take};
 
+use crate::said::Said;
 use data::bits::bit_number;
 use data::modifiers::Modifiers;
 use data::widget::WidgetRect;
@@ -18,16 +19,12 @@ pub struct Answer {
     ghost fits: { len ≤ 65536 },
 }
 
-// A value that is so many words of an answer, whatever it is.
-pub trait Said {
-    const WORDS: usize;
-
-    fn say(self, a: &mut Answer);
-}
-
 impl Answer {
-    ghost use Rattle.trace_words.specs.Words.{Written};
+    ghost use Rattle.data.specs.Bits.{bit_number};
+    ghost use Rattle.data.specs.Modifiers.{modifiers_number};
+    ghost use Rattle.trace_words.specs.Words.{Written, held, put_word, Says, zero_words, id_words, float_words, seconds_words, pos_words, vec_words, rect_words, widget_words, maybe_words, maybe_id_words, bits_number};
 
+    // Kept (plain): words here, bytes in the output: the two have a length of 0 in common.
     pub fn new() -> Answer
         ensures { result.len ≡ 0 }
     {
@@ -56,8 +53,10 @@ impl Answer {
         &self.words[..self.len]
     }
 
+    #[tactic(auto, unfolding(crate::specs::Words::put_word))]
     pub fn word(&mut self, w: u32)
-        ensures { Written w self.old self.new }
+        ensures written { Written w self.old self.new }
+        ensures put { held self.new ≡ put_word w (held self.old) }
     {
         if self.len < ROOM {
             self.words[self.len] = w;
@@ -65,72 +64,109 @@ impl Answer {
         }
     }
 
-    pub fn all(&mut self, words: &[u32]) {
+    #[tactic(auto, unfolding(crate::specs::Words::put_words))]
+    pub fn all(&mut self, words: &[u32])
+        ensures { Says words.now self.old self.new }
+    {
         for w in words {
             self.word(*w);
         }
     }
 
-    pub fn zeros(&mut self, k: usize) {
+    #[tactic(auto, unfolding(crate::specs::Words::put_words, crate::specs::Words::zero_words))]
+    pub fn zeros(&mut self, k: usize)
+        ensures { Says (zero_words k) self.old self.new }
+    {
         for _ in 0..k {
             self.word(0);
         }
     }
 
     // Low word, high word.
-    pub fn id(&mut self, d: u64) {
+    #[tactic(auto, unfolding(crate::specs::Words::put_words))]
+    pub fn id(&mut self, d: u64)
+        ensures { Says (id_words d) self.old self.new }
+    {
         self.word((d % 0x1_0000_0000) as u32);
         self.word((d / 0x1_0000_0000) as u32);
     }
 
     pub fn count(&mut self, c: usize)
-        ensures { Written (c % 0x1_0000_0000) self.old self.new }
+        ensures written { Written (c % 0x1_0000_0000) self.old self.new }
+        ensures put { held self.new ≡ put_word (c % 0x1_0000_0000) (held self.old) }
     {
         self.word((c % 0x1_0000_0000) as u32);
     }
 
-    pub fn flag(&mut self, b: bool) {
+    pub fn flag(&mut self, b: bool)
+        ensures { held self.new ≡ put_word (bit_number b) (held self.old) }
+    {
         self.word(bit_number(b));
     }
 
     // The first in bit 0, at most 32.
-    pub fn bits(&mut self, flags: &[bool]) {
+    pub fn bits(&mut self, flags: &[bool])
+        ensures { held self.new ≡ put_word (bits_number flags.now % 0x1_0000_0000) (held self.old) }
+    {
         let mut w: u32 = 0;
         for b in flags.iter().rev() {
-            w = w << 1 | bit_number(*b);
+            w = w % 0x8000_0000 * 2 + bit_number(*b);
         }
         self.word(w);
     }
 
-    pub fn float(&mut self, x: f32) {
+    #[tactic(auto, unfolding(crate::specs::Words::put_words))]
+    pub fn float(&mut self, x: f32)
+        ensures { Says (float_words x) self.old self.new }
+    {
         self.word(ieee::bits::to_bits32(x));
     }
 
-    pub fn seconds(&mut self, t: f64) {
+    #[tactic(auto, unfolding(crate::specs::Words::put_words))]
+    pub fn seconds(&mut self, t: f64)
+        ensures { Says (seconds_words t) self.old self.new }
+    {
         self.id(ieee::bits::to_bits64(t));
     }
 
-    pub fn pos(&mut self, p: Pos2) {
+    // Kept (plain): here and in the two below: each takes the fields of another type, two each.
+    #[tactic(auto, unfolding(crate::specs::Words::put_words))]
+    pub fn pos(&mut self, p: Pos2)
+        ensures { Says (pos_words p) self.old self.new }
+    {
         self.float(p.x);
         self.float(p.y);
     }
 
-    pub fn vec(&mut self, v: Vec2) {
+    // Kept (plain): see `pos`.
+    #[tactic(auto, unfolding(crate::specs::Words::put_words))]
+    pub fn vec(&mut self, v: Vec2)
+        ensures { Says (vec_words v) self.old self.new }
+    {
         self.float(v.x);
         self.float(v.y);
     }
 
-    pub fn rect(&mut self, r: Rect) {
+    // Kept (plain): see `pos`.
+    #[tactic(auto, unfolding(crate::specs::Words::put_words))]
+    pub fn rect(&mut self, r: Rect)
+        ensures { Says (rect_words r) self.old self.new }
+    {
         self.pos(r.min);
         self.pos(r.max);
     }
 
-    pub fn flags(&mut self, m: Modifiers) {
+    pub fn flags(&mut self, m: Modifiers)
+        ensures { held self.new ≡ put_word (modifiers_number m) (held self.old) }
+    {
         self.word(m.number());
     }
 
     // `WIDGET_WORDS` words.
-    pub fn widget(&mut self, w: WidgetRect) {
+    #[tactic(auto, unfolding(crate::specs::Words::put_words))]
+    pub fn widget(&mut self, w: WidgetRect)
+        ensures { Says (widget_words w) self.old self.new }
+    {
         self.id(w.id);
         self.id(w.parent_id);
         self.word(w.layer_id.order);
@@ -142,12 +178,18 @@ impl Answer {
     }
 
     // None is 0.
-    pub fn maybe_id(&mut self, d: Option<u64>) {
+    #[tactic(auto, unfolding(crate::specs::Words::put_words))]
+    pub fn maybe_id(&mut self, d: Option<u64>)
+        ensures { Says (maybe_id_words d) self.old self.new }
+    {
         self.id(d.unwrap_or(0));
     }
 
     // 1 and the value, or zeros.
-    pub fn maybe<T: Said>(&mut self, x: Option<T>) {
+    #[tactic(auto, unfolding(crate::specs::Words::put_words))]
+    pub fn maybe<T: Said>(&mut self, x: Option<T>)
+        ensures { Says (maybe_words T.said T.WORDS x) self.old self.new }
+    {
         match x {
             None => {
                 self.word(0);
@@ -158,38 +200,5 @@ impl Answer {
                 y.say(self);
             }
         }
-    }
-}
-
-impl Said for f32 {
-    const WORDS: usize = 1;
-
-    fn say(self, a: &mut Answer) {
-        a.float(self);
-    }
-}
-
-// Seconds.
-impl Said for f64 {
-    const WORDS: usize = 2;
-
-    fn say(self, a: &mut Answer) {
-        a.seconds(self);
-    }
-}
-
-impl Said for Pos2 {
-    const WORDS: usize = 2;
-
-    fn say(self, a: &mut Answer) {
-        a.pos(self);
-    }
-}
-
-impl Said for Vec2 {
-    const WORDS: usize = 2;
-
-    fn say(self, a: &mut Answer) {
-        a.vec(self);
     }
 }
