@@ -12,6 +12,7 @@ use emath::pos2::Pos2;
 use emath::vec2::Vec2;
 use touches::Touches;
 
+// Kept (plain): the definition has this name, and the sum's law cites the clause at each touch.
 #[tactic(auto, unfolding(model::specs::Touch::force_or_zero))]
 fn force_or_zero(force: Option<f32>) -> f32
     ensures { result ≡ force_or_zero force }
@@ -37,11 +38,9 @@ fn sum(ts: Touches) -> Sums
     ensures { result ≡ sums_of (list ts) }
 {
     let n = touches::len(ts);
-    let a = ts.places;
     let mut force: f32 = 0.0;
     let mut pos = Pos2::zero();
-    for i in 0..n {
-        let t = a[i];
+    for t in &ts.places[..n] {
         force = force + force_or_zero(t.force);
         pos = Pos2 {
             x: pos.x + t.pos.x,
@@ -55,13 +54,11 @@ fn spread(ts: Touches, center: Pos2) -> Spreads
     ensures { result ≡ spreads_of center (list ts) }
 {
     let n = touches::len(ts);
-    let a = ts.places;
     let mut distance: f32 = 0.0;
     let mut abs_distance2 = Vec2::zero();
-    for i in 0..n {
-        let p = a[i].pos;
-        distance = distance + center.distance(p);
-        let away = (center - p).abs();
+    for t in &ts.places[..n] {
+        distance = distance + center.distance(t.pos);
+        let away = (center - t.pos).abs();
         abs_distance2 = abs_distance2 + away;
     }
     Spreads {

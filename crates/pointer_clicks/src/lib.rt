@@ -1,7 +1,7 @@
 // Which buttons are down, what presses and clicks leave behind, and what is judged by them: clicks and drags.
 #![tactic(auto)]
 
-ghost use Rattle.std.specs.Prelude.{◌≡◌, not, ◌||◌, ◌&&◌, List, ℕ, Float};
+ghost use Rattle.std.specs.Prelude.{◌≡◌, true, Some, not, ◌||◌, ◌&&◌, List, ℕ, Float};
 ghost use Rattle.std.specs.Float.Ieee.{lt};
 ghost use Rattle.emath.specs.Vec.{length};
 ghost use Rattle.model.specs.Pointer.{recount, set_down, button_down, any_down, buttons, press_too_long, near, click_count, too_far, click_of, remember_click};
@@ -15,7 +15,7 @@ use data::options::InputOptions;
 use data::pointer::{ButtonsDown, Click, PointerButton};
 use emath::pos2::Pos2;
 use emath::vec2::Vec2;
-use pointer_events::{CODES, Sought, any};
+use pointer_events::{CODES, EventKind, any};
 
 // The pass's events are the first `event_count` in the lent arrays.
 #[derive(Clone, Copy)]
@@ -112,10 +112,7 @@ pub fn buttons(
 pub fn press_too_long(options: InputOptions, time: f64, start: Option<f64>) -> bool
     ensures { result ≡ press_too_long options time start }
 {
-    match start {
-        None => false,
-        Some(t) => time - t > options.max_click_duration,
-    }
+    start.is_some_and(|t| time - t > options.max_click_duration)
 }
 
 pub fn could_any_button_be_click(
@@ -136,7 +133,11 @@ pub fn could_any_button_be_click(
     if any_down(h.down) {
         return true;
     }
-    any(codes, h.event_count, Sought::Release)
+    any(
+        codes,
+        h.event_count,
+        |e| matches!(e, EventKind::Released(_, _)),
+    )
 }
 
 pub fn is_decidedly_dragging(
@@ -152,16 +153,16 @@ pub fn is_decidedly_dragging(
         return false;
     }
     let n = h.event_count;
-    if any(codes, n, Sought::Press) {
+    if any(codes, n, |e| matches!(e, EventKind::Pressed(_))) {
         return false;
     }
-    if any(codes, n, Sought::Click) {
+    if any(codes, n, |e| matches!(e, EventKind::Released(Some(_), _))) {
         return false;
     }
     if any_down(h.down) {
         return true;
     }
-    any(codes, n, Sought::Release)
+    any(codes, n, |e| matches!(e, EventKind::Released(_, _)))
 }
 
 // Close enough to the last click, if there was one, for a double click.
@@ -170,10 +171,8 @@ fn near(options: InputOptions, pos: Pos2, last: Option<Pos2>) -> bool
     ensures { result ≡ near options pos last }
 {
     let limit = options.max_click_dist * options.max_click_dist;
-    match last {
-        None => 0.0 < limit,
-        Some(p) => p.distance_sq(pos) < limit,
-    }
+    let click_dist_sq = last.map_or(0.0, |p| p.distance_sq(pos));
+    click_dist_sq < limit
 }
 
 #[tactic(auto, unfolding(model::specs::Pointer::click_count, model::specs::Pointer::count_of))]
@@ -223,10 +222,7 @@ fn is_longer(v: Vec2, dist: f32) -> bool
 fn too_far(options: InputOptions, pos: Pos2, origin: Option<Pos2>) -> bool
     ensures { result ≡ too_far options pos origin }
 {
-    match origin {
-        None => false,
-        Some(p) => is_longer(p - pos, options.max_click_dist),
-    }
+    origin.is_some_and(|p| is_longer(p - pos, options.max_click_dist))
 }
 
 // Of a click that is spoilt already no distance is taken.
@@ -236,40 +232,35 @@ pub fn moved_too_much(moved: bool, options: InputOptions, pos: Pos2, origin: Opt
     moved || too_far(options, pos, origin)
 }
 
+// The click of a release that clicks.
 #[tactic(auto, unfolding(model::specs::Pointer::click_of))]
 pub fn click_of(
-    clicked: bool,
     options: InputOptions,
     time: f64,
     pos: Pos2,
     modifiers: Modifiers,
     p: ClickPast,
-) -> Option<Click>
-    ensures { result ≡ click_of clicked options time pos modifiers (past p) }
+) -> Click
+    ensures { Some result ≡ click_of true options time pos modifiers (past p) }
 {
-    if !clicked {
-        return None;
-    }
-    Some(Click {
+    Click {
         pos,
         count: click_count(p, options, time, pos),
         modifiers,
-    })
+    }
 }
 
+// What is known of clicks after one more.
 #[tactic(auto, unfolding(model::specs::Pointer::remember_click))]
-pub fn remember_click(clicked: bool, time: f64, pos: Pos2, p: ClickPast) -> ClickPast
-    ensures { past result ≡ remember_click clicked time pos (past p) }
+pub fn remember_click(time: f64, pos: Pos2, p: ClickPast) -> ClickPast
+    ensures { past result ≡ remember_click true time pos (past p) }
 {
-    if clicked {
-        return ClickPast {
-            last_click_pos: Some(pos),
-            last_click_time: time,
-            last_last_click_time: p.last_click_time,
-            ..p
-        };
+    ClickPast {
+        last_click_pos: Some(pos),
+        last_click_time: time,
+        last_last_click_time: p.last_click_time,
+        ..p
     }
-    p
 }
 
 // Did is_decidedly_dragging go from false to true in this pass; `was` is its answer before the pass.
@@ -301,7 +292,7 @@ pub fn last_move_time(
     if velocity != zero {
         return Some(time);
     }
-    if any(codes, h.event_count, Sought::Move) {
+    if any(codes, h.event_count, |e| matches!(e, EventKind::Moved)) {
         return Some(time);
     }
     old

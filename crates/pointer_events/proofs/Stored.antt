@@ -2,12 +2,13 @@
 use Rattle.std.specs.Prelude.{None, Some}
 use Prim.Native.Nat.{ℕ, zero, suc, ◌+◌, ◌-◌, ◌*◌, ◌≤◌, ◌<◌}
 use native.Mathlib.Omega.{arith}
-use mathlib.Core.Path.{◌≡◌, refl, ap, ◌∙◌}
+use mathlib.Core.Path.{◌≡◌, refl, sym, ap, ◌∙◌}
 use mathlib.Core.Bool.{Bool, true, false, cond}
-use mathlib.Core.List.{List, [], ◌∷◌, ◌++◌}
+use mathlib.Core.List.{List, [], ◌∷◌, ◌++◌, append_assoc}
 use lib.Dec.{ltb}
 use lib.ListN.{length, take, drop, get_or, set, length-append}
-use lib.Seq.{lt-length-set, get_or-set_same, get_or-set_other, take_all, take-append-le, drop-length, drop-append_seam, sets}
+use lib.Seq.{lt-length-set, get_or-set_same, get_or-set_other, take_all, take-append-le, drop-length, drop-append_seam, sets, sets-eq, drop-drop}
+use borrow.Rule.Slice.PartMut.{put_mid}
 use borrow.Author.Tests.{ltb-true, ltb-false}
 use lib.Ieee.{Float, nan}
 use Rattle.emath_history.specs.Ring.{position_at, set_position}
@@ -18,6 +19,10 @@ use Rattle.model.specs.Types.{PointerEvent, Moved, Pressed, Released}
 use Rattle.model.specs.Pointer.{any}
 use Rattle.pointer_events.specs.Types.{Entry}
 use Rattle.pointer_events.specs.Events.{click_of, event_of, entry_of, entry_at, events_from, counted, events, event_or_none, codes_with, codes_of, positions_of, Pushed}
+
+-- a row written as a whole
+pub put_row : {A : Type 0} (l : List A) (i k : ℕ) (xs ys : List A) → ys ≡ xs → k ≡ length xs → i + length xs ≤ length l → put_mid i k l ys ≡ sets l i xs
+put_row l i k xs ys e n h = rw (e, n, drop-drop (length xs) i l, sets-eq xs l i h) (sym (append_assoc (take i l) xs (drop (i + length xs) l)))
 
 -- ---- an event is read back as it was written
 pub event_back : (e : PointerEvent) → event_of (entry_of e) ≡ e
@@ -97,7 +102,7 @@ module _ (cs : List ℕ) (ps : List Float) (n : ℕ) (x : Entry) where
   before_same i (suc k) h = rw (entry_other i (λ e. omega arith), before_same (suc i) k (omega arith))
 
   -- the entry's numbers are stored one after the other
-  codes_stored : cs' ≡ sets cs (n * 4) (x.kind ∷ x.button ∷ x.count ∷ x.flags ∷ [])
+  pub codes_stored : cs' ≡ sets cs (n * 4) (x.kind ∷ x.button ∷ x.count ∷ x.flags ∷ [])
   unfolding codes_with
   codes_stored =
       let one : n * 4 + 1 ≡ suc (n * 4) = omega arith in

@@ -8,10 +8,8 @@ use Rattle.data.specs.Numbers.{button_number}
 use Rattle.data.specs.Modifiers.{modifiers_number, modifiers_of}
 use Rattle.feed.specs.Shape.{button_of}
 use Rattle.model.specs.Types.{Click, PointerEvent, Moved, Pressed, Released}
-use Rattle.model.specs.Pointer.{is_press, is_release, is_click, is_move}
-use Rattle.model.specs.Questions.{presses_button, releases_button, clicks_button, clicks_button_times}
-use Rattle.pointer_events.specs.Types.{Entry, PointerEvent, Sought}
-use Rattle.pointer_events.specs.Types.sought as sought
+use Rattle.pointer_events.specs.Types.{Entry, PointerEvent, EventKind}
+use Rattle.pointer_events.specs.Types.kind as kind
 
 unfoldable pub click_of : Entry → Click
 click_of x = record { pos = x.pos; count = x.count; modifiers = modifiers_of x.flags }
@@ -57,16 +55,16 @@ event_or_none [] i = None
 event_or_none (e ∷ es) zero = Some e
 event_or_none (e ∷ es) (suc i) = event_or_none es i
 
--- what each `Sought` looks for
-unfoldable pub asks : Sought → PointerEvent → Bool
-asks sought.Press = is_press
-asks sought.Release = is_release
-asks sought.Click = is_click
-asks (sought.PressOf b) = presses_button b
-asks (sought.ReleaseOf b) = releases_button b
-asks (sought.ClickOf b) = clicks_button b
-asks (sought.ClicksOf n b) = clicks_button_times n b
-asks sought.Move = is_move
+-- an event without its position
+unfoldable pub kind_of : PointerEvent → EventKind
+kind_of (Moved v) = kind.Moved
+kind_of (Pressed v b) = kind.Pressed b
+kind_of (Released None b) = kind.Released None b
+kind_of (Released (Some k) b) = kind.Released (Some k.count) b
+
+-- what a test answers of an event's kind is what `f` says of the event
+abbrev pub Tests : (EventKind → Bool → Type 0) → (PointerEvent → Bool) → Type 0
+Tests answers f = (e : PointerEvent) (r : Bool) → answers (kind_of e) r → r ≡ f e
 
 -- the codes with an entry's as those of event n
 unfoldable pub codes_with : ℕ → Entry → List ℕ → List ℕ

@@ -2,27 +2,26 @@
 // The codes and their count stand apart: C lends the codes, and the count is a field of a record by value.
 #![tactic(auto)]
 
-ghost use Rattle.std.specs.Prelude.{◌≡◌, List, ◌+◌, ◌*◌, ◌<◌, length, Float, None, Some};
+ghost use Rattle.std.specs.Prelude.{◌≡◌, Bool, List, ◌+◌, ◌*◌, ◌<◌, length, Float, None, Some};
 ghost use Rattle.emath_history.specs.Ring.{set_position};
 ghost use Rattle.data.specs.Limits.{max_events};
-ghost use Rattle.feed.specs.Shape.{button_of};
-ghost use Rattle.model.specs.Types.{Pos2, Click, Moved, Pressed, Released};
+ghost use Rattle.model.specs.Types.{Click, PointerEvent, Released};
 ghost use Rattle.model.specs.Pointer.{any};
-ghost use Rattle.model.specs.Questions.{same_button};
 ghost use Rattle.pointer_events.specs.Types.{Entry};
-ghost use Rattle.pointer_events.specs.Events.{event_of, entry_of, entry_at, events, counted, event_or_none, asks, codes_with, Pushed};
+ghost use Rattle.pointer_events.specs.Events.{event_of, entry_of, entry_at, events, counted, event_or_none, kind_of, Tests, codes_with, Pushed};
 
 use data::limits::MAX_EVENTS;
 use data::modifiers::Modifiers;
 use data::pointer::{Click, PointerButton, PointerEvent};
 use emath::pos2::Pos2;
+use feed::fields::button_of;
 
 // Four codes and two parts of a position for each event.
 pub const CODES: usize = 4 * MAX_EVENTS;
 
 pub const PLACES: usize = 2 * MAX_EVENTS;
 
-// An event in numbers, no enum: the caller lends the codes as plain words (docs/DECISIONS.md, 28).
+// Kept (plain): the four numbers as they stand between the lent codes and the enum (docs/DECISIONS.md, 28).
 #[derive(Clone, Copy)]
 pub struct Entry {
     // 0 moved, 1 pressed, 2 released, 3 released with a click
@@ -34,18 +33,13 @@ pub struct Entry {
     pub pos: Pos2,
 }
 
-// What a question looks for among the events. A value, no closure: `asks` says once what it means, a closure would need its contract at each question.
+// What an event is, but for where: what the questions look at.
 #[derive(Clone, Copy)]
-pub enum Sought {
-    Press,
-    Release,
-    Click,
-    PressOf(PointerButton),
-    ReleaseOf(PointerButton),
-    ClickOf(PointerButton),
-    // a click that counts so many
-    ClicksOf(u32, PointerButton),
-    Move,
+pub enum EventKind {
+    Moved,
+    Pressed(PointerButton),
+    // the count of its click, if it is one
+    Released(Option<u32>, PointerButton),
 }
 
 pub fn counted(count: usize) -> usize
@@ -54,19 +48,8 @@ pub fn counted(count: usize) -> usize
     count.min(MAX_EVENTS)
 }
 
-#[tactic(auto, unfolding(feed::specs::Shape::button_of))]
-fn button_of(n: u32) -> PointerButton
-    ensures { result ≡ button_of n }
-{
-    match n {
-        0 => PointerButton::Primary,
-        1 => PointerButton::Secondary,
-        2 => PointerButton::Middle,
-        3 => PointerButton::Extra1,
-        _ => PointerButton::Extra2,
-    }
-}
-
+// Any numbers mean some event.
+// Kept (plain): no From: the name says the definition's, by which the contracts above speak of an event in numbers.
 #[tactic(auto, unfolding(crate::specs::Events::event_of, crate::specs::Events::click_of))]
 pub fn event_of(x: Entry) -> PointerEvent
     ensures { result ≡ event_of x }
@@ -109,6 +92,7 @@ fn released_entry(click: Option<Click>, button: PointerButton) -> Entry
     }
 }
 
+// Kept (plain): no From, as `event_of`.
 #[tactic(auto, unfolding(crate::specs::Events::entry_of))]
 pub fn entry_of(e: PointerEvent) -> Entry
     ensures { result ≡ entry_of e }
@@ -132,6 +116,8 @@ pub fn entry_of(e: PointerEvent) -> Entry
     }
 }
 
+// The numbers of event `i`: four codes and two parts of a position.
+// Kept (plain): `any` takes the codes alone; a struct with the positions would be made for this one read. Both are plain numbers, as C lends them.
 #[tactic(auto, unfolding(crate::specs::Events::entry_at, emath_history::specs::Ring::position_at))]
 pub fn entry_at(codes: &[u32; CODES], positions: &[f32; PLACES], i: usize) -> Entry
     requires { i < max_events }
@@ -150,6 +136,7 @@ pub fn entry_at(codes: &[u32; CODES], positions: &[f32; PLACES], i: usize) -> En
 }
 
 // Event `i` of `count`.
+// Kept (plain): two arrays, as `entry_at` reads them.
 #[tactic(auto, using(crate::proofs::Stored::read_event, crate::proofs::Stored::read_none))]
 pub fn event_at(
     codes: &[u32; CODES],
@@ -169,21 +156,20 @@ fn set_codes(codes: &mut [u32], i: usize, x: Entry)
     requires { i * 4 + 3 < length codes.old }
     ensures { codes.new ≡ codes_with i x codes.old }
 {
-    codes[i * 4] = x.kind;
-    codes[i * 4 + 1] = x.button;
-    codes[i * 4 + 2] = x.count;
-    codes[i * 4 + 3] = x.flags;
+    let at = i * 4;
+    codes[at..at + 4].copy_from_slice(&[x.kind, x.button, x.count, x.flags]);
 }
 
 fn set_position(positions: &mut [f32], i: usize, pos: Pos2)
     requires { i * 2 + 1 < length positions.old }
     ensures { positions.new ≡ set_position positions.old i pos }
 {
-    positions[i * 2] = pos.x;
-    positions[i * 2 + 1] = pos.y;
+    let at = i * 2;
+    positions[at..at + 2].copy_from_slice(&[pos.x, pos.y]);
 }
 
 // One event more, and the new count; where there are `MAX_EVENTS` all stays.
+// Kept (plain): lent one by one: of a struct that holds a `&mut` each clause would have to say what stands behind it afterwards.
 pub fn push(
     codes: &mut [u32; CODES],
     positions: &mut [f32; PLACES],
@@ -201,74 +187,30 @@ pub fn push(
     count
 }
 
-#[tactic(auto, unfolding(model::specs::Questions::same_button))]
-fn same_button(button: PointerButton, n: u32) -> bool
-    ensures { result ≡ same_button button (button_of n) }
+// Event `i` without its position: a question and an interact are lent the codes alone.
+// Kept (C): the codes are plain numbers that C lends, four an event.
+#[tactic(auto, unfolding(crate::specs::Events::kind_of, crate::specs::Events::event_of, crate::specs::Events::click_of, crate::specs::Events::entry_at))]
+pub fn kind_at(codes: &[u32; CODES], i: usize) -> EventKind
+    requires { i < max_events }
+    ensures { (positions : List Float) → result ≡ kind_of (event_of (entry_at codes.now positions i)) }
 {
-    button.number() == button_of(n).number()
-}
-
-#[tactic(auto, unfolding(crate::specs::Events::asks, model::specs::Pointer::is_press, model::specs::Pointer::is_release, model::specs::Pointer::is_click, model::specs::Pointer::is_move, model::specs::Questions::presses_button, model::specs::Questions::releases_button, model::specs::Questions::clicks_button, model::specs::Questions::clicks_button_times))]
-fn move_is(sought: Sought) -> bool
-    ensures { (pos : Pos2) → result ≡ asks sought (Moved pos) }
-{
-    matches!(sought, Sought::Move)
-}
-
-#[tactic(auto, unfolding(crate::specs::Events::asks, model::specs::Pointer::is_press, model::specs::Pointer::is_release, model::specs::Pointer::is_click, model::specs::Pointer::is_move, model::specs::Questions::presses_button, model::specs::Questions::releases_button, model::specs::Questions::clicks_button, model::specs::Questions::clicks_button_times))]
-fn press_is(sought: Sought, button: u32) -> bool
-    ensures { (pos : Pos2) → result ≡ asks sought (Pressed pos (button_of button)) }
-{
-    match sought {
-        Sought::Press => true,
-        Sought::PressOf(b) => same_button(b, button),
-        _ => false,
+    let button = button_of(codes[i * 4 + 1]);
+    match codes[i * 4] {
+        0 => EventKind::Moved,
+        1 => EventKind::Pressed(button),
+        2 => EventKind::Released(None, button),
+        _ => EventKind::Released(Some(codes[i * 4 + 2]), button),
     }
 }
 
-#[tactic(auto, unfolding(crate::specs::Events::asks, model::specs::Pointer::is_press, model::specs::Pointer::is_release, model::specs::Pointer::is_click, model::specs::Pointer::is_move, model::specs::Questions::presses_button, model::specs::Questions::releases_button, model::specs::Questions::clicks_button, model::specs::Questions::clicks_button_times))]
-fn release_is(sought: Sought, button: u32) -> bool
-    ensures { result ≡ asks sought (Released None (button_of button)) }
-{
-    match sought {
-        Sought::Release => true,
-        Sought::ReleaseOf(b) => same_button(b, button),
-        _ => false,
-    }
-}
-
-#[tactic(auto, unfolding(crate::specs::Events::asks, model::specs::Pointer::is_press, model::specs::Pointer::is_release, model::specs::Pointer::is_click, model::specs::Pointer::is_move, model::specs::Questions::presses_button, model::specs::Questions::releases_button, model::specs::Questions::clicks_button, model::specs::Questions::clicks_button_times))]
-fn click_is(sought: Sought, button: u32, count: u32) -> bool
-    ensures { (k : Click) → k.count ≡ count → result ≡ asks sought (Released (Some k) (button_of button)) }
-{
-    match sought {
-        Sought::Release | Sought::Click => true,
-        Sought::ReleaseOf(b) => same_button(b, button),
-        Sought::ClickOf(b) => same_button(b, button),
-        Sought::ClicksOf(n, b) => same_button(b, button) && n == count,
-        _ => false,
-    }
-}
-
-#[tactic(auto, unfolding(crate::specs::Events::event_of, crate::specs::Events::click_of))]
-fn matches(sought: Sought, kind: u32, button: u32, count: u32) -> bool
-    ensures { (x : Entry) → x.kind ≡ kind → x.button ≡ button → x.count ≡ count → result ≡ asks sought (event_of x) }
-{
-    match kind {
-        0 => move_is(sought),
-        1 => press_is(sought, button),
-        2 => release_is(sought, button),
-        _ => click_is(sought, button, count),
-    }
-}
-
-// Is one of the events what is sought.
-pub fn any(codes: &[u32; CODES], count: usize, sought: Sought) -> bool
-    ensures { (positions : List Float) → result ≡ any (asks sought) (events codes.now positions count) }
+// Does one of the events pass the test: egui's `pointer_events.iter().any(test)`.
+pub fn any<F: Fn(EventKind) -> bool>(codes: &[u32; CODES], count: usize, test: F) -> bool
+    requires { F.IsAlwaysCallable test }
+    ensures { (f : PointerEvent → Bool) → Tests (F.post test) f → (positions : List Float) → result ≡ any f (events codes.now positions count) }
 {
     let n = counted(count);
     for i in 0..n {
-        if matches(sought, codes[i * 4], codes[i * 4 + 1], codes[i * 4 + 2]) {
+        if test(kind_at(codes, i)) {
             return true;
         }
     }

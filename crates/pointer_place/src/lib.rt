@@ -139,6 +139,7 @@ fn delta_of(old: Option<Pos2>, new: Option<Pos2>) -> Vec2
 }
 
 // Of at least 3 samples over more than 0.01 s.
+// Kept (plain): History's own questions take the two arrays; a struct would be taken apart at each call.
 #[tactic(auto, unfolding(model::specs::Pointer::velocity_of, model::specs::Numbers::hundredth))]
 fn velocity_of(h: History, times: &[f64; MAX_LEN], positions: &[f32; PARTS]) -> Vec2
     ensures { result ≡ velocity_of (view times.now positions.now h) }
@@ -152,6 +153,7 @@ fn velocity_of(h: History, times: &[f64; MAX_LEN], positions: &[f32; PARTS]) -> 
     Vec2::zero()
 }
 
+// Kept (plain): as `velocity_of`.
 fn direction_of(h: History, times: &[f64; MAX_LEN], positions: &[f32; PARTS]) -> Vec2
     ensures { result ≡ normalized (unwrap_or_default (velocity (view times.now positions.now h))) }
 {
@@ -160,6 +162,7 @@ fn direction_of(h: History, times: &[f64; MAX_LEN], positions: &[f32; PARTS]) ->
 }
 
 // The history with the latest position, if there is one.
+// Kept (plain): lent one by one: of a struct that holds a `&mut` each clause would have to say what stands behind it afterwards.
 fn sampled(
     h: History,
     times: &mut [f64; MAX_LEN],
@@ -188,6 +191,7 @@ fn cleared(h: History, gone: bool) -> History
 }
 
 // The end of a pass that began with the pointer at `old`: delta, history, velocity, direction.
+// Kept (plain): lent one by one: of a struct that holds a `&mut` each clause would have to say what stands behind it afterwards.
 #[tactic(auto, unfolding(model::specs::Pointer::end_place, model::specs::Pointer::finish_place))]
 pub fn end_place(
     p: Place,

@@ -1,7 +1,7 @@
 // Buttons, presses, clicks and the pass's events.
 ghost use Rattle.std.specs.Prelude.{◌≡◌, List, ℕ, Float, length};
-ghost use Rattle.model.specs.Pointer.{is_long_press};
-ghost use Rattle.model.specs.Questions.{bool, number, maybe_position, maybe_seconds};
+ghost use Rattle.model.specs.Pointer.{any, is_long_press};
+ghost use Rattle.model.specs.Questions.{bool, number, maybe_position, maybe_seconds, clicks_button_times};
 ghost use Rattle.model.specs.Questions as ask;
 ghost use Rattle.pointer_events.specs.Events.{event_or_none};
 ghost use Rattle.pointer_clicks.specs.View.{held};
@@ -12,7 +12,7 @@ use data::options::InputOptions;
 use data::pointer::{PointerButton, PointerEvent};
 use emath::pos2::Pos2;
 use pointer_clicks::{ClickPast, Held, press_too_long};
-use pointer_events::{CODES, PLACES, Sought, any, counted, event_at};
+use pointer_events::{CODES, EventKind, PLACES, any, counted, event_at};
 use pointer_state::press::Press;
 
 #[tactic(auto, unfolding(model::specs::Questions::reply))]
@@ -36,25 +36,33 @@ pub fn time_since_last_click(p: ClickPast, time: f64) -> f32
     ieee_narrow::narrow(time - p.last_click_time)
 }
 
-#[tactic(auto, unfolding(model::specs::Questions::reply, pointer_events::specs::Events::asks))]
+#[tactic(auto, unfolding(model::specs::Questions::reply, pointer_events::specs::Events::kind_of, model::specs::Pointer::is_press))]
 pub fn any_pressed(h: Held, codes: &[u32; CODES]) -> bool
     ensures { OfHeld ask.any_pressed codes.now h (bool result) }
 {
-    any(codes, h.event_count, Sought::Press)
+    any(codes, h.event_count, |e| matches!(e, EventKind::Pressed(_)))
 }
 
-#[tactic(auto, unfolding(model::specs::Questions::reply, pointer_events::specs::Events::asks))]
+#[tactic(auto, unfolding(model::specs::Questions::reply, pointer_events::specs::Events::kind_of, model::specs::Pointer::is_release))]
 pub fn any_released(h: Held, codes: &[u32; CODES]) -> bool
     ensures { OfHeld ask.any_released codes.now h (bool result) }
 {
-    any(codes, h.event_count, Sought::Release)
+    any(
+        codes,
+        h.event_count,
+        |e| matches!(e, EventKind::Released(_, _)),
+    )
 }
 
-#[tactic(auto, unfolding(model::specs::Questions::reply, pointer_events::specs::Events::asks))]
+#[tactic(auto, unfolding(model::specs::Questions::reply, pointer_events::specs::Events::kind_of, model::specs::Pointer::is_click))]
 pub fn any_click(h: Held, codes: &[u32; CODES]) -> bool
     ensures { OfHeld ask.any_click codes.now h (bool result) }
 {
-    any(codes, h.event_count, Sought::Click)
+    any(
+        codes,
+        h.event_count,
+        |e| matches!(e, EventKind::Released(Some(_), _)),
+    )
 }
 
 #[tactic(auto, unfolding(model::specs::Questions::reply))]
@@ -71,39 +79,65 @@ pub fn button_down(h: Held, button: PointerButton) -> bool
     pointer_clicks::button_down(h.down, button)
 }
 
-#[tactic(auto, unfolding(model::specs::Questions::reply, pointer_events::specs::Events::asks))]
+// Kept (proof): buttons by their numbers, here and below, as `same_button` has it. `button == b` was tried: in a test that is handed on, what the
+// derived equality says did not reach `same_button`.
+#[tactic(auto, unfolding(model::specs::Questions::reply, pointer_events::specs::Events::kind_of, model::specs::Questions::presses_button, model::specs::Questions::same_button))]
 pub fn button_pressed(h: Held, codes: &[u32; CODES], button: PointerButton) -> bool
     ensures { OfHeld (ask.button_pressed button) codes.now h (bool result) }
 {
-    any(codes, h.event_count, Sought::PressOf(button))
+    any(
+        codes,
+        h.event_count,
+        |e| matches!(e, EventKind::Pressed(b) if button.number() == b.number()),
+    )
 }
 
-#[tactic(auto, unfolding(model::specs::Questions::reply, pointer_events::specs::Events::asks))]
+#[tactic(auto, unfolding(model::specs::Questions::reply, pointer_events::specs::Events::kind_of, model::specs::Questions::releases_button, model::specs::Questions::same_button))]
 pub fn button_released(h: Held, codes: &[u32; CODES], button: PointerButton) -> bool
     ensures { OfHeld (ask.button_released button) codes.now h (bool result) }
 {
-    any(codes, h.event_count, Sought::ReleaseOf(button))
+    any(
+        codes,
+        h.event_count,
+        |e| matches!(e, EventKind::Released(_, b) if button.number() == b.number()),
+    )
 }
 
-#[tactic(auto, unfolding(model::specs::Questions::reply, pointer_events::specs::Events::asks))]
+#[tactic(auto, unfolding(model::specs::Questions::reply, pointer_events::specs::Events::kind_of, model::specs::Questions::clicks_button, model::specs::Questions::same_button))]
 pub fn button_clicked(h: Held, codes: &[u32; CODES], button: PointerButton) -> bool
     ensures { OfHeld (ask.button_clicked button) codes.now h (bool result) }
 {
-    any(codes, h.event_count, Sought::ClickOf(button))
+    any(
+        codes,
+        h.event_count,
+        |e| matches!(e, EventKind::Released(Some(_), b) if button.number() == b.number()),
+    )
 }
 
-#[tactic(auto, unfolding(model::specs::Questions::reply, pointer_events::specs::Events::asks))]
+// A click of the button that counts `count`.
+#[tactic(auto, unfolding(pointer_events::specs::Events::kind_of, model::specs::Questions::clicks_button_times, model::specs::Questions::same_button))]
+fn clicked_times(h: Held, codes: &[u32; CODES], button: PointerButton, count: u32) -> bool
+    ensures { (positions : List Float) → result ≡ any (clicks_button_times count button) (held codes.now positions h).pointer_events }
+{
+    any(
+        codes,
+        h.event_count,
+        |e| matches!(e, EventKind::Released(Some(n), b) if button.number() == b.number() && count == n),
+    )
+}
+
+#[tactic(auto, unfolding(model::specs::Questions::reply))]
 pub fn button_double_clicked(h: Held, codes: &[u32; CODES], button: PointerButton) -> bool
     ensures { OfHeld (ask.button_double_clicked button) codes.now h (bool result) }
 {
-    any(codes, h.event_count, Sought::ClicksOf(2, button))
+    clicked_times(h, codes, button, 2)
 }
 
-#[tactic(auto, unfolding(model::specs::Questions::reply, pointer_events::specs::Events::asks))]
+#[tactic(auto, unfolding(model::specs::Questions::reply))]
 pub fn button_triple_clicked(h: Held, codes: &[u32; CODES], button: PointerButton) -> bool
     ensures { OfHeld (ask.button_triple_clicked button) codes.now h (bool result) }
 {
-    any(codes, h.event_count, Sought::ClicksOf(3, button))
+    clicked_times(h, codes, button, 3)
 }
 
 // A press that has turned into a long one in this pass; `started` is started_decidedly_dragging.
@@ -111,11 +145,10 @@ pub fn button_triple_clicked(h: Held, codes: &[u32; CODES], button: PointerButto
 pub fn is_long_press(s: Press, options: InputOptions, time: f64, started: bool) -> bool
     ensures { (codes : List ℕ) (positions : List Float) → result ≡ is_long_press options time (press codes positions s) started }
 {
-    let h = s.held;
     started
         && !s.past.has_moved_too_much_for_a_click
-        && pointer_clicks::button_down(h.down, PointerButton::Primary)
-        && press_too_long(options, time, h.press_start_time)
+        && pointer_clicks::button_down(s.held.down, PointerButton::Primary)
+        && press_too_long(options, time, s.held.press_start_time)
 }
 
 // How many events the pass had.
@@ -126,6 +159,7 @@ pub fn pointer_event_count(h: Held) -> usize
 }
 
 // Event `i` of the pass.
+// Kept (plain): the other questions take the codes alone; a struct with the positions would be made for this one read.
 pub fn pointer_event(
     h: Held,
     codes: &[u32; CODES],

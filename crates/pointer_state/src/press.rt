@@ -1,5 +1,6 @@
 // What an event does to the presses and clicks, and to the pass's pointer events.
 // These end at `MAX_EVENTS`: one more is left out, and the rest goes on.
+// Kept (plain): lent one by one: of a struct that holds a `&mut` each clause would have to say what stands behind it afterwards.
 ghost use Rattle.std.specs.Prelude.{◌≡◌, true, false, List, ℕ, Float};
 ghost use Rattle.model.specs.Types.{PointerMoved, Button};
 ghost use Rattle.model.specs.Pass.{fresh_press};
@@ -7,10 +8,11 @@ ghost use Rattle.pointer_state.specs.View.{press, Stepped};
 
 use data::modifiers::Modifiers;
 use data::options::InputOptions;
-use data::pointer::{ButtonsDown, PointerButton, PointerEvent};
+use data::pointer::{PointerButton, PointerEvent};
 use emath::pos2::Pos2;
 use pointer_clicks::{
-    ClickPast, Held, click_of, could_any_button_be_click, moved_too_much, remember_click, set_down,
+    ClickPast, Held, buttons, click_of, could_any_button_be_click, moved_too_much, remember_click,
+    set_down,
 };
 use pointer_events::{CODES, PLACES, push};
 
@@ -25,16 +27,8 @@ impl Press {
     pub fn fresh() -> Press
         ensures { (codes : List ℕ) (positions : List Float) → press codes positions result ≡ fresh_press }
     {
-        let down = ButtonsDown {
-            primary: false,
-            secondary: false,
-            middle: false,
-            extra1: false,
-            extra2: false,
-            count: 0,
-        };
         let held = Held {
-            down,
+            down: buttons(false, false, false, false, false),
             press_origin: None,
             press_start_time: None,
             event_count: 0,
@@ -58,18 +52,25 @@ pub fn moved(
 ) -> Press
     ensures { (time : Float) → Stepped options time (PointerMoved pos) codes.old positions.old s codes.new positions.new result }
 {
-    let h = s.held;
-    let p = s.past;
-    let origin = h.press_origin;
-    let spoilt = moved_too_much(p.has_moved_too_much_for_a_click, options, pos, origin);
-    let count = push(codes, positions, h.event_count, PointerEvent::Moved(pos));
+    let spoilt = moved_too_much(
+        s.past.has_moved_too_much_for_a_click,
+        options,
+        pos,
+        s.held.press_origin,
+    );
+    let count = push(
+        codes,
+        positions,
+        s.held.event_count,
+        PointerEvent::Moved(pos),
+    );
     let held = Held {
         event_count: count,
-        ..h
+        ..s.held
     };
     let past = ClickPast {
         has_moved_too_much_for_a_click: spoilt,
-        ..p
+        ..s.past
     };
     Press { held, past }
 }
@@ -84,13 +85,11 @@ fn pressed(
 ) -> Press
     ensures { (options : InputOptions) (modifiers : Modifiers) → Stepped options time (Button pos button true modifiers) codes.old positions.old s codes.new positions.new result }
 {
-    let h = s.held;
-    let p = s.past;
-    let down = set_down(h.down, button, true);
+    let down = set_down(s.held.down, button, true);
     let count = push(
         codes,
         positions,
-        h.event_count,
+        s.held.event_count,
         PointerEvent::Pressed(pos, button),
     );
     let held = Held {
@@ -101,7 +100,7 @@ fn pressed(
     };
     let past = ClickPast {
         has_moved_too_much_for_a_click: false,
-        ..p
+        ..s.past
     };
     Press { held, past }
 }
@@ -120,21 +119,27 @@ fn released(
     ensures { Stepped options time (Button pos button false modifiers) codes.old positions.old s codes.new positions.new result }
 {
     let before = s.held;
-    let p = s.past;
     let down = set_down(before.down, button, false);
     let up = Held {
         down,
         press_origin: None,
         press_start_time: None,
-        event_count: before.event_count,
+        ..before
     };
-    let moved = p.has_moved_too_much_for_a_click;
+    let moved = s.past.has_moved_too_much_for_a_click;
     let clicked = could_any_button_be_click(before, codes, options, time, moved);
-    let click = click_of(clicked, options, time, pos, modifiers, p);
-    let past = remember_click(clicked, time, pos, p);
+    let click = clicked.then(|| click_of(options, time, pos, modifiers, s.past));
+    let past = if clicked {
+        remember_click(time, pos, s.past)
+    } else {
+        s.past
+    };
     let e = PointerEvent::Released(click, button);
-    let mut held = up;
-    held.event_count = push(codes, positions, before.event_count, e);
+    let count = push(codes, positions, before.event_count, e);
+    let held = Held {
+        event_count: count,
+        ..up
+    };
     Press { held, past }
 }
 

@@ -13,8 +13,5 @@ use touch_state::devices::Devices;
 pub fn is_long_touch(ds: Devices, s: Press, options: InputOptions, time: f64, started: bool) -> bool
     ensures { OfTouchAndPress ask.is_long_touch ds s options time started (bool result) }
 {
-    if is_long_press(s, options, time, started) {
-        return any_touches(ds);
-    }
-    false
+    is_long_press(s, options, time, started) && any_touches(ds)
 }

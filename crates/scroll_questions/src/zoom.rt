@@ -25,11 +25,11 @@ pub struct Zoom2d {
     pub exponent: Vec2,
 }
 
+#[tactic(auto, unfolding(model::specs::Questions::reply, model::specs::Questions::shown, model::specs::Questions::zoom_reply, model::specs::Numbers::one))]
 pub fn zoom_delta(ds: Devices, factor: f32, exponent: f32) -> Zoom
     ensures { OfZoom ask.zoom_delta ds factor exponent (zoom_answer result) }
 {
-    let gesture = multi_touch(ds);
-    match gesture {
+    match multi_touch(ds) {
         None => Zoom { factor, exponent },
         Some(g) => Zoom {
             factor: g.zoom_delta,
@@ -39,6 +39,7 @@ pub fn zoom_delta(ds: Devices, factor: f32, exponent: f32) -> Zoom
 }
 
 // With one of the two scroll modifiers held, only its axis zooms.
+#[tactic(auto, unfolding(model::specs::Questions::zoom_by_axis, model::specs::Numbers::one))]
 fn zoom_by_axis(is_horizontal: bool, is_vertical: bool, factor: f32, exponent: f32) -> Zoom2d
     ensures { zoom_2d_answer result ≡ zoom_by_axis is_horizontal is_vertical factor exponent }
 {
@@ -50,27 +51,16 @@ fn zoom_by_axis(is_horizontal: bool, is_vertical: bool, factor: f32, exponent: f
         x: exponent,
         y: exponent,
     };
-    if is_horizontal {
-        if is_vertical {
-            return Zoom2d {
-                factor: f,
-                exponent: e,
-            };
+    match (is_horizontal, is_vertical) {
+        (true, false) => {
+            f.y = 1.0;
+            e.y = 0.0;
         }
-        f.y = 1.0;
-        e.y = 0.0;
-        return Zoom2d {
-            factor: f,
-            exponent: e,
-        };
-    }
-    if is_vertical {
-        f.x = 1.0;
-        e.x = 0.0;
-        return Zoom2d {
-            factor: f,
-            exponent: e,
-        };
+        (false, true) => {
+            f.x = 1.0;
+            e.x = 0.0;
+        }
+        _ => {}
     }
     Zoom2d {
         factor: f,
@@ -78,6 +68,7 @@ fn zoom_by_axis(is_horizontal: bool, is_vertical: bool, factor: f32, exponent: f
     }
 }
 
+#[tactic(auto, unfolding(model::specs::Questions::reply, model::specs::Questions::shown, model::specs::Questions::zoom_2d_reply))]
 pub fn zoom_delta_2d(
     ds: Devices,
     factor: f32,
@@ -87,37 +78,30 @@ pub fn zoom_delta_2d(
 ) -> Zoom2d
     ensures { OfZoom2d ask.zoom_delta_2d ds factor exponent modifiers options (zoom_2d_answer result) }
 {
-    let gesture = multi_touch(ds);
-    match gesture {
+    match multi_touch(ds) {
         None => {
-            let horizontal = options.horizontal_scroll_modifier;
-            let vertical = options.vertical_scroll_modifier;
-            let is_horizontal = modifiers.matches_any(horizontal);
-            let is_vertical = modifiers.matches_any(vertical);
+            let is_horizontal = modifiers.matches_any(options.horizontal_scroll_modifier);
+            let is_vertical = modifiers.matches_any(options.vertical_scroll_modifier);
             zoom_by_axis(is_horizontal, is_vertical, factor, exponent)
         }
-        Some(g) => {
-            let factor = g.zoom_delta_2d;
-            let exponent = Vec2::zero();
-            Zoom2d { factor, exponent }
-        }
+        Some(g) => Zoom2d {
+            factor: g.zoom_delta_2d,
+            exponent: Vec2::zero(),
+        },
     }
 }
 
 // `radians` is the sum of the pass's Rotate events.
+#[tactic(auto, unfolding(model::specs::Questions::reply, model::specs::Questions::shown))]
 pub fn rotation_delta(ds: Devices, radians: f32) -> Rotation
     ensures { OfRotation ask.rotation_delta ds radians (rotation result) }
 {
-    let gesture = multi_touch(ds);
-    touch_device::info::rotation(gesture, radians)
+    touch_device::info::rotation(multi_touch(ds), radians)
 }
 
+#[tactic(auto, unfolding(model::specs::Questions::reply, model::specs::Questions::shown, model::specs::Questions::translation_reply))]
 pub fn translation_delta(ds: Devices, smooth_scroll_delta: Vec2) -> Vec2
     ensures { OfTranslation ask.translation_delta ds smooth_scroll_delta (vector result) }
 {
-    let gesture = multi_touch(ds);
-    match gesture {
-        None => smooth_scroll_delta,
-        Some(g) => g.translation_delta,
-    }
+    multi_touch(ds).map_or(smooth_scroll_delta, |g| g.translation_delta)
 }

@@ -10,6 +10,7 @@ use data::touch::{ActiveTouch, GestureState, TouchPhase};
 use emath::pos2::Pos2;
 use gesture::{calc_dynamic_state, classify, forget_previous_if, update_gesture};
 use touches::Touches;
+use touches::sorted::HasId;
 
 pub mod info;
 
@@ -18,6 +19,14 @@ pub struct Device {
     pub id: u64,
     pub touches: Touches,
     pub gesture_state: Option<GestureState>,
+}
+
+impl HasId for Device {
+    ghost id_of = { λ d. d.id };
+
+    fn id(&self) -> u64 {
+        self.id
+    }
 }
 
 #[tactic(auto, unfolding(model::specs::Touch::new_device))]
@@ -56,28 +65,14 @@ pub fn on_touch(d: Device, phase: TouchPhase, t: ActiveTouch) -> Device
     }
 }
 
-// A device that its first touch event makes known.
-#[tactic(auto, unfolding(crate::specs::View::fits_device, model::specs::Touch::new_device))]
-pub fn first(id: u64, phase: TouchPhase, t: ActiveTouch) -> Device
-    ensures { device_view result ≡ fits_device phase t (new_device id) }
-{
-    Device {
-        id,
-        touches: touches::first(phase, t),
-        gesture_state: None,
-    }
-}
-
 // Is it the Start of a touch too many?
 pub fn is_full(d: Device, phase: TouchPhase, id: u64) -> bool
     ensures { result ≡ no_place phase id 0 (Some (device_view d)) }
 {
-    let touches = d.touches;
-    if touches.count < MAX_TOUCHES {
+    if d.touches.count < MAX_TOUCHES {
         return false;
     }
-    let held = touches::holds(touches, id);
-    is_start(phase) & !held
+    is_start(phase) && !touches::holds(d.touches, id)
 }
 
 // The end of a pass, with the pointer's interact position of the pass before: were touches added or removed in it?

@@ -6,41 +6,35 @@ ghost use Rattle.model.specs.Touch.{find_device, info_at, multi_touch, any_touch
 ghost use Rattle.touch_state.specs.View.{view};
 
 use data::touch::MultiTouchInfo;
-use touch_state::devices::{Devices, index_of, len};
+use touch_state::devices::{Devices, index_of, known, len};
 
 // The info of a device: none if it is not known.
 pub fn info(ds: Devices, device_id: u64) -> Option<MultiTouchInfo>
     ensures { result ≡ info_at (find_device device_id (view ds)) }
 {
-    let i = index_of(ds, device_id);
-    if i < len(ds) {
-        return touch_device::info::info(ds.places[i]);
-    }
-    None
+    let i = index_of(ds, device_id)?;
+    touch_device::info::info(ds.places[i])
 }
 
 // The info of the first device that has one.
+// Kept (proof): `find_map` was tried: what it says of its calls left the result open.
 pub fn multi_touch(ds: Devices) -> Option<MultiTouchInfo>
     ensures { result ≡ multi_touch (view ds) }
 {
-    let n = len(ds);
-    let a = ds.places;
-    for i in 0..n {
-        let info = touch_device::info::info(a[i]);
-        if let Some(g) = info {
+    for d in known(&ds) {
+        if let Some(g) = touch_device::info::info(*d) {
             return Some(g);
         }
     }
     None
 }
 
+// Kept (proof): `iter().any` was tried: the closure's contract does not open to that of the function it calls.
 pub fn any_touches(ds: Devices) -> bool
     ensures { result ≡ any_touches (view ds) }
 {
-    let n = len(ds);
-    let a = ds.places;
-    for i in 0..n {
-        if touch_device::any_touches(a[i]) {
+    for d in known(&ds) {
+        if touch_device::any_touches(*d) {
             return true;
         }
     }
@@ -48,14 +42,14 @@ pub fn any_touches(ds: Devices) -> bool
 }
 
 // Are there touches on this device?
+// Kept (proof): `is_some_and` was tried: the contract of a closure that looks at a place does not open to that of the function it calls.
 pub fn any_touches_of(ds: Devices, device_id: u64) -> bool
     ensures { result ≡ any_touches_at (find_device device_id (view ds)) }
 {
-    let i = index_of(ds, device_id);
-    if i < len(ds) {
-        return touch_device::any_touches(ds.places[i]);
+    match index_of(ds, device_id) {
+        None => false,
+        Some(i) => touch_device::any_touches(ds.places[i]),
     }
-    false
 }
 
 #[tactic(auto, using(touch_state::proofs::Known::some_devices))]

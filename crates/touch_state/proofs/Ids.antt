@@ -1,61 +1,33 @@
 -- The devices' ids read apart from the devices, and places among them. Assumes nothing.
-use Rattle.std.specs.Prelude.{Some}
+use Rattle.std.specs.Prelude.{Some, IfSome}
+use Rattle.std.specs.Option.{unwrap_or}
+use Rattle.std.specs.Bool.{then_some}
 use mathlib.Core.Path.{◌≡◌, refl, sym, ap, ◌∙◌}
 use mathlib.Core.Bool.{Bool, true, false, cond}
 use mathlib.Core.List.{List, [], ◌∷◌, map}
-use Prim.Native.Nat.{ℕ, zero, suc, ◌≤◌, ◌<◌}
+use Prim.Native.Nat.{ℕ, zero, suc, ◌<◌}
 use native.Mathlib.Omega.{arith}
 use borrow.Author.Tests.{ltb-true, eqb-true, ne_eqb}
 use lib.Dec.{ltb, eqb}
-use lib.ListN.{length, get_or, set, take, length-map, length-take}
+use lib.ListN.{length, get_or, set, take}
 use lib.Seq.{map-set_same}
 use Rattle.data.specs.Limits.{max_devices}
 use Rattle.model.specs.Touch.{find_device}
 use Rattle.touches.specs.Touches.{place, index, starts, is_at}
-use Rattle.touches.proofs.Places.{first_of}
 use Rattle.touches.proofs.Upsert.{no, at_lt, at_place}
 use Rattle.touch_device.specs.declared.Device.{Device}
 use Rattle.touch_device.specs.View.{device_view}
 use Rattle.touch_state.specs.View.{device_id, known_at}
-use Rattle.touch_state.proofs.Known.{place_map, index_map, at_map, known_place, found_at}
+use Rattle.touch_state.proofs.Known.{place_map, at_map, known_place, found_at}
 
 -- an id among ids
 abbrev pub self : ℕ → ℕ
 self x = x
 
-pub four : (a : List Device) (z : Device) → length a ≡ 4
-    → ((get_or a 0 z).id ∷ (get_or a 1 z).id ∷ (get_or a 2 z).id ∷ (get_or a 3 z).id ∷ []) ≡ map device_id a
-four [] z h = absurd (omega arith)
-four (x ∷ []) z h = absurd (omega arith)
-four (x ∷ y ∷ []) z h = absurd (omega arith)
-four (x ∷ y ∷ u ∷ []) z h = absurd (omega arith)
-four (x ∷ y ∷ u ∷ v ∷ []) z h = refl
-four (x ∷ y ∷ u ∷ v ∷ w ∷ a) z h = absurd (omega arith)
-
 take_ids : (n : ℕ) (a : List Device) → take n (map device_id a) ≡ map device_id (take n a)
 take_ids zero a = refl
 take_ids (suc n) [] = refl
 take_ids (suc n) (x ∷ a) = ap {B = List ℕ} (λ r. x.id ∷ r) (take_ids n a)
-
--- of the first n ids, where n devices are known
-module _ (n c d : ℕ) (a : List Device) (ids : List ℕ) (count : n ≡ length (take c a)) (are : ids ≡ map device_id a) where
-  known_ids : take n ids ≡ map device_id (take c a)
-  known_ids = rw (are, take_ids n a, first_of n c a count)
-
-  pub place_ids : place self d (take n ids) ≡ place device_id d (take c a)
-  place_ids = rw known_ids (place_map device_id device_id self (λ u. refl) d (take c a))
-
-  pub index_ids : index self d (take n ids) ≡ index device_id d (take c a)
-  index_ids = rw known_ids (index_map device_id device_id self (λ u. refl) d (take c a))
-
-  pub at_ids : (i : ℕ) → is_at self i d (take n ids) ≡ is_at device_id i d (take c a)
-  at_ids i = rw known_ids (at_map device_id device_id self (λ u. refl) d (take c a) i)
-
-  pub enough : length a ≡ 4 → (n ≤ length ids) × (length ids ≡ 4)
-  enough four-places = (rw are (simp length-map (omega (arith, length-take c a))), rw are (length-map a device_id ∙ four-places))
-
-  pub below : length a ≡ 4 → (i : ℕ) → i < n → i < length (take n ids)
-  below four-places i h = rw known_ids (simp length-map (omega arith))
 
 -- ---- the place that `known_at` finds
 
@@ -99,3 +71,12 @@ module _ (d k c : ℕ) (a : List Device) (z : Device) (at : k ≡ known_at d (ta
       at ∙ sym (known_by_ids d (take c a))
       ∙ ap (by_ids d) (sym (take_ids c a) ∙ ap (take c) (sym (map-set_same device_id a k x z (e ∙ known_id))) ∙ take_ids c (set a k x))
       ∙ known_by_ids d (take c (set a k x))
+
+-- ---- the place as an Option
+pub unwrapped : (b : Bool) (i m : ℕ) → unwrap_or (then_some b i) m ≡ cond b i m
+unwrapped true i m = refl
+unwrapped false i m = refl
+
+pub below_some : (b : Bool) (i m : ℕ) → (b ≡ true → i < m) → IfSome (then_some b i) (λ k. k < m)
+below_some true i m h = h refl
+below_some false i m h = tt

@@ -8,8 +8,8 @@ use native.Mathlib.Numerals.{add-one}
 use native.Mathlib.Omega.{arith}
 use borrow.Author.Tests.{le-leb, lt-leb}
 use lib.Dec.{eqb, ltb}
-use lib.ListN.{length, get_or, set, take, drop, length-map, length-take, length-set}
-use lib.Seq.{take-set-lt, get_or-take}
+use lib.ListN.{length, get_or, set, take, drop, length-map, length-take, length-set, drop_of_length-le}
+use lib.Seq.{take-set-lt, get_or-take, drop-cons}
 use Rattle.data.specs.Limits.{max_devices}
 use Rattle.model.specs.Types.{TouchPhase, ActiveTouch, MultiTouchInfo}
 use Rattle.model.specs.Touch.{TouchState, device_id_of, new_device, at_device, find_device, info, multi_touch, first_of as first_info, any_touches, some_touch, has_touch_screen}
@@ -18,7 +18,6 @@ use Rattle.touches.specs.Touches.{place, index, starts, is_at, inserted_at}
 use Rattle.touch_device.specs.View.{device_view, fits_device}
 use Rattle.touch_state.specs.declared.devices.Devices.{Devices}
 use Rattle.touch_state.specs.View.{known, view, device_id, known_at, fits_touch}
-use Rattle.touches.proofs.Places.{rest, done}
 use Rattle.touches.proofs.Upsert.{some_ltb, upsert, upsert_hit, upsert_miss, at_lt, place_le, length_inserted}
 
 find_by : (d : ℕ) (z u : Device) (us : List Device) (b : Bool) → eqb d u.id ≡ b
@@ -47,28 +46,28 @@ unfolding find_device index
 lost d [] h = refl
 lost d (u ∷ us) h = lost_by d u us (eqb d u.id) refl (lost d us) h
 
-module _ (n i : ℕ) (a : List Device) (z : Device) (h : i < n) (l : n ≤ length a) where
-  pub any_stops : some_touch (device_view (get_or a i z)).active_touches ≡ true → true ≡ any_touches (map device_view (drop i (take n a)))
+module _ (i : ℕ) (us : List Device) (z : Device) (h : i < length us) where
+  pub any_stops : some_touch (device_view (get_or us i z)).active_touches ≡ true → true ≡ any_touches (map device_view (drop i us))
   unfolding any_touches
-  any_stops e = rw (rest n i a z h l, e)
+  any_stops e = rw (drop-cons us i z h, e)
 
-  pub any_skips : some_touch (device_view (get_or a i z)).active_touches ≡ false
-      → any_touches (map device_view (drop (i + 1) (take n a))) ≡ any_touches (map device_view (drop i (take n a)))
+  pub any_skips : some_touch (device_view (get_or us i z)).active_touches ≡ false
+      → any_touches (map device_view (drop (i + 1) us)) ≡ any_touches (map device_view (drop i us))
   unfolding any_touches
-  any_skips e = rw (add-one, rest n i a z h l, e)
+  any_skips e = rw (add-one, drop-cons us i z h, e)
 
-  pub multi_stops : (g : Option MultiTouchInfo) → info (device_view (get_or a i z)) ≡ g → first_info g (multi_touch (map device_view (drop (i + 1) (take n a)))) ≡ multi_touch (map device_view (drop i (take n a)))
+  pub multi_stops : (g : Option MultiTouchInfo) → info (device_view (get_or us i z)) ≡ g → first_info g (multi_touch (map device_view (drop (i + 1) us))) ≡ multi_touch (map device_view (drop i us))
   unfolding multi_touch
-  multi_stops g e = rw (add-one, rest n i a z h l, e)
+  multi_stops g e = rw (add-one, drop-cons us i z h, e)
 
-module _ (n i : ℕ) (a : List Device) (h : n ≤ i) (l : n ≤ length a) where
-  pub any_ends : false ≡ any_touches (map device_view (drop i (take n a)))
+module _ (i : ℕ) (us : List Device) (h : length us ≤ i) where
+  pub any_ends : false ≡ any_touches (map device_view (drop i us))
   unfolding any_touches
-  any_ends = rw (done n i a h l)
+  any_ends = rw (drop_of_length-le us h)
 
-  pub multi_ends : None ≡ multi_touch (map device_view (drop i (take n a)))
+  pub multi_ends : None ≡ multi_touch (map device_view (drop i us))
   unfolding multi_touch
-  multi_ends = rw (done n i a h l)
+  multi_ends = rw (drop_of_length-le us h)
 
 pub some_devices : (us : List Device) → ltb 0 (length us) ≡ has_touch_screen (map device_view us)
 unfolding has_touch_screen
@@ -109,11 +108,6 @@ module _ {A B : Type 0} (f : A → B) where
     place_map [] = refl
     place_map (u ∷ us) = rw (same u, place_map us)
 
-    pub index_map : (us : List A) → index key' d (map f us) ≡ index key d us
-    unfolding index
-    index_map [] = refl
-    index_map (u ∷ us) = rw (same u, index_map us)
-
     pub at_map : (us : List A) (i : ℕ) → is_at key' i d (map f us) ≡ is_at key i d us
     unfolding is_at starts
     at_map [] zero = refl
@@ -142,7 +136,7 @@ known_place d k us h b = go (is_at device_id (place device_id d us) d us) refl
   where
     go : (v : Bool) → is_at device_id (place device_id d us) d us ≡ v → (k ≡ place device_id d us) × (is_at device_id k d us ≡ true)
     go true q = let e : k ≡ place device_id d us = rw q at h in (e, rw e q)
-    go false q = let none-known : k ≡ max_devices = rw q at h in absurd (omega arith)
+    go false q = let none_known : k ≡ max_devices = rw q at h in absurd (omega arith)
 
 module _ (d i c : ℕ) (a : List Device) (e : i ≡ place device_id d (take c a)) where
   pub known_at_le : length (take c a) ≤ max_devices → known_at d (take c a) ≤ max_devices

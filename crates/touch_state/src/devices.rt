@@ -1,15 +1,17 @@
 // The devices that are known, by ascending id in the first `count` places: egui's BTreeMap.
-// A sorted array with its count, no map: the memory is fixed, and there is no heap.
-ghost use Rattle.std.specs.Prelude.{◌≡◌, [], map, ◌≤◌, ◌<◌, length};
+ghost use Rattle.std.specs.Prelude.{◌≡◌, ◌<◌, [], length, position, IfSome};
+ghost use Rattle.std.specs.Option.{unwrap_or};
 ghost use Rattle.data.specs.Limits.{max_devices};
 ghost use Rattle.model.specs.Touch.{no_place, find_device};
-ghost use Rattle.touches.specs.Touches.{place, index, is_at, inserted_at};
+ghost use Rattle.touches.specs.Touches.{has};
 ghost use Rattle.touch_state.specs.View.{known, device_id, known_at, view, fits_touch};
 
 use data::limits::MAX_DEVICES;
 use data::touch::{ActiveTouch, TouchPhase};
 use touch_device::{Device, is_start};
+use touches::sorted::{find, is_at, place_of, put_in};
 
+// Kept (01): a sorted array with its count, no map: the memory is fixed, and there is no heap.
 #[derive(Clone, Copy)]
 pub struct Devices {
     pub count: usize,
@@ -32,109 +34,53 @@ pub fn len(ds: Devices) -> usize
     ds.count.min(MAX_DEVICES)
 }
 
-// Read at constant places: nothing else of a device is looked at.
-fn ids(ds: Devices) -> [u64; MAX_DEVICES]
-    ensures { result ≡ map device_id ds.places }
+// The devices, without the places that are free.
+pub fn known(ds: &Devices) -> &[Device]
+    ensures { result.now ≡ known ds.now }
 {
-    let a = ds.places;
-    [a[0].id, a[1].id, a[2].id, a[3].id]
+    &ds.places[..len(*ds)]
 }
 
-// The first place with this id or a greater one. Not one walk with `index_of`: a closure for the test would need its contract at both.
-fn place_of(ds: Devices, id: u64) -> usize
-    ensures { result ≡ place device_id id (known ds) }
+// The first place with this id, if there is one.
+pub fn index_of(ds: Devices, id: u64) -> Option<usize>
+    ensures { result ≡ position (has device_id id) (known ds) }
 {
-    let n = len(ds);
-    let a = ids(ds);
-    for i in 0..n {
-        if a[i] >= id {
-            return i;
-        }
-    }
-    n
+    find(known(&ds), id)
 }
 
-// The first place with this id, or the number of devices.
-pub fn index_of(ds: Devices, id: u64) -> usize
-    ensures { result ≡ index device_id id (known ds) }
+// The place of a device that is known, where the order of the ids has it: egui's map finds no other.
+pub fn known_at(ds: Devices, id: u64) -> Option<usize>
+    ensures place { unwrap_or result max_devices ≡ known_at id (known ds) }
+    ensures below { IfSome result (λ k. k < max_devices) }
 {
-    let n = len(ds);
-    let a = ids(ds);
-    for i in 0..n {
-        if a[i] == id {
-            return i;
-        }
-    }
-    n
+    let us = known(&ds);
+    let i = place_of(us, id);
+    is_at(us, i, id).then_some(i)
 }
 
-// Does the device at place i have this id?
-fn is_at(ds: Devices, i: usize, id: u64) -> bool
-    ensures { result ≡ is_at device_id i id (known ds) }
-{
-    if i < len(ds) {
-        let a = ids(ds);
-        return id == a[i];
-    }
-    false
-}
-
-// The place of a device that is known, or MAX_DEVICES.
-#[tactic(auto, unfolding(crate::specs::View::known_at))]
-pub fn known_at(ds: Devices, id: u64) -> usize
-    ensures { result ≡ known_at id (known ds) }
-{
-    let i = place_of(ds, id);
-    if is_at(ds, i, id) {
-        return i;
-    }
-    MAX_DEVICES
-}
-
-// The devices from place i on move up by one.
-fn insert_at(ds: Devices, i: usize, d: Device) -> Devices
-    requires { (i ≤ length (known ds)) × (length (known ds) < max_devices) }
-    ensures { known result ≡ inserted_at i d (known ds) }
-{
-    let n = len(ds);
-    let mut a = ds.places;
-    // one element carried along: `copy_within` and a write are three lines less, and a lemma of forty lines more
-    let mut carry = d;
-    for k in i..n {
-        let x = a[k];
-        a[k] = carry;
-        carry = x;
-    }
-    a[n] = carry;
-    Devices {
-        count: n + 1,
-        places: a,
-    }
-}
-
-// A device that is not known becomes known by a touch event, if there is a place.
+// A device that is not known becomes known by a touch event, if there is a place: those of a greater id move up by one.
 pub fn add(ds: Devices, id: u64, phase: TouchPhase, t: ActiveTouch) -> Devices
     requires { known_at id (known ds) ≡ max_devices }
     ensures { view result ≡ fits_touch id phase t (view ds) }
 {
-    let i = place_of(ds, id);
-    if len(ds) < MAX_DEVICES {
-        return insert_at(ds, i, touch_device::first(id, phase, t));
+    let n = len(ds);
+    if n >= MAX_DEVICES {
+        return ds;
     }
-    ds
+    let at = place_of(known(&ds), id);
+    let device = touch_device::on_touch(touch_device::new(id), phase, t);
+    let mut s = ds;
+    put_in(&mut s.places, n, at, device);
+    s.count = n + 1;
+    s
 }
 
 // Is there no place for a touch event: a device too many, or the Start of a touch too many? Only for a Start are the touches looked at.
 pub fn no_place(ds: Devices, device_id: u64, phase: TouchPhase, id: u64) -> bool
     ensures { result ≡ no_place phase id (length (view ds)) (find_device device_id (view ds)) }
 {
-    let n = len(ds);
-    let i = index_of(ds, device_id);
-    if n <= i {
-        return MAX_DEVICES <= n;
+    match index_of(ds, device_id) {
+        None => MAX_DEVICES <= len(ds),
+        Some(i) => is_start(phase) && touch_device::is_full(ds.places[i], phase, id),
     }
-    if is_start(phase) {
-        return touch_device::is_full(ds.places[i], phase, id);
-    }
-    false
 }

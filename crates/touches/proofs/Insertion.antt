@@ -1,71 +1,46 @@
--- Inserting a touch, a turn at a time: what is done, and what is to come. Assumes nothing.
-use mathlib.Core.Path.{◌≡◌, refl, sym, ◌∙◌}
-use mathlib.Core.Bool.{Bool, true, false, cond, ◌||◌}
-use mathlib.Core.List.{List, ◌∷◌, ◌++◌}
+-- Inserting a touch at its place. Assumes nothing.
+use mathlib.Core.Path.{◌≡◌, sym, ap, ◌∙◌}
+use mathlib.Core.Bool.{true, false}
+use mathlib.Core.List.{List}
 use Prim.Native.Nat.{ℕ, suc, ◌+◌, ◌≤◌, ◌<◌}
-use native.Mathlib.Numerals.{add-one}
 use native.Mathlib.Omega.{arith}
-use lib.Dec.{ltb, eqb}
-use lib.ListN.{length, get_or, set, take, drop, length-append}
-use lib.Seq.{append_snoc, take-suc, take-take, set_split, length-take-le}
+use lib.ListN.{length, set, take, length-take, length-set}
 use Rattle.data.specs.Limits.{max_touches}
 use Rattle.model.specs.Types.{ActiveTouch}
-use Rattle.model.specs.Touch.{insert_touch}
-use Rattle.touches.specs.Touches.{if_room}
-use Rattle.touches.proofs.Places.{first_of, set_first, rest, done, held, held_step, held_end}
-use Rattle.touches.proofs.Upsert.{no, fits}
+use Rattle.model.specs.Touch.{insert_touch, touch_id_of}
+use Rattle.touches.specs.Touches.{place, is_at, inserted_at, if_room}
+use Rattle.touches.proofs.Places.{first_of, set_first}
+use Rattle.touches.proofs.Upsert.{insert_upsert, upsert_hit, upsert_miss, at_lt, place_le, length_inserted, fits, too_long}
 
--- the first i, and of the rest of the first n: the carried touch before them, or t put in among them
-unfoldable pub grown : ActiveTouch → ℕ → List ActiveTouch → ActiveTouch → Bool → ℕ → List ActiveTouch
-grown t n a x b i = take i a ++ cond b (x ∷ drop i (take n a)) (insert_touch t (drop i (take n a)))
+-- i is the place of the touch t among the first c
+module _ (t : ActiveTouch) (c i : ℕ) (a : List ActiveTouch) (p : i ≡ place touch_id_of t.id (take c a)) (l : length a ≡ max_touches) where
+  abbrev us : List ActiveTouch
+  us = take c a
 
-pub grown_start : (t : ActiveTouch) (n : ℕ) (a : List ActiveTouch) (x : ActiveTouch) → grown t n a x false 0 ≡ insert_touch t (take n a)
-unfolding grown
-grown_start t n a x = refl
+  pub within : i ≤ length us
+  within = rw p (place_le touch_id_of t.id us)
 
-pub not_yet : (b c : Bool) → (b || c) ≡ false → b ≡ false
-not_yet true c e = e
-not_yet false c e = refl
+  pub there : is_at touch_id_of i t.id us ≡ true → i < length us
+  there e = at_lt touch_id_of t.id i us e
 
-module _ (t : ActiveTouch) (n i : ℕ) (a : List ActiveTouch) (z : ActiveTouch) (h : i < n) (l : n ≤ length a) (x : ActiveTouch) where
-  abbrev y : ActiveTouch
-  y = get_or a i z
+  pub replaced : is_at touch_id_of i t.id us ≡ true → take c (set a i t) ≡ if_room (insert_touch t us) us
+  replaced e =
+      let s : insert_touch t us ≡ set us i t = rw (← p) at (insert_upsert t us ∙ upsert_hit touch_id_of t.id t (λ u. t) t us (rw p at e)) in
+      let n : length (insert_touch t us) ≤ max_touches = rw (s, length-set) (omega (arith, length-take c a)) in
+      set_first c i a t (there e) ∙ sym s ∙ sym (fits (insert_touch t us) us n)
 
-  pub shifts : (b : Bool) → (b ≡ false → x ≡ t) → (b || ltb t.id y.id) ≡ true
-      → grown t n (set a i x) y (b || ltb t.id y.id) (i + 1) ≡ grown t n a x b i
-  unfolding grown held insert_touch
-  shifts true c e = held_step n i a x z h l
-  shifts false c e = rw e (held_step n i a x z h l ∙ rw (rest n i a z h l, e, c refl))
+  module _ (e : is_at touch_id_of i t.id us ≡ false) where
+    put : insert_touch t us ≡ inserted_at i t us
+    put = rw (← p) at (insert_upsert t us ∙ upsert_miss touch_id_of t.id t (λ u. t) us (rw p at e))
 
-  pub passes : (b : Bool) → (b || ltb t.id y.id) ≡ false → eqb t.id y.id ≡ false
-      → grown t n a x (b || ltb t.id y.id) (i + 1) ≡ grown t n a x b i
-  unfolding grown insert_touch
-  passes true e q = no (sym e)
-  passes false e q =
-      let b : i < length a = omega arith in
-      rw (e, add-one, take-suc a i z b, append_snoc, rest n i a z h l, e, q)
+    longer : length (insert_touch t us) ≡ suc (length us)
+    longer = rw put (length_inserted i t us within)
 
-  pub replaces : (c : ℕ) → n ≡ length (take c a) → (b : Bool) → (b || ltb t.id y.id) ≡ false → eqb t.id y.id ≡ true
-      → take c (set a i t) ≡ grown t n a x b i
-  unfolding grown insert_touch
-  replaces c f true e q = no (sym e)
-  replaces c f false e q =
-      let b : i < length (take n a) = rw (length-take-le n a l) h in
-      let m : i ≤ n = omega arith in
-      set_first c i a t (rw f at h) ∙ rw (← first_of n c a f, set_split (take n a) i t b, take-take i n a m, rest n i a z h l, e, q)
+    pub inserted : (n : ℕ) → n ≡ length us → n < max_touches → (b : List ActiveTouch) → take (n + 1) b ≡ inserted_at i t (take n a)
+        → take (n + 1) b ≡ if_room (insert_touch t us) us
+    inserted n k h b q =
+        let m : length (insert_touch t us) ≤ max_touches = omega (arith, longer) in
+        q ∙ ap (inserted_at i t) (first_of n c a k) ∙ sym put ∙ sym (fits (insert_touch t us) us m)
 
-module _ (t : ActiveTouch) (n i : ℕ) (a : List ActiveTouch) (x : ActiveTouch) (h : i ≤ n) (k : n ≤ i) where
-  pub grown_end : (b : Bool) → (b ≡ false → x ≡ t) → n < length a → take (n + 1) (set a n x) ≡ grown t n a x b i
-  unfolding grown held insert_touch
-  grown_end true c l = held_end n i a x l h k
-  grown_end false c l = held_end n i a x l h k ∙ rw (done n i a k (omega arith), c refl)
-
-  pub grown_length : (b : Bool) → n ≤ length a → length (grown t n a x b i) ≡ suc n
-  unfolding grown insert_touch
-  grown_length true l = rw (done n i a k l, length-append, length-take-le i a (omega arith)) (omega arith)
-  grown_length false l = rw (done n i a k l, length-append, length-take-le i a (omega arith)) (omega arith)
-
--- ---- what fits
-
-pub fitting : (x new old : List ActiveTouch) → x ≡ new → length x ≤ max_touches → x ≡ if_room new old
-fitting x new old e l = e ∙ sym (fits new old (rw e at l))
+    pub no_room : max_touches ≤ length us → us ≡ if_room (insert_touch t us) us
+    no_room h = sym (too_long (insert_touch t us) us (omega (arith, longer)))

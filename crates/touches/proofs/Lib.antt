@@ -2,3 +2,4 @@ pub mod Insertion
 pub mod Places
 pub mod Removal
 pub mod Upsert
+pub mod Found

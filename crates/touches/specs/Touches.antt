@@ -21,6 +21,10 @@ unfoldable pub index : {A : Type 0} → (A → ℕ) → ℕ → List A → ℕ
 index key i [] = 0
 index key i (u ∷ us) = cond (eqb i (key u)) 0 (suc (index key i us))
 
+-- does an element have this id?
+abbrev pub has : {A : Type 0} → (A → ℕ) → ℕ → A → Bool
+has key d u = eqb d (key u)
+
 -- does the element at place i have this id?
 unfoldable pub starts : {A : Type 0} → (A → ℕ) → ℕ → List A → Bool
 starts key d [] = false

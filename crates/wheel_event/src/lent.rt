@@ -2,64 +2,20 @@
 ghost use Rattle.std.specs.Prelude.{◌≡◌};
 ghost use Rattle.model.specs.Wheel.{on_wheel_event};
 
-use data::modifiers::Modifiers;
-use data::mouse_wheel::{MouseWheelSource, MouseWheelUnit, WheelState};
-use data::options::InputOptions;
-use data::touch::TouchPhase;
-use emath::rect::Rect;
-use emath::vec2::Vec2;
+use crate::{Measures, WheelEvent};
+use data::mouse_wheel::WheelState;
 
-pub fn on_wheel_event(
-    w: &mut WheelState,
-    viewport_rect: Rect,
-    options: InputOptions,
-    time: f64,
-    unit: MouseWheelUnit,
-    delta: Vec2,
-    phase: TouchPhase,
-    source: MouseWheelSource,
-    latest_modifiers: Modifiers,
-)
-    ensures { w.new ≡ on_wheel_event viewport_rect options time unit delta phase source latest_modifiers w.old }
+pub fn on_wheel_event(w: &mut WheelState, by: Measures, e: WheelEvent)
+    ensures { w.new ≡ on_wheel_event by.viewport_rect by.options by.time e.unit e.delta e.phase e.source e.modifiers w.old }
 {
-    *w = crate::on_wheel_event(
-        *w,
-        viewport_rect,
-        options,
-        time,
-        unit,
-        delta,
-        phase,
-        source,
-        latest_modifiers,
-    );
+    *w = crate::on_wheel_event(*w, by, e);
 }
 
 // From a wheel by value to one that is lent for the event, and back: its callers hold no reference.
-pub fn stepped(
-    w: WheelState,
-    viewport_rect: Rect,
-    options: InputOptions,
-    time: f64,
-    unit: MouseWheelUnit,
-    delta: Vec2,
-    phase: TouchPhase,
-    source: MouseWheelSource,
-    latest_modifiers: Modifiers,
-) -> WheelState
-    ensures { result ≡ on_wheel_event viewport_rect options time unit delta phase source latest_modifiers w }
+pub fn stepped(w: WheelState, by: Measures, e: WheelEvent) -> WheelState
+    ensures { result ≡ on_wheel_event by.viewport_rect by.options by.time e.unit e.delta e.phase e.source e.modifiers w }
 {
     let mut v = w;
-    on_wheel_event(
-        &mut v,
-        viewport_rect,
-        options,
-        time,
-        unit,
-        delta,
-        phase,
-        source,
-        latest_modifiers,
-    );
+    on_wheel_event(&mut v, by, e);
     v
 }

@@ -17,67 +17,83 @@ use emath::rect::Rect;
 use emath::vec2::Vec2;
 use wheel_state::{end_if_over, is_in_touch};
 
+// What a pass measures its wheel events by.
+#[derive(Clone, Copy)]
+pub struct Measures {
+    pub viewport_rect: Rect,
+    pub options: InputOptions,
+    pub time: f64,
+}
+
+// A wheel event of the feed.
+#[derive(Clone, Copy)]
+pub struct WheelEvent {
+    pub unit: MouseWheelUnit,
+    pub delta: Vec2,
+    pub phase: TouchPhase,
+    pub source: MouseWheelSource,
+    pub modifiers: Modifiers,
+}
+
+#[tactic(auto, unfolding(model::specs::Wheel::move_status))]
 fn move_status(status: Status) -> Status
     ensures { result ≡ move_status status }
 {
     match status {
         Status::Static => Status::Smoothing,
-        Status::Smoothing => Status::Smoothing,
-        Status::InTouch => Status::InTouch,
+        _ => status,
     }
 }
 
 // In touch a modifier that was let go stays, and a new one is heeded.
+#[tactic(auto, unfolding(model::specs::Wheel::move_modifiers))]
 fn move_modifiers(status: Status, old: Modifiers, latest: Modifiers) -> Modifiers
     ensures { result ≡ move_modifiers status old latest }
 {
     match status {
-        Status::Static => latest,
-        Status::Smoothing => latest,
+        Status::Static | Status::Smoothing => latest,
         Status::InTouch => old.bitor(latest),
     }
 }
 
-fn in_points(viewport_rect: Rect, options: InputOptions, unit: MouseWheelUnit, delta: Vec2) -> Vec2
-    ensures { result ≡ in_points viewport_rect options unit delta }
+#[tactic(auto, unfolding(model::specs::Wheel::in_points))]
+fn in_points(by: Measures, unit: MouseWheelUnit, delta: Vec2) -> Vec2
+    ensures { result ≡ in_points by.viewport_rect by.options unit delta }
 {
     match unit {
         MouseWheelUnit::Point => delta,
-        MouseWheelUnit::Line => delta * options.line_scroll_speed,
-        MouseWheelUnit::Page => delta * viewport_rect.height(),
+        MouseWheelUnit::Line => delta * by.options.line_scroll_speed,
+        MouseWheelUnit::Page => delta * by.viewport_rect.height(),
     }
 }
 
 // With one of the two scroll modifiers held, all scrolling is along its axis.
+#[tactic(auto, unfolding(model::specs::Wheel::swapped))]
 fn swapped(is_horizontal: bool, is_vertical: bool, delta: Vec2) -> Vec2
     ensures { result ≡ swapped is_horizontal is_vertical delta }
 {
-    if is_horizontal {
-        if is_vertical {
-            return delta;
-        }
-        return Vec2 {
+    match (is_horizontal, is_vertical) {
+        (true, false) => Vec2 {
             x: delta.x + delta.y,
             y: 0.0,
-        };
-    }
-    if is_vertical {
-        return Vec2 {
+        },
+        (false, true) => Vec2 {
             x: 0.0,
             y: delta.x + delta.y,
-        };
+        },
+        _ => delta,
     }
-    delta
 }
 
+#[tactic(auto, unfolding(model::specs::Wheel::axes))]
 fn axes(options: InputOptions, modifiers: Modifiers, delta: Vec2) -> Vec2
     ensures { result ≡ axes options modifiers delta }
 {
-    let horizontal = options.horizontal_scroll_modifier;
-    let vertical = options.vertical_scroll_modifier;
-    let is_horizontal = modifiers.matches_any(horizontal);
-    let is_vertical = modifiers.matches_any(vertical);
-    swapped(is_horizontal, is_vertical, delta)
+    swapped(
+        modifiers.matches_any(options.horizontal_scroll_modifier),
+        modifiers.matches_any(options.vertical_scroll_modifier),
+        delta,
+    )
 }
 
 // What a square is of a delta that is 8 long, and of one that is surely shorter.
@@ -99,129 +115,87 @@ fn is_short(delta: Vec2) -> bool
     delta.length() < 8.0
 }
 
+#[tactic(auto, unfolding(model::specs::Wheel::small))]
 fn small(unit: MouseWheelUnit, delta: Vec2) -> bool
     ensures { result ≡ small unit delta }
 {
     match unit {
         MouseWheelUnit::Point => is_short(delta),
-        MouseWheelUnit::Line => false,
-        MouseWheelUnit::Page => false,
+        MouseWheelUnit::Line | MouseWheelUnit::Page => false,
     }
 }
 
+#[tactic(auto, unfolding(model::specs::Wheel::add_delta))]
 fn add_delta(is_smooth: bool, delta: Vec2, w: WheelState) -> WheelState
     ensures { result ≡ add_delta is_smooth delta w }
 {
-    let mut v = w;
     if is_smooth {
-        let old = w.smooth_wheel_delta;
-        let smooth = old + delta;
-        v.smooth_wheel_delta = smooth;
-        return v;
+        return WheelState {
+            smooth_wheel_delta: w.smooth_wheel_delta + delta,
+            ..w
+        };
     }
-    let old = w.unprocessed_wheel_delta;
-    let unprocessed = old + delta;
-    v.unprocessed_wheel_delta = unprocessed;
-    v
+    WheelState {
+        unprocessed_wheel_delta: w.unprocessed_wheel_delta + delta,
+        ..w
+    }
 }
 
 // The scroll of a Move, once the wheel has its new status and modifiers.
-fn on_move(
-    viewport_rect: Rect,
-    options: InputOptions,
-    unit: MouseWheelUnit,
-    delta: Vec2,
-    w: WheelState,
-) -> WheelState
-    ensures { result ≡ on_move viewport_rect options unit delta w }
+#[tactic(auto, unfolding(model::specs::Wheel::on_move, model::specs::Wheel::scroll))]
+fn on_move(by: Measures, e: WheelEvent, w: WheelState) -> WheelState
+    ensures { result ≡ on_move by.viewport_rect by.options e.unit e.delta w }
 {
-    let status = w.status;
-    let modifiers = w.modifiers;
-    let points = in_points(viewport_rect, options, unit, delta);
-    let along = axes(options, modifiers, points);
-    let is_smooth = is_in_touch(status) | small(unit, along);
+    let points = in_points(by, e.unit, e.delta);
+    let along = axes(by.options, w.modifiers, points);
+    let is_smooth = is_in_touch(w.status) | small(e.unit, along);
     add_delta(is_smooth, along, w)
 }
 
+#[tactic(auto, unfolding(model::specs::Wheel::stopped_wheel))]
 fn stopped(time: f64, source: MouseWheelSource) -> WheelState
     ensures { result ≡ stopped_wheel time source }
 {
-    let modifiers = Modifiers::none();
-    let zero = Vec2::zero();
     WheelState {
         status: Status::Static,
-        source: source,
-        modifiers: modifiers,
+        source,
+        modifiers: Modifiers::none(),
         last_wheel_event: time,
-        unprocessed_wheel_delta: zero,
-        smooth_wheel_delta: zero,
+        unprocessed_wheel_delta: Vec2::zero(),
+        smooth_wheel_delta: Vec2::zero(),
     }
 }
 
 // One wheel event, of a wheel whose scroll action is ended if it was over.
-fn on_phase(
-    w: WheelState,
-    viewport_rect: Rect,
-    options: InputOptions,
-    time: f64,
-    unit: MouseWheelUnit,
-    delta: Vec2,
-    phase: TouchPhase,
-    source: MouseWheelSource,
-    latest_modifiers: Modifiers,
-) -> WheelState
-    ensures { result ≡ on_phase viewport_rect options time unit delta phase source latest_modifiers w }
+#[tactic(auto, unfolding(model::specs::Wheel::on_phase))]
+fn on_phase(w: WheelState, by: Measures, e: WheelEvent) -> WheelState
+    ensures { result ≡ on_phase by.viewport_rect by.options by.time e.unit e.delta e.phase e.source e.modifiers w }
 {
-    match phase {
+    match e.phase {
         TouchPhase::Start => WheelState {
             status: Status::InTouch,
-            source: source,
-            modifiers: latest_modifiers,
-            last_wheel_event: time,
+            source: e.source,
+            modifiers: e.modifiers,
+            last_wheel_event: by.time,
             ..w
         },
         TouchPhase::Move => {
-            let old_status = w.status;
-            let old_modifiers = w.modifiers;
-            let status = move_status(old_status);
-            let modifiers = move_modifiers(old_status, old_modifiers, latest_modifiers);
             let v = WheelState {
-                status: status,
-                source: source,
-                modifiers: modifiers,
-                last_wheel_event: time,
+                status: move_status(w.status),
+                source: e.source,
+                modifiers: move_modifiers(w.status, w.modifiers, e.modifiers),
+                last_wheel_event: by.time,
                 ..w
             };
-            on_move(viewport_rect, options, unit, delta, v)
+            on_move(by, e, v)
         }
-        TouchPhase::End => stopped(time, source),
-        TouchPhase::Cancel => stopped(time, source),
+        TouchPhase::End | TouchPhase::Cancel => stopped(by.time, e.source),
     }
 }
 
-pub fn on_wheel_event(
-    w: WheelState,
-    viewport_rect: Rect,
-    options: InputOptions,
-    time: f64,
-    unit: MouseWheelUnit,
-    delta: Vec2,
-    phase: TouchPhase,
-    source: MouseWheelSource,
-    latest_modifiers: Modifiers,
-) -> WheelState
-    ensures { result ≡ on_wheel_event viewport_rect options time unit delta phase source latest_modifiers w }
+#[tactic(auto, unfolding(model::specs::Wheel::on_wheel_event))]
+pub fn on_wheel_event(w: WheelState, by: Measures, e: WheelEvent) -> WheelState
+    ensures { result ≡ on_wheel_event by.viewport_rect by.options by.time e.unit e.delta e.phase e.source e.modifiers w }
 {
-    let v = end_if_over(w, time);
-    on_phase(
-        v,
-        viewport_rect,
-        options,
-        time,
-        unit,
-        delta,
-        phase,
-        source,
-        latest_modifiers,
-    )
+    on_phase(end_if_over(w, by.time), by, e)
 }

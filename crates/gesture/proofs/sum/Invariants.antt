@@ -1,9 +1,7 @@
-use Prim.Native.Nat.{◌≤◌}
 use mathlib.Core.Path.{◌≡◌}
-use lib.ListN.{length, take, drop}
-use Rattle.data.specs.Limits.{max_touches}
+use lib.ListN.{drop}
 use Rattle.model.specs.Touch.{sum_force, sum_pos}
 use Rattle.gesture.proofs.sum.Given as goal
 
-abbrev pub invariant-loop-i : goal.invariant-loop-i
-invariant-loop-i l = (l.i ≤ l.n) × (l.n ≤ length l.a) × (length l.a ≡ max_touches) × (sum_force l.force (drop l.i (take l.n l.a)) ≡ sum_force l.initial.force (take l.n l.a)) × (sum_pos l.pos (drop l.i (take l.n l.a)) ≡ sum_pos l.initial.pos (take l.n l.a))
+abbrev pub invariant-loop-t : goal.invariant-loop-t
+invariant-loop-t l = (sum_force l.force (drop l.t-index l.t-items) ≡ sum_force l.initial.force l.t-items) × (sum_pos l.pos (drop l.t-index l.t-items) ≡ sum_pos l.initial.pos l.t-items)

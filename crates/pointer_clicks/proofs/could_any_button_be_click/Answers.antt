@@ -1,6 +1,8 @@
 use mathlib.Core.Path.{sym, ◌∙◌}
+use Rattle.std.proofs.Common.{rules}
+use Rattle.model.specs.Pointer.{is_release}
+use Rattle.pointer_events.specs.Events.{kind_of}
 use Rattle.pointer_clicks.proofs.Ways.{could_moved, could_long, could_down, could_released}
-use Rattle.pointer_events.specs.Events.{asks}
 use Rattle.pointer_clicks.proofs.could_any_button_be_click.Goals as goal
 
 pub returns-then-moved : goal.returns-then-moved
@@ -15,8 +17,8 @@ returns-then-any_down c ps =
     (could_down _ _ _ (sym c.press_too_long.ensures ∙ c.if-press_too_long.false) (sym c.any_down.ensures ∙ c.if-any_down.true))
 
 pub returns : goal.returns
-unfolding asks
+unfolding is_release kind_of
 returns c ps =
-    c.any.ensures ps
+    c.any.ensures is_release (λ e r p. search rules) ps
     ∙ rw c.if-moved.false
     (could_released _ _ _ (sym c.press_too_long.ensures ∙ c.if-press_too_long.false) (sym c.any_down.ensures ∙ c.if-any_down.false))

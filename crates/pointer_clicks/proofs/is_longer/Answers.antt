@@ -40,6 +40,3 @@ returns-then-e-square c =
     sym
     (outside d past c.args.v (mul-fits binary32 d more) (le_lt_trans +0 d past (holds above) (holds further)) (holds further)
     (holds (rw (c.length_sq64-square.ensures, c.widen-e.ensures) at beyond)))
-
-pub returns : goal.returns
-returns c = rw c.length.ensures

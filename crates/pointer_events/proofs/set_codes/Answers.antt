@@ -1,15 +1,8 @@
-use mathlib.Core.Path.{refl}
+use mathlib.Core.Path.{sym, ◌∙◌}
+use mathlib.Core.List.{[]}
 use native.Mathlib.Omega.{arith}
-use lib.ListN.{length-set}
-use Rattle.pointer_events.specs.Events.{codes_with}
+use Rattle.pointer_events.proofs.Stored.{put_row, codes_stored}
 use Rattle.pointer_events.proofs.set_codes.Goals as goal
 
-pub bounds-codes-i-2 : goal.bounds-codes-i-2
-bounds-codes-i-2 c = simp length-set (omega arith)
-
-pub bounds-codes-i-3 : goal.bounds-codes-i-3
-bounds-codes-i-3 c = simp length-set (omega arith)
-
 pub returns : goal.returns
-unfolding codes_with
-returns c = refl
+returns c = put_row _ _ _ _ _ c.copy_from_slice.ensures.after (omega arith) (omega arith) ∙ sym (codes_stored c.args.codes.now [] c.args.i c.args.x)

@@ -1,10 +1,9 @@
 use mathlib.Core.Path.{◌≡◌}
-use Prim.Native.Nat.{◌≤◌}
 use mathlib.Core.List.{map}
-use lib.ListN.{length, take, drop}
+use lib.ListN.{drop}
 use Rattle.model.specs.Touch.{any_touches}
 use Rattle.touch_device.specs.View.{device_view}
 use Rattle.touch_questions.proofs.any_touches.Given as goal
 
-abbrev pub invariant-loop-i : goal.invariant-loop-i
-invariant-loop-i l = (l.i ≤ l.n) × (l.n ≤ length l.a) × (length l.a ≡ 4) × (any_touches (map device_view (drop l.i (take l.n l.a))) ≡ any_touches (map device_view (take l.n l.a)))
+abbrev pub invariant-loop-d : goal.invariant-loop-d
+invariant-loop-d l = any_touches (map device_view (drop l.d-index l.d-items)) ≡ any_touches (map device_view l.d-items)

@@ -1,18 +1,14 @@
-use mathlib.Core.Path.{◌∙◌}
-use Prim.Native.Nat.{◌≤◌, ◌<◌}
-use native.Mathlib.Omega.{arith}
-use lib.ListN.{length}
-use Rattle.touches.specs.Touches.{list}
+use mathlib.Core.Path.{refl, sym, ◌∙◌}
+use Rattle.model.specs.Touch.{touch_id_of}
 use Rattle.touches.proofs.Places.{set_first}
 use Rattle.touches.proofs.Upsert.{move_at, move_out}
+use Rattle.touches.proofs.Found.{index_found, index_lost}
 use Rattle.touches.proofs.move_to.Goals as goal
 
-pub returns-then-i-len : goal.returns-then-i-len
-returns-then-i-len c =
-    let h : c.index_of-i.result < length (list c.args.ts) = omega arith in
-    set_first _ _ _ _ h ∙ move_at _ _ _ c.index_of-i.ensures
+pub returns-in-Some : goal.returns-in-Some
+returns-in-Some c =
+    let f = index_found touch_id_of _ _ _ (sym (rw c.held.ensures at c.find.ensures) ∙ c.in-Some.is) in
+    set_first _ _ _ _ f.1 ∙ move_at _ _ _ f.0
 
-pub returns-else-i-len : goal.returns-else-i-len
-returns-else-i-len c =
-    let h : length (list c.args.ts) ≤ c.index_of-i.result = omega arith in
-    move_out _ _ _ c.index_of-i.ensures h
+pub returns-in_default : goal.returns-in_default
+returns-in_default c = move_out _ _ _ refl (index_lost touch_id_of _ _ (sym (rw c.held.ensures at c.find.ensures) ∙ c.in_default.is))

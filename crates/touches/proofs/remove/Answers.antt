@@ -1,18 +1,10 @@
-use mathlib.Core.Path.{◌≡◌, ◌∙◌, refl}
+use mathlib.Core.Path.{◌∙◌}
 use native.Mathlib.Omega.{arith}
-use lib.ListN.{length, length-set}
-use Rattle.data.specs.Limits.{max_touches}
-use Rattle.touches.proofs.Places.{first_of, first_le}
+use lib.ListN.{length-set}
+use Rattle.touches.proofs.Places.{first_of}
 use Rattle.touches.proofs.Removal.{kept_start, keeps, drops, kept_end}
 use Rattle.touches.proofs.remove.Goals as goal
 use Rattle.touches.proofs.remove.Goals.{then-x-id, else-x-id}
-
-pub loop-i-init : goal.loop-i-init
-loop-i-init c =
-    let ts = c.args.ts in
-    let l : length ts.places ≡ max_touches = c.well_formed.0.1.1.1.0.1.0.1 in
-    let e = c.len-n.ensures in
-    (omega arith, omega arith, omega (arith, first_le ts.count ts.places), l, refl)
 
 pub loop-i-preserved : goal.loop-i-preserved
 loop-i-preserved c =

@@ -7,6 +7,6 @@ pub returns-then-is_long_press : goal.returns-then-is_long_press
 unfolding reply shown long_press
 returns-then-is_long_press c cs ps p e s o t d = rw (e, s, o, t, d, ← c.is_long_press.ensures cs ps, c.if-is_long_press.true, and-true, c.any_touches.ensures)
 
-pub returns : goal.returns
+pub returns-else-is_long_press : goal.returns-else-is_long_press
 unfolding reply shown long_press
-returns c cs ps p e s o t d = rw (e, s, o, t, d, ← c.is_long_press.ensures cs ps, c.if-is_long_press.false, and-false)
+returns-else-is_long_press c cs ps p e s o t d = rw (e, s, o, t, d, ← c.is_long_press.ensures cs ps, c.if-is_long_press.false, and-false)
