@@ -13,8 +13,5 @@ pub mod lists;
 pub fn kind_at(feed: &[u32], at: usize) -> u32
     ensures { result ≡ kind (get_or feed.now at 0) }
 {
-    if at < feed.len() {
-        return feed[at] / KIND_UNIT;
-    }
-    0
+    feed.get(at).copied().unwrap_or(0) / KIND_UNIT
 }

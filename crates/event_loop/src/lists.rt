@@ -21,6 +21,7 @@ impl Reader {
     ghost use Rattle.event_loop.specs.Lists.{number};
 
     // The number of its list.
+    // Kept (plain): `as` in one place, with the fact that there is a list of that number.
     fn number(self) -> usize
         ensures number { result ≡ number self }
         ensures below { result < list_count }

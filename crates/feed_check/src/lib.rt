@@ -3,12 +3,12 @@
 #![tactic(auto)]
 
 ghost use Rattle.std.specs.Prelude.{◌≡◌, true, ◌&&◌, suc, ◌+◌, ◌/◌, ◌%◌, ◌<◌, ltb, get_or, length, drop};
-ghost use Rattle.data.specs.Limits.{coordinate_ok, zoom_ok, radians_ok, pos_ok, maybe_force_ok};
+ghost use Rattle.data.specs.Limits.{coordinate_ok, pos_ok, maybe_force_ok};
 ghost use Rattle.feed.specs.Split.{kind, low_bits, following};
 ghost use Rattle.feed.specs.Shape.{float_of, pos_of, force_of, shape_by_kind};
 ghost use Rattle.feed.specs.Decode.{check_floats, found_at};
 ghost use Rattle.event_loop.specs.Lists.{reader_of};
-ghost use Rattle.event_loop.specs.declared.lists.Reader.TheVariants.{Sums, Touches};
+ghost use Rattle.event_loop.specs.declared.lists.Reader.TheVariants.{Touches};
 ghost use Rattle.feed_check.specs.Verdict.{verdict_of, verdict_at, judged};
 
 use data::kinds::{
@@ -34,61 +34,39 @@ fn coordinate_word_ok(w: u32) -> bool
     w % SIGN <= MAX_COORDINATE_BITS
 }
 
-fn in_domain(ok: bool, reader: Reader, next: usize) -> Result<(Reader, usize), FeedError>
-    ensures { result ≡ judged true ok reader next }
+// By two tests: of the first word's bits, then of the floats.
+#[tactic(auto, unfolding(crate::specs::Verdict::judged))]
+fn by_tests(
+    bits: bool,
+    floats: bool,
+    reader: Reader,
+    next: usize,
+) -> Result<(Reader, usize), FeedError>
+    ensures { result ≡ judged bits floats reader next }
 {
-    if ok {
-        return Ok((reader, next));
+    if !bits {
+        return Err(FeedError::Malformed);
     }
-    Err(FeedError::OutsideDomain)
-}
-
-// No float to test.
-fn bare(clean: bool, reader: Reader, next: usize) -> Result<(Reader, usize), FeedError>
-    ensures { result ≡ judged clean true reader next }
-{
-    if clean {
-        return Ok((reader, next));
+    if !floats {
+        return Err(FeedError::OutsideDomain);
     }
-    Err(FeedError::Malformed)
+    Ok((reader, next))
 }
 
 // The two words after `at` are coordinates.
 fn placed(
     feed: &[u32],
     at: usize,
-    clean: bool,
+    bits: bool,
     reader: Reader,
     next: usize,
 ) -> Result<(Reader, usize), FeedError>
     requires { at + 2 < length feed.now }
-    ensures { result ≡ judged clean (pos_ok (pos_of (get_or feed.now (at + 1) 0) (get_or feed.now (at + 2) 0))) reader next }
+    ensures { result ≡ judged bits (pos_ok (pos_of (get_or feed.now (at + 1) 0) (get_or feed.now (at + 2) 0))) reader next }
 {
-    if clean {
-        if coordinate_word_ok(feed[at + 1]) {
-            return in_domain(coordinate_word_ok(feed[at + 2]), reader, next);
-        }
-        return Err(FeedError::OutsideDomain);
-    }
-    Err(FeedError::Malformed)
-}
-
-fn zoom(low: u32, x: u32, next: usize) -> Result<(Reader, usize), FeedError>
-    ensures { result ≡ judged (ltb low 1) (zoom_ok (float_of x)) Sums next }
-{
-    if low < 1 {
-        return in_domain(zoom_ok(float_of(x)), Reader::Sums, next);
-    }
-    Err(FeedError::Malformed)
-}
-
-fn rotate(low: u32, x: u32, next: usize) -> Result<(Reader, usize), FeedError>
-    ensures { result ≡ judged (ltb low 1) (radians_ok (float_of x)) Sums next }
-{
-    if low < 1 {
-        return in_domain(radians_ok(float_of(x)), Reader::Sums, next);
-    }
-    Err(FeedError::Malformed)
+    let x_ok = coordinate_word_ok(feed[at + 1]);
+    let y_ok = coordinate_word_ok(feed[at + 2]);
+    by_tests(bits, x_ok & y_ok, reader, next)
 }
 
 // A device's and a touch's id, which may be any, the position, and the force where bit 2 says so.
@@ -114,10 +92,16 @@ fn by_kind(feed: &[u32], at: usize, head: u32, next: usize) -> Result<(Reader, u
     ensures { result ≡ verdict_of (reader_of (kind head)) (found_at (check_floats (shape_by_kind (kind head) (low_bits head) (drop (suc at) feed.now))) next) }
 {
     let low = head % KIND_UNIT;
+    // Kept (01): the decoder matches the kind number over 0 to 15
     match head / KIND_UNIT {
         0 => Err(FeedError::Malformed),
-        KEY_KIND => bare((low < 512) & (low % 256 < KEY_COUNT), Reader::Keys, next),
-        MODIFIERS_KIND => bare(low < 32, Reader::Keys, next),
+        KEY_KIND => by_tests(
+            (low < 512) & (low % 256 < KEY_COUNT),
+            true,
+            Reader::Keys,
+            next,
+        ),
+        MODIFIERS_KIND => by_tests(low < 32, true, Reader::Keys, next),
         MOVED_KIND => placed(feed, at, low < 1, Reader::Pointer, next),
         MOTION_KIND => placed(feed, at, low < 1, Reader::Pointer, next),
         BUTTON_KIND => placed(
@@ -127,9 +111,14 @@ fn by_kind(feed: &[u32], at: usize, head: u32, next: usize) -> Result<(Reader, u
             Reader::Pointer,
             next,
         ),
-        GONE_KIND => bare(low < 1, Reader::Pointer, next),
-        ZOOM_KIND => zoom(low, feed[at + 1], next),
-        ROTATE_KIND => rotate(low, feed[at + 1], next),
+        GONE_KIND => by_tests(low < 1, true, Reader::Pointer, next),
+        ZOOM_KIND => by_tests(low < 1, zoom_ok(float_of(feed[at + 1])), Reader::Sums, next),
+        ROTATE_KIND => by_tests(
+            low < 1,
+            radians_ok(float_of(feed[at + 1])),
+            Reader::Sums,
+            next,
+        ),
         TOUCH_KIND => touch(feed, at, low, next),
         WHEEL_KIND => placed(
             feed,
@@ -138,8 +127,8 @@ fn by_kind(feed: &[u32], at: usize, head: u32, next: usize) -> Result<(Reader, u
             Reader::Wheel,
             next,
         ),
-        FOCUS_KIND => bare(low < 2, Reader::Keys, next),
-        OTHER_KIND => bare(low < 1, Reader::Nobody, next),
+        FOCUS_KIND => by_tests(low < 2, true, Reader::Keys, next),
+        OTHER_KIND => by_tests(low < 1, true, Reader::Nobody, next),
         13..=15 => Err(FeedError::Malformed),
         // four bits: there is no more
         _ => Err(FeedError::Malformed),

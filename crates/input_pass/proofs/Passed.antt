@@ -19,7 +19,7 @@ use Rattle.event_loop.specs.declared.lists.Lists.{Lists}
 use Rattle.event_loop.specs.Lists.{touch_list, listed, listed_events, Listed}
 use Rattle.touch_state.specs.View.{view}
 use Rattle.touch_state.specs.declared.devices.Devices.{Devices}
-use Rattle.survey.specs.Survey.{option, fits_events, fits_survey, crowd_then}
+use Rattle.survey.specs.Survey.{option, fits_events, fits_survey, crowd_then, Read}
 use Rattle.survey.proofs.Places.{survey_is, none_refused, devices_are}
 use Rattle.survey.proofs.Formed.{survey_law, events_law, end_law}
 use Rattle.survey.proofs.Accepted.{accepted}
@@ -27,7 +27,7 @@ use Rattle.touch_ends.proofs.Ended.{ended_own}
 use Rattle.input_state.specs.declared.input.PassInput.{PassInput}
 use Rattle.input_state.specs.declared.state.InputState.{InputState}
 use Rattle.input_state.specs.View.{Lent, panel, input, begin_by, Storage, Ready, Acted}
-use Rattle.input_pass.specs.Begun.{outcome, refusal_of, Looked, Begun}
+use Rattle.input_pass.specs.Begun.{outcome, refusal_of, left_by, Begun}
 use Rattle.input_pass.specs.declared.begin.Begun.{Begun as Answer}
 
 pub some_none : {X : Type 0} {r : PassRefusal} → Some r ≡ None → X
@@ -38,34 +38,28 @@ ended_all : (ws : List ℕ) (s : Lists) → Listed ws s → (time : Float) (p : 
     map (end_touches time p (listed_events ws (listed s touch_list))) vs ≡ map (end_touches time p (shaped_events ws)) vs
 ended_all ws s ls time p vs = rw (ls touch_list (omega arith)) (ended_own time p (shaped_events ws) vs)
 
--- ---- before the events: its own numbers, what reading tells, and the touch events
-module _ (i : PassInput) (ws : List ℕ) (s : Lists) (old : Float) (r : Result ⊤ PassRefusal) (vs : List TouchState) (looked : Looked i ws s old r) where
-  -- the devices after the touch events, as their list tells
-  abbrev held : List TouchState
-  held = fits_events (listed_events ws (listed s touch_list)) vs
+-- refused for its own numbers
+pub own_refused : (i : PassInput) (ws : List ℕ) (old : Float) (vs : List TouchState) (x : PassRefusal) → own_refusal (input ws i) old ≡ Some x → refusal_of i ws old vs ≡ Some x
+unfolding refusal_of or_else
+own_refused i ws old vs x e = rw e
 
-  pub record Surveys (refusal : Option PassRefusal) : Type 0 where
-    pub first : refusal ≡ refusal_of i ws old vs
-    pub devices : refusal_of i ws old vs ≡ None → held ≡ fits_events (shaped_events ws) vs
-    pub ready : refusal_of i ws old vs ≡ None → Ready ws s
+-- ---- before the events: its own numbers are not refused; what reading tells, and the touch events
+module _ (i : PassInput) (ws : List ℕ) (s : Lists) (old : Float) (r : Result ⊤ PassRefusal) (vs : List TouchState)
+    (own : own_refusal (input ws i) old ≡ None) (read : Read ws s r) where
+  pub surveyed : crowd_then ws (listed s touch_list) (λ us. option r) vs ≡ refusal_of i ws old vs
+  unfolding refusal_of or_else
+  surveyed = rw own (survey_is ws s r vs read)
 
-  pub surveys : (refusal : Option PassRefusal) → refusal ≡ crowd_then ws (listed s touch_list) (λ us. option r) vs → Surveys refusal
-  unfolding refusal_of or_else crowd_then
-  surveys refusal is = go (own_refusal (input ws i) old) refl
-    where
-      go : (o : Option PassRefusal) → own_refusal (input ws i) old ≡ o → Surveys refusal
-      go (Some q) e =
-          let own = looked.own q e in
-          let none_counted : refusal ≡ Some q = is ∙ rw own.1 own.0 in
-          record { first = none_counted ∙ rw e; devices = λ z. some_none (rw e at z); ready = λ z. some_none (rw e at z) }
-      go None e =
-          let read = looked.read e in
-          let same : refusal ≡ fits_survey max_events (items ws) vs = is ∙ survey_is ws s r vs read in
-          record {
-            first = same ∙ rw e;
-            devices = λ z. devices_are ws s r vs read (rw e at z);
-            ready = λ z. record { lists = read.lists (none_refused ws s r vs read (rw e at z)); few = (accepted ws max_events vs (rw e at z)).1 };
-          }
+  module _ (z : refusal_of i ws old vs ≡ None) where
+    none_found : fits_survey max_events (items ws) vs ≡ None
+    unfolding refusal_of or_else
+    none_found = rw own at z
+
+    pub devices_held : fits_events (listed_events ws (listed s touch_list)) vs ≡ fits_events (shaped_events ws) vs
+    devices_held = devices_are ws s r vs read none_found
+
+    pub ready : Ready ws s
+    ready = record { lists = read.lists (none_refused ws s r vs read none_found); few = (accepted ws max_events vs none_found).1 }
 
 none_later : (a b : Option PassRefusal) → or_else a b ≡ None → b ≡ None
 unfolding or_else
@@ -97,14 +91,17 @@ begin_is : (p : Panel) (i : Pass.PassInput) → begin_by (pass_events i) (touch_
 unfolding begin_by begin_pass touch_pass
 begin_is p i = refl
 
-module _ (i : PassInput) (ws : List ℕ) (l l' : Lent) (s : InputState) (ds : Devices) (r : Answer) where
+module _ (i : PassInput) (ws : List ℕ) (l l' : Lent) (s : InputState) (ds : Devices) (r : Result Answer PassRefusal) where
+  abbrev b : Answer
+  b = left_by s ds r
+
   abbrev first : Option PassRefusal
   first = refusal_of i ws s.clock.time (view ds)
 
   abbrev now : Interaction → ℕ → Panel
-  now n t = panel l' r.state (view r.devices) n t
+  now n t = panel l' b.state (view b.devices) n t
 
-  module _ (q : option r.refusal ≡ first) (o : InOrder (view ds)) (n : Interaction) (t : ℕ) where
+  module _ (q : option r ≡ first) (o : InOrder (view ds)) (n : Interaction) (t : ℕ) where
     abbrev old : Panel
     old = panel l s (view ds) n t
 
@@ -112,7 +109,7 @@ module _ (i : PassInput) (ws : List ℕ) (l l' : Lent) (s : InputState) (ds : De
     unfolding refusal_of pass_refusal
     same_refusal = rw (survey_law max_events (items ws) (view ds) o)
 
-    refused_whole : (x : PassRefusal) → first ≡ Some x → outcome (option r.refusal) (now n t) ≡ pass old (input ws i)
+    refused_whole : (x : PassRefusal) → first ≡ Some x → outcome (option r) (now n t) ≡ pass old (input ws i)
     unfolding pass pass_by outcome
     refused_whole x h = rw (q, ← same_refusal, h)
 
@@ -121,7 +118,7 @@ module _ (i : PassInput) (ws : List ℕ) (l l' : Lent) (s : InputState) (ds : De
     survey_none h = none_later (own_refusal (input ws i) s.clock.time) _ h
 
     taken_whole : first ≡ None → now n t ≡ begin_by (pass_events (input ws i)) (fits_events (pass_events (input ws i)) (view ds)) old (input ws i) →
-        outcome (option r.refusal) (now n t) ≡ pass old (input ws i)
+        outcome (option r) (now n t) ≡ pass old (input ws i)
     unfolding pass pass_by outcome pass_events
     taken_whole h e =
         let v = (events_law max_events (items ws) (view ds) o (survey_none h)).0 in
@@ -131,7 +128,7 @@ module _ (i : PassInput) (ws : List ℕ) (l l' : Lent) (s : InputState) (ds : De
   some_not_none x h z = some_none (sym h ∙ z)
 
   -- a pass that is refused
-  pub refused_pass : (x : PassRefusal) → option r.refusal ≡ first → option r.refusal ≡ Some x → r.state ≡ s → r.devices ≡ ds → l' ≡ l → Begun i ws l s ds l' r
+  pub refused_pass : (x : PassRefusal) → option r ≡ first → option r ≡ Some x → b.state ≡ s → b.devices ≡ ds → l' ≡ l → Begun i ws l s ds l' r
   refused_pass x q y es ed el =
       let h : first ≡ Some x = sym q ∙ y in
       record {
@@ -145,24 +142,24 @@ module _ (i : PassInput) (ws : List ℕ) (l l' : Lent) (s : InputState) (ds : De
       }
 
   -- a pass that is taken
-  pub taken_pass : (ls : Lists) (held : List TouchState) (time : Float) → option r.refusal ≡ first → option r.refusal ≡ None →
+  pub taken_pass : (ls : Lists) (held : List TouchState) (time : Float) → option r ≡ first → option r ≡ None →
       (first ≡ None → held ≡ fits_events (shaped_events ws) (view ds)) →
       (first ≡ None → Ready ws ls) →
       time ≡ time_or i.time i.predicted_dt s.clock.time →
-      view r.devices ≡ map (end_touches time s.pointer.place.interact_pos (listed_events ws (listed ls touch_list))) held →
-      Acted i ws l s l' r.state → Begun i ws l s ds l' r
+      view b.devices ≡ map (end_touches time s.pointer.place.interact_pos (listed_events ws (listed ls touch_list))) held →
+      Acted i ws l s l' b.state → Begun i ws l s ds l' r
   unfolding pass_events
   taken_pass ls held time q y e ready tm m act =
       let h : first ≡ None = sym q ∙ y in
       let k = m ∙ ended_all ws ls (ready h).lists time s.pointer.place.interact_pos held in
       let same : (n : Interaction) (t : ℕ) → now n t ≡ begin_by (events_of (items ws)) (fits_events (events_of (items ws)) (view ds)) (panel l s (view ds) n t) (input ws i) =
-      λ n t. taken_is i ws l l' s r.state ds h act n t r.devices held time (e h) tm k in
+      λ n t. taken_is i ws l l' s b.state ds h act n t b.devices held time (e h) tm k in
       record {
         refusal = q;
         answer = ap (option_map pass_row) q;
         refused = λ z. absurd (z h);
         taken = λ z. same;
-        storage = λ z. storage_is i ws l l' s r.state ds h act;
+        storage = λ z. storage_is i ws l l' s b.state ds h act;
         whole = λ o n t. taken_whole q o n t h (same n t);
         in_order =
             λ o.

@@ -1,6 +1,5 @@
 // A pass: refused with all left as before, or taken.
 ghost use Rattle.input_state.specs.View.{lent};
-ghost use Rattle.input_pass.specs.Begun.{Looked};
 ghost use Rattle.input_pass.specs.Begun.{Begun as BegunAs};
 
 use data::refusal::PassRefusal;
@@ -14,27 +13,16 @@ use survey::reading::read;
 use touch_ends::pass::touch_pass;
 use touch_state::devices::Devices;
 
-// The state and the devices after the pass, and the refusal if there is one.
+// The state and the devices after a pass that is taken.
 #[derive(Clone, Copy)]
 pub struct Begun {
     pub state: InputState,
     pub devices: Devices,
-    pub refusal: Result<(), PassRefusal>,
 }
 
-// "2 for its own numbers, 3, then event by event 4, 1, 2". Where its own numbers are refused no event is counted.
-fn look(old: f64, i: PassInput, feed: &[u32], lists: &mut Lists) -> Result<(), PassRefusal>
-    ensures { Looked i feed.now lists.new old result }
-{
-    lists.clear();
-    let own = own_refusal(i, old);
-    match own {
-        Ok(()) => read(feed, lists),
-        Err(q) => Err(q),
-    }
-}
-
-// egui's `begin_pass`. A gesture starts at the interact position of the pass before.
+// egui's `begin_pass`. Refused, every place is as before: "2 for its own numbers, 3, then event by event 4, 1, 2, 5".
+// A gesture starts at the interact position of the pass before.
+// Kept (plain): lent one by one: of a struct that holds a `&mut` each clause would have to say what stands behind it afterwards.
 pub fn begin_pass(
     s: InputState,
     ds: Devices,
@@ -45,37 +33,19 @@ pub fn begin_pass(
     presses: &mut [u8; PRESSES],
     i: PassInput,
     feed: &[u32],
-) -> Begun
+) -> Result<Begun, PassRefusal>
     ensures { BegunAs
         i feed.now
         (lent times.old positions.old codes.old places.old presses.old) s ds
         (lent times.new positions.new codes.new places.new presses.new) result }
 {
-    let clock = s.clock;
-    let pointer = s.pointer;
-    let place = pointer.place;
-    let pos = place.interact_pos;
-    let given = i.time;
-    let time = time_of(given, i.predicted_dt, clock.time);
+    own_refusal(i, s.clock.time)?;
+    let time = time_of(i.time, i.predicted_dt, s.clock.time);
+    let pos = s.pointer.place.interact_pos;
     let mut lists = Lists::new();
-    let later = look(clock.time, i, feed, &mut lists);
+    let later = read(feed, &mut lists);
     let touches = lists.places(Reader::Touches);
-    let passed = touch_pass(ds, feed, touches, later, time, pos);
-    let refusal = passed.refusal;
-    match refusal {
-        Err(q) => Begun {
-            state: s,
-            devices: ds,
-            refusal: Err(q),
-        },
-        Ok(()) => {
-            let state = act(s, times, positions, codes, places, presses, i, feed, &lists);
-            let devices = passed.devices;
-            Begun {
-                state,
-                devices,
-                refusal: Ok(()),
-            }
-        }
-    }
+    let devices = touch_pass(ds, feed, touches, later, time, pos)?;
+    let state = act(s, times, positions, codes, places, presses, i, feed, &lists);
+    Ok(Begun { state, devices })
 }

@@ -49,6 +49,7 @@ fn until_menu(options: InputOptions, time: f64, start: Option<f64>) -> Option<f6
 }
 
 // In f64 seconds; `time` is the panel's, `pointer_time` that of the pointer's last pass.
+// Kept (plain): it takes what it reads, and its promise is about every panel that shows so much.
 pub fn wants_repaint_after(
     p: Place,
     s: Press,

@@ -32,7 +32,7 @@ pub fn clock_pass(c: Clock, i: PassInput, time: f64) -> Clock
     let dt = ieee_narrow::narrow(time - c.time);
     if i.requested_repaint {
         return Clock {
-            time: time,
+            time,
             pointer_time: time,
             unstable_dt: dt,
             stable_dt: dt,
@@ -40,7 +40,7 @@ pub fn clock_pass(c: Clock, i: PassInput, time: f64) -> Clock
         };
     }
     Clock {
-        time: time,
+        time,
         pointer_time: time,
         unstable_dt: dt,
         stable_dt: i.predicted_dt,

@@ -1,6 +1,6 @@
 // What a pass is given beside its feed, and the refusals that it decides alone.
 ghost use Rattle.std.specs.Prelude.{◌≡◌, List, ℕ};
-ghost use Rattle.model.specs.Pass.{time_or, rect_or, rect_given_ok, own_numbers_ok, own_refusal};
+ghost use Rattle.model.specs.Pass.{time_or, rect_given_ok, own_numbers_ok, own_refusal};
 ghost use Rattle.survey.specs.Survey.{option};
 ghost use Rattle.input_state.specs.View.{input};
 
@@ -26,40 +26,23 @@ pub struct PassInput {
 pub fn time_of(time: Option<f64>, predicted_dt: f32, old: f64) -> f64
     ensures { result ≡ time_or time predicted_dt old }
 {
-    match time {
-        None => old + ieee::widen::widen(predicted_dt),
-        Some(t) => t,
-    }
-}
-
-pub fn rect_or(given: Option<Rect>, old: Rect) -> Rect
-    ensures { result ≡ rect_or given old }
-{
-    match given {
-        None => old,
-        Some(r) => r,
-    }
+    time.unwrap_or(old + ieee::widen::widen(predicted_dt))
 }
 
 fn rect_given_ok(given: Option<Rect>) -> bool
     ensures { result ≡ rect_given_ok given }
 {
-    match given {
-        None => true,
-        Some(r) => rect_ok(r),
-    }
+    given.is_none_or(rect_ok)
 }
 
 fn own_numbers_ok(i: PassInput, time: f64) -> bool
     ensures { (ws : List ℕ) → result ≡ own_numbers_ok (input ws i) time }
 {
-    let given = i.screen_rect;
-    let options = i.options;
     let dt = unit_interval_ok(i.predicted_dt);
     let factor = unit_interval_ok(i.smoothing_factor);
     let scale = scale_ok(i.pixels_per_point);
-    let rect = rect_given_ok(given);
-    let opts = options_ok(options);
+    let rect = rect_given_ok(i.screen_rect);
+    let opts = options_ok(i.options);
     time_ok(time) & (dt & (factor & (scale & (rect & opts))))
 }
 
@@ -67,8 +50,7 @@ fn own_numbers_ok(i: PassInput, time: f64) -> bool
 pub fn own_refusal(i: PassInput, old: f64) -> Result<(), PassRefusal>
     ensures { (ws : List ℕ) → option result ≡ own_refusal (input ws i) old }
 {
-    let given = i.time;
-    let time = time_of(given, i.predicted_dt, old);
+    let time = time_of(i.time, i.predicted_dt, old);
     if own_numbers_ok(i, time) {
         if time < old {
             return Err(PassRefusal::TimeBelow);

@@ -22,6 +22,7 @@ pub struct Pointer {
 }
 
 // Of the events in the pointer's list. `before` and `old` are the pointer's time and the options before the pass.
+// Kept (plain): lent one by one: of a struct that holds a `&mut` each clause would have to say what stands behind it afterwards.
 pub fn pointer_pass(
     p: Pointer,
     times: &mut [f64; MAX_LEN],
@@ -40,22 +41,14 @@ pub fn pointer_pass(
         times.old positions.old codes.old places.old p
         times.new positions.new codes.new places.new result }
 {
-    let old_place = p.place;
-    let old_press = p.press;
-    let old_held = old_press.held;
-    let old_past = old_press.past;
-    let old_last = p.last_move_time;
-    let moved = old_past.has_moved_too_much_for_a_click;
-    let was = is_decidedly_dragging(old_held, codes, old, before, moved);
+    let moved = p.press.past.has_moved_too_much_for_a_click;
+    let was = is_decidedly_dragging(p.press.held, codes, old, before, moved);
     let events = lists.places(Reader::Pointer);
-    let place = place_pass(old_place, times, positions, time, feed, events);
-    let press = press_pass(old_press, codes, places, options, time, feed, lists);
-    let held = press.held;
-    let past = press.past;
-    let spoilt = past.has_moved_too_much_for_a_click;
-    let started = started_decidedly_dragging(held, codes, options, time, spoilt, was);
-    let velocity = place.velocity;
-    let last = last_move_time(held, codes, velocity, time, old_last);
+    let place = place_pass(p.place, times, positions, time, feed, events);
+    let press = press_pass(p.press, codes, places, options, time, feed, lists);
+    let spoilt = press.past.has_moved_too_much_for_a_click;
+    let started = started_decidedly_dragging(press.held, codes, options, time, spoilt, was);
+    let last = last_move_time(press.held, codes, place.velocity, time, p.last_move_time);
     Pointer {
         place,
         press,

@@ -4,7 +4,7 @@ ghost use Rattle.model.specs.Options.{default_options};
 ghost use Rattle.model.specs.Pass.{fresh, screen_pass};
 ghost use Rattle.input_state.specs.View.{screen, input};
 
-use crate::input::{PassInput, rect_or};
+use crate::input::PassInput;
 use data::modifiers::Modifiers;
 use data::options::InputOptions;
 use emath::pos2::Pos2;
@@ -23,21 +23,21 @@ pub fn default_options() -> InputOptions
     ensures { result ≡ default_options }
 {
     let none = Modifiers::none();
-    let mut command = none;
-    command.command = true;
-    let mut shift = none;
-    shift.shift = true;
-    let mut alt = none;
-    alt.alt = true;
     InputOptions {
         line_scroll_speed: 40.0,
         scroll_zoom_speed: 1.0 / 200.0,
         max_click_dist: 6.0,
         max_click_duration: 0.8,
         max_double_click_delay: 0.3,
-        zoom_modifier: command,
-        horizontal_scroll_modifier: shift,
-        vertical_scroll_modifier: alt,
+        zoom_modifier: Modifiers {
+            command: true,
+            ..none
+        },
+        horizontal_scroll_modifier: Modifiers {
+            shift: true,
+            ..none
+        },
+        vertical_scroll_modifier: Modifiers { alt: true, ..none },
     }
 }
 
@@ -62,14 +62,10 @@ pub fn fresh_screen() -> Screen
 pub fn screen_pass(s: Screen, i: PassInput) -> Screen
     ensures { (ws : List ℕ) → screen result ≡ screen_pass (input ws i) (screen s) }
 {
-    let given = i.screen_rect;
-    let old = s.viewport_rect;
-    let viewport_rect = rect_or(given, old);
-    let options = i.options;
     Screen {
-        viewport_rect,
+        viewport_rect: i.screen_rect.unwrap_or(s.viewport_rect),
         pixels_per_point: i.pixels_per_point,
         focused: i.focused,
-        options,
+        options: i.options,
     }
 }

@@ -1,8 +1,12 @@
 // The state between passes, without the touch devices and the lent arrays.
+ghost use Rattle.std.specs.Prelude.{◌≡◌};
+ghost use Rattle.model.specs.Wheel.{wheel_pass};
+ghost use Rattle.model.specs.Pass.{rect_or};
+ghost use Rattle.event_loop.specs.Lists.{listed, listed_events, wheel_list};
 ghost use Rattle.input_state.specs.View.{Fresh, Ready, Acted, lent};
 
 use crate::clock::{Clock, clock_pass, fresh_clock};
-use crate::input::{PassInput, rect_or, time_of};
+use crate::input::{PassInput, time_of};
 use crate::pointer::{Pointer, pointer_pass};
 use crate::screen::{Screen, fresh_screen, screen_pass};
 use crate::sums::{Sums, fresh_sums, sums_of};
@@ -13,6 +17,7 @@ use key_state::keys::{Keys, PRESSES, keys_pass};
 use pointer_events::{CODES, PLACES};
 use pointer_place::Place;
 use pointer_state::press::Press;
+use wheel_event::Measures;
 use wheel_loop::wheel_pass;
 
 #[derive(Clone, Copy)]
@@ -52,7 +57,21 @@ pub fn fresh() -> InputState
     }
 }
 
+// The wheel's part, over the screen of the pass.
+fn wheel_part(s: InputState, i: PassInput, time: f64, feed: &[u32], lists: &Lists) -> WheelState
+    ensures { result ≡ wheel_pass (rect_or i.screen_rect s.screen.viewport_rect) i.options time i.smoothing_factor (listed_events feed.now (listed lists.now wheel_list)) s.wheel }
+{
+    let by = Measures {
+        viewport_rect: i.screen_rect.unwrap_or(s.screen.viewport_rect),
+        options: i.options,
+        time,
+    };
+    let scrolls = lists.places(Reader::Wheel);
+    wheel_pass(s.wheel, by, i.smoothing_factor, feed, scrolls)
+}
+
 // A pass that is taken, for all but the devices.
+// Kept (plain): lent one by one: of a struct that holds a `&mut` each clause would have to say what stands behind it afterwards.
 pub fn act(
     s: InputState,
     times: &mut [f64; MAX_LEN],
@@ -70,52 +89,28 @@ pub fn act(
         (lent times.old positions.old codes.old places.old presses.old) s
         (lent times.new positions.new codes.new places.new presses.new) result }
 {
-    let old_clock = s.clock;
-    let old_screen = s.screen;
-    let old_options = old_screen.options;
-    let old_rect = old_screen.viewport_rect;
-    let old_pointer = s.pointer;
-    let old_wheel = s.wheel;
-    let old_keys = s.keys;
-    let options = i.options;
-    let given_time = i.time;
-    let given_rect = i.screen_rect;
-    let time = time_of(given_time, i.predicted_dt, old_clock.time);
-    let rect = rect_or(given_rect, old_rect);
-    let clock = clock_pass(old_clock, i, time);
-    let screen = screen_pass(old_screen, i);
+    let time = time_of(i.time, i.predicted_dt, s.clock.time);
     let pointer = pointer_pass(
-        old_pointer,
+        s.pointer,
         times,
         positions,
         codes,
         places,
-        old_options,
-        old_clock.pointer_time,
-        options,
+        s.screen.options,
+        s.clock.pointer_time,
+        i.options,
         time,
         feed,
         lists,
     );
-    let scrolls = lists.places(Reader::Wheel);
-    let wheel = wheel_pass(
-        old_wheel,
-        rect,
-        options,
-        time,
-        i.smoothing_factor,
-        feed,
-        scrolls,
-    );
-    let keys = keys_pass(old_keys, presses, feed, lists);
+    let wheel = wheel_part(s, i, time, feed, lists);
     let zooms = lists.places(Reader::Sums);
-    let sums = sums_of(options, feed, zooms, wheel);
     InputState {
-        clock,
-        screen,
+        clock: clock_pass(s.clock, i, time),
+        screen: screen_pass(s.screen, i),
         pointer,
         wheel,
-        keys,
-        sums,
+        keys: keys_pass(s.keys, presses, feed, lists),
+        sums: sums_of(i.options, feed, zooms, wheel),
     }
 }

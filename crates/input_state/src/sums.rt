@@ -34,24 +34,21 @@ pub fn fresh_sums() -> Sums
 pub fn sums_of(options: InputOptions, feed: &[u32], places: &[u16], w: WheelState) -> Sums
     ensures { sums result ≡ sums_of options (listed_events feed.now places.now) w }
 {
-    let factor = zoom_of(feed, places);
-    let radians = rotation_of(feed, places);
+    let zoom_factor = zoom_of(feed, places);
+    let rotation_radians = rotation_of(feed, places);
     let smooth = w.smooth_wheel_delta;
-    let modifiers = w.modifiers;
-    let pattern = options.zoom_modifier;
-    if modifiers.matches_any(pattern) {
-        let zero = Vec2::zero();
+    if w.modifiers.matches_any(options.zoom_modifier) {
         return Sums {
-            zoom_factor: factor,
+            zoom_factor,
             zoom_exponent: options.scroll_zoom_speed * (smooth.x + smooth.y),
-            rotation_radians: radians,
-            smooth_scroll_delta: zero,
+            rotation_radians,
+            smooth_scroll_delta: Vec2::zero(),
         };
     }
     Sums {
-        zoom_factor: factor,
+        zoom_factor,
         zoom_exponent: 0.0,
-        rotation_radians: radians,
+        rotation_radians,
         smooth_scroll_delta: smooth,
     }
 }

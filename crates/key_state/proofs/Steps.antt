@@ -2,7 +2,7 @@
 use mathlib.Core.Path.{◌≡◌, refl, sym, ap, ap₂, fun_ext, ◌∙◌}
 use mathlib.Core.Bool.{Bool, true, false, cond}
 use mathlib.Core.List.{List, [], ◌∷◌, ◌++◌}
-use Prim.Native.Nat.{ℕ, zero, suc, ◌+◌, ◌≤◌, ◌<◌}
+use Prim.Native.Nat.{ℕ, zero, suc, ◌+◌, ◌≤◌, ◌<◌, min}
 use native.Mathlib.Omega.{arith}
 use lib.Dec.{T, eqb, ltb}
 use lib.Ieee.Bits.{is_true}
@@ -164,3 +164,12 @@ more e s new n r h j =
     let before = r j in
     let g : new.presses j ≤ s.presses j + 1 = rw (ap (λ (k : Pass.Keys). k.presses j) h) (grows e s j) in
     omega arith
+
+-- a byte that stays at 255
+pub saturated : (n : ℕ) → n < 256 → min (n + 1) 255 ≡ one_more n
+unfolding one_more
+saturated n h = go (ltb n 255) refl
+  where
+    go : (b : Bool) → ltb n 255 ≡ b → min (n + 1) 255 ≡ cond b (n + 1) n
+    go true q = let l : n < 255 = ltb-true n 255 q in omega arith
+    go false q = let l : 255 ≤ n = ltb-false n 255 q in omega arith

@@ -2,6 +2,7 @@
 ghost use Rattle.std.specs.Prelude.{◌≡◌, false, ℕ, ◌^◌, ◌<◌};
 ghost use Rattle.key_state.specs.Bits.{bit, word_with, has, with_member};
 
+// Kept (01): a 256-bit set, in four words.
 #[derive(Clone, Copy)]
 pub struct Set256 {
     pub words: [u64; 4],
@@ -51,9 +52,8 @@ pub fn has(s: Set256, k: u32) -> bool
     ensures { result ≡ has s k }
 {
     if k < 256 {
-        let words = s.words;
         let i = (k / 64) as usize;
-        return bit(words[i], k % 64);
+        return bit(s.words[i], k % 64);
     }
     false
 }

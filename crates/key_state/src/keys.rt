@@ -46,12 +46,7 @@ fn count_press(presses: &mut [u8], place: usize)
     requires { place < length presses.old }
     ensures { presses.new ≡ set presses.old place (one_more (get_or presses.old place 0)) }
 {
-    let n = presses[place];
-    if n < 255 {
-        presses[place] = n + 1;
-        return;
-    }
-    presses[place] = n;
+    presses[place] = presses[place].saturating_add(1);
 }
 
 // A key that egui names: one that a feed's event has.
@@ -60,8 +55,7 @@ fn key(k: Keys, presses: &mut [u8; PRESSES], place: u32, pressed: bool) -> Keys
     requires room { Room presses.old }
     ensures { Stepped (Key place pressed) presses.old k presses.new result }
 {
-    let old = k.down;
-    let down = crate::bits::set(old, place, pressed);
+    let down = crate::bits::set(k.down, place, pressed);
     if pressed {
         count_press(presses, place as usize);
         return Keys { down, ..k };
@@ -135,26 +129,18 @@ pub fn keys_pass(k: Keys, presses: &mut [u8; PRESSES], feed: &[u32], lists: &Lis
 pub fn key_down(k: Keys, key: u32) -> bool
     ensures { (presses : List ℕ) → result ≡ (keys presses k).keys_down key }
 {
-    if key < KEY_COUNT {
-        let down = k.down;
-        return crate::bits::has(down, key);
-    }
-    false
+    key < KEY_COUNT && crate::bits::has(k.down, key)
 }
 
 // How often it was pressed in the pass.
 pub fn num_presses(presses: &[u8; PRESSES], key: u32) -> u8
     ensures { (k : Keys) → result ≡ (keys presses.now k).presses key }
 {
-    if key < KEY_COUNT {
-        return presses[key as usize];
-    }
-    0
+    presses.get(key as usize).copied().unwrap_or(0)
 }
 
 pub fn key_pressed(presses: &[u8; PRESSES], key: u32) -> bool
     ensures { (k : Keys) → result ≡ ltb 0 ((keys presses.now k).presses key) }
 {
-    let n = num_presses(presses, key);
-    0 < n
+    0 < num_presses(presses, key)
 }

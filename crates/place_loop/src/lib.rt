@@ -85,6 +85,7 @@ fn gone(feed: &[u32], places: &[u16]) -> bool
 }
 
 // The pointer's place after a pass, of the events at some places.
+// Kept (plain): lent one by one: of a struct that holds a `&mut` each clause would have to say what stands behind it afterwards.
 pub fn place_pass(
     p: Place,
     times: &mut [f64; MAX_LEN],
@@ -97,9 +98,8 @@ pub fn place_pass(
         time (listed_events feed.now places.now)
         times.old positions.old p times.new positions.new result }
 {
-    let old = p.latest_pos;
     let started = start_place(p);
     let moved = place_events(started, feed, places);
     let is_gone = gone(feed, places);
-    end_place(moved, times, positions, time, old, is_gone)
+    end_place(moved, times, positions, time, p.latest_pos, is_gone)
 }

@@ -17,6 +17,7 @@ use pointer_events::{CODES, PLACES};
 use pointer_state::press::{Press, button_event, moved};
 
 // Of the pointer's kinds moves and buttons are read, and each goes straight to its step.
+// Kept (plain): lent one by one: of a struct that holds a `&mut` each clause would have to say what stands behind it afterwards.
 fn press_at(
     s: Press,
     codes: &mut [u32; CODES],
@@ -51,6 +52,7 @@ fn press_at(
 }
 
 // The presses' part of a pass, of the events in the pointer's list.
+// Kept (plain): lent one by one: of a struct that holds a `&mut` each clause would have to say what stands behind it afterwards.
 pub fn press_pass(
     s: Press,
     codes: &mut [u32; CODES],
@@ -64,10 +66,8 @@ pub fn press_pass(
         options time (listed_events feed.now (listed lists.now pointer_list))
         codes.old positions.old s codes.new positions.new result }
 {
-    let old = s.held;
-    let past = s.past;
-    let held = clear_events(old);
-    let mut t = Press { held, past };
+    let held = clear_events(s.held);
+    let mut t = Press { held, ..s };
     let events = lists.places(Reader::Pointer);
     for at in events {
         t = press_at(t, codes, positions, options, time, feed, *at as usize);

@@ -14,9 +14,9 @@ use Rattle.event_loop.specs.declared.lists.Lists.{Lists}
 use Rattle.event_loop.specs.Lists.{touch_list, listed, Listed}
 use Rattle.data.specs.declared.refusal.PassRefusal.{PassRefusal}
 
--- the answer as an Option
-unfoldable pub option : Result ⊤ PassRefusal → Option PassRefusal
-option (Ok tt) = None
+-- the refusal of an answer, if there is one
+unfoldable pub option : {A : Type 0} → Result A PassRefusal → Option PassRefusal
+option (Ok x) = None
 option (Err r) = Some r
 
 -- `touch_event`, of what fits

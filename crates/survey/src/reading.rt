@@ -12,22 +12,22 @@ pub fn read(feed: &[u32], lists: &mut Lists) -> Result<(), PassRefusal>
     ensures { Read feed.now lists.new result }
 {
     lists.clear();
-    let mut n: usize = 0;
     let mut at: usize = 0;
-    // by hand: the place moves by the event's length
-    while at < feed.len() {
-        if n == MAX_EVENTS {
-            return Err(PassRefusal::TooManyEvents(at));
+    for _n in 0..MAX_EVENTS {
+        if at >= feed.len() {
+            return Ok(());
         }
         match verdict_at(feed, at) {
             Ok((reader, next)) => {
                 lists.push(reader, at as u16);
-                n += 1;
                 at = next;
             }
             Err(FeedError::Malformed) => return Err(PassRefusal::Malformed(at)),
             Err(FeedError::OutsideDomain) => return Err(PassRefusal::OutsideDomain(at)),
         }
+    }
+    if at < feed.len() {
+        return Err(PassRefusal::TooManyEvents(at));
     }
     Ok(())
 }

@@ -14,13 +14,6 @@ use data::touch::TouchPhase;
 use touch_device::Device;
 use touch_state::devices::{Devices, add, known_at, no_place};
 
-// The first refusal, and where there is none the devices after the touch events.
-#[derive(Clone, Copy)]
-pub struct Surveyed {
-    pub refusal: Result<(), PassRefusal>,
-    pub devices: Devices,
-}
-
 // Is there no place for a touch event: of the device at place k, or of one that is not known?
 fn is_crowded(
     held: Devices,
@@ -38,9 +31,14 @@ fn is_crowded(
     no_place(held, device_id, phase, id)
 }
 
-// The touch events at their places; `later` is what is refused after them.
+// The devices after the touch events at their places, or the first refusal; `later` is what is refused after them.
 // `device` is the one of the last event, at place k; it is put back when another's turn comes. MAX_DEVICES is no place.
-pub fn crowd(ds: Devices, feed: &[u32], places: &[u16], later: Result<(), PassRefusal>) -> Surveyed
+pub fn crowd(
+    ds: Devices,
+    feed: &[u32],
+    places: &[u16],
+    later: Result<(), PassRefusal>,
+) -> Result<Devices, PassRefusal>
     ensures { Crowded feed.now places.now (option later) (view ds) result }
 {
     let mut held = ds;
@@ -58,16 +56,13 @@ pub fn crowd(ds: Devices, feed: &[u32], places: &[u16], later: Result<(), PassRe
                     if k < MAX_DEVICES {
                         held.places[k] = device;
                     }
-                    k = known_at(held, e.device_id);
+                    k = known_at(held, e.device_id).unwrap_or(MAX_DEVICES);
                     if k < MAX_DEVICES {
                         device = held.places[k];
                     }
                 }
                 if is_crowded(held, k, device, e.device_id, phase, touch.id) {
-                    return Surveyed {
-                        refusal: Err(PassRefusal::NoPlace(at)),
-                        devices: held,
-                    };
+                    return Err(PassRefusal::NoPlace(at));
                 }
                 if k < MAX_DEVICES {
                     device = touch_device::on_touch(device, phase, touch);
@@ -77,11 +72,9 @@ pub fn crowd(ds: Devices, feed: &[u32], places: &[u16], later: Result<(), PassRe
             }
         }
     }
+    later?;
     if k < MAX_DEVICES {
         held.places[k] = device;
     }
-    Surveyed {
-        refusal: later,
-        devices: held,
-    }
+    Ok(held)
 }

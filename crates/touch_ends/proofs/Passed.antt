@@ -1,5 +1,5 @@
 -- The devices in a pass, as its parts tell. Assumes nothing.
-use Rattle.std.specs.Prelude.{Option, Result, ⊤}
+use Rattle.std.specs.Prelude.{Option, Ok, Err, ⊤}
 use mathlib.Core.Path.{◌≡◌, refl}
 use mathlib.Core.List.{List, [], ◌∷◌}
 use Prim.Native.Nat.{ℕ}
@@ -19,11 +19,11 @@ none [] h = refl
 none (p ∷ ps) h = absurd (omega arith)
 
 -- no device and no touch event
-pub nothing : (ws ps : List ℕ) (later : Result ⊤ PassRefusal) (time : Float) (pos : Option Pos2) (ds : Devices) → ps ≡ [] → ds.count ≡ 0 →
-    TouchPassed ws ps (option later) time pos (view ds) (record { refusal = later; devices = ds })
-unfolding crowd_then
-nothing ws ps later time pos ds e z =
-    record {
-      refusal = rw e;
-      devices = λ q. rw (e, fits_loop.begins ws (view ds)) (rw z);
-    }
+module _ (ws ps : List ℕ) (time : Float) (pos : Option Pos2) (ds : Devices) (e : ps ≡ []) where
+  pub nothing_refused : (q : PassRefusal) → TouchPassed ws ps (option {A = ⊤} (Err q)) time pos (view ds) (Err q)
+  unfolding crowd_then option
+  nothing_refused q = record { refusal = rw e; devices = tt }
+
+  pub nothing : ds.count ≡ 0 → TouchPassed ws ps (option {A = ⊤} (Ok tt)) time pos (view ds) (Ok ds)
+  unfolding crowd_then option
+  nothing z = record { refusal = rw e; devices = rw (e, fits_loop.begins ws (view ds)) (rw z) }

@@ -1,4 +1,5 @@
 // Zoom and rotation of egui's input_state/mod.rs: the product of the pass's zoom factors and the sum of its radians.
+// Kept (plain): a step and a loop for each. The start, the kind, the event and the operator differ; what is the same is the line of the `for`.
 #![tactic(auto)]
 
 ghost use Rattle.std.specs.Prelude.{◌≡◌};

@@ -38,11 +38,11 @@ returns-in-0 c = rw c.in-0.is
 
 pub returns-in-1 : goal.returns-in-1
 unfolding shape_by_kind event_ok key_shape
-returns-in-1 c = rw c.in-1.is (c.bare.ensures ∙ sym (field_is _ _ _ 512 _ key_count _))
+returns-in-1 c = rw c.in-1.is (c.by_tests.ensures ∙ sym (field_is _ _ _ 512 _ key_count _))
 
 pub returns-in-2 : goal.returns-in-2
 unfolding shape_by_kind event_ok modifiers_shape
-returns-in-2 c = rw c.in-2.is (c.bare-in-2.ensures ∙ sym (clean_is _ _ _ 32 _))
+returns-in-2 c = rw c.in-2.is (c.by_tests-in-2.ensures ∙ sym (clean_is _ _ _ 32 _))
 
 pub returns-in-3 : goal.returns-in-3
 unfolding shape_by_kind event_ok moved_shape
@@ -58,15 +58,15 @@ returns-in-5 c = rw (c.in-5.is, word_after _ _ 0, word_after _ _ 1) (c.placed-in
 
 pub returns-in-6 : goal.returns-in-6
 unfolding shape_by_kind event_ok
-returns-in-6 c = rw c.in-6.is (c.bare-in-6.ensures ∙ sym (clean_is _ _ _ 1 _))
+returns-in-6 c = rw c.in-6.is (c.by_tests-in-6.ensures ∙ sym (clean_is _ _ _ 1 _))
 
 pub returns-in-7 : goal.returns-in-7
 unfolding shape_by_kind event_ok zoom_shape
-returns-in-7 c = rw (c.in-7.is, word_after _ _ 0) (c.zoom.ensures ∙ sym (clean_is _ _ _ 1 _))
+returns-in-7 c = rw (c.by_tests-in-7.ensures, c.zoom_ok.ensures, c.float_of.ensures, c.in-7.is, word_after _ _ 0) (sym (clean_is _ _ _ 1 _))
 
 pub returns-in-8 : goal.returns-in-8
 unfolding shape_by_kind event_ok rotate_shape
-returns-in-8 c = rw (c.in-8.is, word_after _ _ 0) (c.rotate.ensures ∙ sym (clean_is _ _ _ 1 _))
+returns-in-8 c = rw (c.by_tests-in-8.ensures, c.radians_ok.ensures, c.float_of-in-8.ensures, c.in-8.is, word_after _ _ 0) (sym (clean_is _ _ _ 1 _))
 
 pub returns-in-9 : goal.returns-in-9
 unfolding shape_by_kind event_ok touch_shape
@@ -78,16 +78,12 @@ returns-in-10 c = rw (c.in-10.is, word_after _ _ 0, word_after _ _ 1) (c.placed-
 
 pub returns-in-11 : goal.returns-in-11
 unfolding shape_by_kind event_ok focus_shape
-returns-in-11 c = rw c.in-11.is (c.bare-in-11.ensures ∙ sym (clean_is _ _ _ 2 _))
+returns-in-11 c = rw c.in-11.is (c.by_tests-in-11.ensures ∙ sym (clean_is _ _ _ 2 _))
 
 pub returns-in-12 : goal.returns-in-12
 unfolding shape_by_kind event_ok
-returns-in-12 c = rw c.in-12.is (c.bare-in-12.ensures ∙ sym (clean_is _ _ _ 1 _))
+returns-in-12 c = rw c.in-12.is (c.by_tests-in-12.ensures ∙ sym (clean_is _ _ _ 1 _))
 
 pub returns-in-13-to-15 : goal.returns-in-13-to-15
 unfolding shape_by_kind check_floats found_at verdict_of
 returns-in-13-to-15 c = rw (ne_eqb _ _ c.in-13-to-15.in_default-own.rest.0.0.0.0.0.0.0.0.0.0.0.0.1, ne_eqb _ _ c.in-13-to-15.in_default-own.rest.0.0.0.0.0.0.0.0.0.0.0.1, ne_eqb _ _ c.in-13-to-15.in_default-own.rest.0.0.0.0.0.0.0.0.0.0.1, ne_eqb _ _ c.in-13-to-15.in_default-own.rest.0.0.0.0.0.0.0.0.0.1, ne_eqb _ _ c.in-13-to-15.in_default-own.rest.0.0.0.0.0.0.0.0.1, ne_eqb _ _ c.in-13-to-15.in_default-own.rest.0.0.0.0.0.0.0.1, ne_eqb _ _ c.in-13-to-15.in_default-own.rest.0.0.0.0.0.0.1, ne_eqb _ _ c.in-13-to-15.in_default-own.rest.0.0.0.0.0.1, ne_eqb _ _ c.in-13-to-15.in_default-own.rest.0.0.0.0.1, ne_eqb _ _ c.in-13-to-15.in_default-own.rest.0.0.0.1, ne_eqb _ _ c.in-13-to-15.in_default-own.rest.0.0.1, ne_eqb _ _ c.in-13-to-15.in_default-own.rest.0.1, ne_eqb _ _ c.in-13-to-15.in_default-own.rest.1)
-
-pub returns-in_default : goal.returns-in_default
-unfolding shape_by_kind check_floats found_at verdict_of
-returns-in_default c = rw (ne_eqb _ _ c.in_default.in_default-own.rest.0.0.0.0.0.0.0.0.0.0.0.0.1, ne_eqb _ _ c.in_default.in_default-own.rest.0.0.0.0.0.0.0.0.0.0.0.1, ne_eqb _ _ c.in_default.in_default-own.rest.0.0.0.0.0.0.0.0.0.0.1, ne_eqb _ _ c.in_default.in_default-own.rest.0.0.0.0.0.0.0.0.0.1, ne_eqb _ _ c.in_default.in_default-own.rest.0.0.0.0.0.0.0.0.1, ne_eqb _ _ c.in_default.in_default-own.rest.0.0.0.0.0.0.0.1, ne_eqb _ _ c.in_default.in_default-own.rest.0.0.0.0.0.0.1, ne_eqb _ _ c.in_default.in_default-own.rest.0.0.0.0.0.1, ne_eqb _ _ c.in_default.in_default-own.rest.0.0.0.0.1, ne_eqb _ _ c.in_default.in_default-own.rest.0.0.0.1, ne_eqb _ _ c.in_default.in_default-own.rest.0.0.1, ne_eqb _ _ c.in_default.in_default-own.rest.0.1, ne_eqb _ _ c.in_default.in_default-own.rest.1)

@@ -1,7 +1,6 @@
 use Prim.Native.Nat.{◌+◌}
-use mathlib.Core.Path.{refl, sym, ◌∙◌}
+use mathlib.Core.Path.{sym, ◌∙◌}
 use native.Mathlib.Omega.{arith}
-use Rattle.event_loop.proofs.Loops.{ended}
 use Rattle.place_loop.proofs.Loops.{gone_loop}
 use Rattle.place_loop.proofs.gone.Goals as goal
 
@@ -17,6 +16,3 @@ pub loop-at-preserved : goal.loop-at-preserved
 loop-at-preserved c =
     let here = sym c.gone_at.ensures ∙ c.if-gone_at.false in
     gone_loop.goes_on _ _ _ (omega arith) ∙ rw c.loop-at.invariant here
-
-pub returns : goal.returns
-returns c = sym (rw (ended c.args.feed.now {ps = c.args.places.now} c.loop-at.at-index refl (omega arith)) at c.loop-at.invariant)

@@ -31,21 +31,9 @@ returns-in_default-gone_at c =
     let k = sym c.kind_at.ensures ∙ c.in-6.is in
     rw (is_other _ _ 5 _ k c.gone_at.ensures (opened c.in_default-gone_at.in_default-gone_at-own.keys2) tt) (record { result = λ times positions. refl; start = refl })
 
-pub returns-in-PointerMoved : goal.returns-in-PointerMoved
-returns-in-PointerMoved c =
-    rw (← c.moved_at.ensures, c.in-PointerMoved.is) c.moved_place.ensures
-
-pub returns-in-MouseMoved : goal.returns-in-MouseMoved
-returns-in-MouseMoved c =
-    rw (← c.motion_at.ensures, c.in-MouseMoved.is) c.motion_place.ensures
-
 pub returns-in-PointerButton : goal.returns-in-PointerButton
 returns-in-PointerButton c =
     rw (← c.button_at.ensures, c.in-PointerButton.is) (c.button_place.ensures _ _)
-
-pub returns-in-PointerGone : goal.returns-in-PointerGone
-returns-in-PointerGone c =
-    rw (← c.gone_at.ensures, c.in-PointerGone.is) c.gone_place.ensures
 
 pub returns-in_default : goal.returns-in_default
 returns-in_default c =

@@ -1,6 +1,5 @@
 use mathlib.Core.Path.{refl, sym, ◌∙◌}
 use native.Mathlib.Omega.{arith}
-use Rattle.event_loop.proofs.Loops.{ended}
 use Rattle.place_loop.proofs.Loops.{place_loop}
 use Rattle.place_loop.proofs.place_events.Goals as goal
 
@@ -15,6 +14,3 @@ loop-at-preserved c =
       result = λ times positions. step.result times positions ∙ rw (so_far.result times positions) (sym (place_loop.goes_on _ _ _ _ (omega arith)));
       start = step.start ∙ so_far.start;
     }
-
-pub returns : goal.returns
-returns c = rw (ended c.args.feed.now {ps = c.args.places.now} c.loop-at.at-index refl (omega arith)) at c.loop-at.invariant

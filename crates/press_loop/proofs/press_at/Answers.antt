@@ -12,18 +12,10 @@ returns-in_default c =
     let k = sym c.kind_at-kind.ensures ∙ c.if-kind-eq-MOVED_KIND.true in
     rw (is_other _ _ 2 _ k c.moved_at-e.ensures (opened c.in_default.in_default-own.keys2) tt) (press_stays _ _ Other _ _ _ (λ e. omega arith) (λ e. omega arith))
 
-pub returns-then-kind-eq-MOVED_KIND : goal.returns-then-kind-eq-MOVED_KIND
-returns-then-kind-eq-MOVED_KIND c =
-    rw (← c.moved_at-e.ensures, c.in-PointerMoved.is) (c.moved.ensures _)
-
 pub returns-in_default-e : goal.returns-in_default-e
 returns-in_default-e c =
     let k = sym c.kind_at-kind.ensures ∙ c.if-kind-eq-BUTTON_KIND.true in
     rw (is_other _ _ 4 _ k c.button_at-e.ensures (opened c.in_default-e.in_default-e-own.keys2) tt) (press_stays _ _ Other _ _ _ (λ e. omega arith) (λ e. omega arith))
-
-pub returns-then-kind-eq-BUTTON_KIND : goal.returns-then-kind-eq-BUTTON_KIND
-returns-then-kind-eq-BUTTON_KIND c =
-    rw (← c.button_at-e.ensures, c.in-PointerButton.is) c.button_event.ensures
 
 pub returns : goal.returns
 returns c =

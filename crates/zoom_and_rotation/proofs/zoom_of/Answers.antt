@@ -1,7 +1,6 @@
-use mathlib.Core.Path.{refl, sym, ◌∙◌}
+use mathlib.Core.Path.{sym, ◌∙◌}
 use native.Mathlib.Omega.{arith}
 use Rattle.model.specs.Numbers.{one}
-use Rattle.event_loop.proofs.Loops.{ended}
 use Rattle.zoom_and_rotation.proofs.Idle.{zoom_loop}
 use Rattle.zoom_and_rotation.proofs.zoom_of.Goals as goal
 
@@ -11,6 +10,3 @@ loop-at-init c = sym (zoom_loop.begins _ _)
 
 pub loop-at-preserved : goal.loop-at-preserved
 loop-at-preserved c = c.zoom_at-factor.ensures ∙ rw c.loop-at.invariant (sym (zoom_loop.goes_on _ _ _ _ (omega arith)))
-
-pub returns : goal.returns
-returns c = rw (ended c.args.feed.now {ps = c.args.places.now} c.loop-at.at-index refl (omega arith)) at c.loop-at.invariant

@@ -1,24 +1,20 @@
-use native.Mathlib.Omega.{arith}
-use mathlib.Core.Path.{sym, ◌∙◌}
+use borrow.Author.Rules.{rules}
+use lib.ListN.{get_or}
+use mathlib.Core.Path.{◌≡◌, refl, ◌∙◌}
+use Prim.Native.Nat.{◌+◌}
 use Rattle.data.specs.Kinds.{rotate_kind}
-use Rattle.feed.specs.Shape.{shape_by_kind}
-use Rattle.event_loop.proofs.Walk.{at_past}
-use Rattle.event_readers.proofs.KnownKind.{whole_as, short_as}
+use Rattle.feed.specs.Shape.{shape_by_kind, rotate_shape}
 use Rattle.feed.proofs.Words.{word_after}
+use Rattle.event_readers.proofs.KnownKind.{read}
 use Rattle.event_readers.proofs.readers.rotate_at.Goals as goal
 
-pub returns-then-feed-at-gt1 : goal.returns-then-feed-at-gt1
-unfolding shape_by_kind
-returns-then-feed-at-gt1 c =
-    let a = c.args in
-    let is = c.requires in
-    c.event_or_other.ensures ∙ rw (c.rotate_shape-e.ensures, whole_as a.feed.now a.at rotate_kind is c.if-at-feed.true (omega arith), word_after _ _ 0)
-
-pub returns-then-at-feed : goal.returns-then-at-feed
-returns-then-at-feed c =
-    let a = c.args in
-    let is = c.requires in
-    sym (short_as a.feed.now a.at rotate_kind is c.if-at-feed.true (omega arith))
-
 pub returns : goal.returns
-returns c = sym (at_past _ _ c.if-at-feed.false)
+unfolding shape_by_kind
+returns c =
+    let a = c.args in
+    c.unwrap_or.ensures
+    ∙ read _ _ rotate_kind c.requires 1 _ _ _ c.low_bits.ensures c.and_then.ensures
+    (λ low h given.
+    let is : c.and_then.result ≡ rotate_shape low (get_or a.feed.now (a.at + 1) 0) = search rules in
+    rw (word_after a.feed.now a.at 0) is)
+    refl

@@ -1,10 +1,5 @@
-use Rattle.model.specs.Pass.{time_or}
+use Rattle.input_state.proofs.Absent.{time_absent}
 use Rattle.input_state.proofs.input.time_of.Goals as goal
 
-pub returns-in-None : goal.returns-in-None
-unfolding time_or
-returns-in-None c = rw (c.in-None.is, c.widen.ensures)
-
-pub returns-in-Some : goal.returns-in-Some
-unfolding time_or
-returns-in-Some c = rw c.in-Some.is
+pub returns : goal.returns
+returns c = rw (c.unwrap_or.ensures, c.widen.ensures) (time_absent _ _ _)

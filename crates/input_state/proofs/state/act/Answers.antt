@@ -16,21 +16,21 @@ returns c =
     let pointer = c.pointer_pass-pointer.ensures in
     let placed = place_all ws ps ls (rw time at pointer.place_is) in
     let pressed = press_all ws ps ls (rw time at pointer.press_is) in
-    let keys = c.keys_pass-keys.ensures in
+    let keys = c.keys_pass.ensures in
     let old = lent a.times.now a.positions.now a.codes.now a.places.now a.presses.now in
     record {
       result =
           λ vs us n t.
           acted (shaped_events ws) us (panel old a.s vs n t) (input ws a.i) _ _ _ _ _ _ _ _ _
-          (rw time at (c.clock_pass-clock.ensures ws))
-          (c.screen_pass-screen.ensures ws)
+          (rw time at (c.clock_pass.ensures ws))
+          (c.screen_pass.ensures ws)
           placed.result
           pressed.result
           (rw time at pointer.started_is)
           (rw time at pointer.moved_is)
-          (rw (time, c.rect_or-rect.ensures, c.places-scrolls.ensures.listed) at c.wheel_pass-wheel.ensures ∙ wheel_all ws ps ls _ _ _ _ _)
+          (rw time at c.wheel_part-wheel.ensures ∙ wheel_all ws ps ls _ _ _ _ _)
           (keys.result ∙ keys_all ws ps ls _)
-          (rw c.places-zooms.ensures.listed at c.sums_of-sums.ensures ∙ sums_all ws ps ls _ _);
+          (rw c.places-zooms.ensures.listed at c.sums_of.ensures ∙ sums_all ws ps ls _ _);
       storage =
           λ vs us n t.
           stored (shaped_events ws) us (panel old a.s vs n t) (input ws a.i) old _ a.s _ _ refl refl placed pressed

@@ -1,11 +1,12 @@
-use Rattle.key_state.specs.View.{one_more}
-use borrow.Author.Tests.{le-ltb, lt-ltb}
+use mathlib.Core.Path.{ap, ◌∙◌}
+use Prim.Native.Nat.{ℕ, ◌<◌}
+use native.Mathlib.Omega.{arith}
+use lib.ListN.{get_or, set}
+use Rattle.key_state.proofs.Steps.{saturated}
 use Rattle.key_state.proofs.keys.count_press.Goals as goal
 
-pub returns-then-n-lt255 : goal.returns-then-n-lt255
-unfolding one_more
-returns-then-n-lt255 c = rw (lt-ltb _ _ c.if-n-lt255.true)
-
 pub returns : goal.returns
-unfolding one_more
-returns c = rw (le-ltb _ _ c.if-n-lt255.false)
+returns c =
+    let a = c.args in
+    let small : get_or a.presses.now a.place 0 < 256 = omega arith in
+    ap (λ (n : ℕ). set a.presses.now a.place n) (c.saturating_add.ensures ∙ saturated _ small)

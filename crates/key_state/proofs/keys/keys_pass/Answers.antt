@@ -16,10 +16,6 @@ use Rattle.key_state.proofs.keys.keys_pass.Goals as goal
 pub loop-at-init : goal.loop-at-init
 loop-at-init c = (λ j. no_more _ (cleared j), sym (key_loop.begins _ _), refl)
 
-pub key_at-s-requires : goal.key_at-s-requires
-key_at-s-requires c =
-    λ j. let q = c.loop-at.invariant.0 j in omega (arith, c.places-places.ensures.within)
-
 pub loop-at-preserved : goal.loop-at-preserved
 loop-at-preserved c =
     let before = c.loop-at.invariant in

@@ -1,12 +1,13 @@
 use Rattle.std.specs.Prelude.{Some}
 use Prim.Native.Nat.{◌+◌, ◌≤◌, ◌<◌}
-use mathlib.Core.Path.{◌≡◌, refl, sym, ◌∙◌}
+use mathlib.Core.Path.{◌≡◌, refl, sym, ap, ◌∙◌}
 use native.Mathlib.Omega.{arith}
 use lib.ListN.{get_or, length}
+use Rattle.std.proofs.lemmas.Result.{err_from_is_err_and}
 use Rattle.touch_state.specs.View.{view}
 use Rattle.model.specs.Types.{NoPlace}
 use Rattle.survey.specs.Survey.{option, crowd_then}
-use Rattle.survey.proofs.Places.{Holds, holds_first, holds_more, no_place_at, holds_last, none_some, not_crowded, fits_idle}
+use Rattle.survey.proofs.Places.{Holds, holds_first, holds_more, no_place_at, holds_last, not_crowded, fits_idle}
 use Rattle.touch_crowd.proofs.TouchOf.{crowded_is, fits_is, not_9}
 use Rattle.touch_crowd.proofs.Apart.{current, Apart, Turn, apart_first, current_room, none_apart, none_back, turn_stays, turn_known, turn_unknown, crowded_by, touched, not_known, added}
 use Rattle.touch_crowd.proofs.crowd.crowd.Goals as goal
@@ -35,21 +36,33 @@ offset_bounds-held-k-then-k-lt-MAX_DEVICES-4 c = let k = c.if-k-lt-MAX_DEVICES-4
 pub bounds-held-k-then-k-lt-MAX_DEVICES-4 : goal.bounds-held-k-then-k-lt-MAX_DEVICES-4
 bounds-held-k-then-k-lt-MAX_DEVICES-4 c = c.if-k-lt-MAX_DEVICES-4.true
 
+pub returns-in_err-later : goal.returns-in_err-later
+unfolding option
+returns-in_err-later c =
+    let s = c.args in
+    let i = c.loop-place.invariant in
+    let past : length s.places.now ≤ c.loop-place.place-index = omega arith in
+    let h = holds_last s.feed.now s.places.now _ c.loop-place.place-index _ _ past i.1 in
+    let q = err_from_is_err_and c.from_residual.result c.from_residual.ensures.1 in
+    rw (q.1, q.2) (record { refusal = sym (ap option c.in_err-later.was) ∙ h.0; devices = tt })
+
 pub returns-then-k-lt-MAX_DEVICES-4 : goal.returns-then-k-lt-MAX_DEVICES-4
+unfolding option
 returns-then-k-lt-MAX_DEVICES-4 c =
     let s = c.args in
     let i = c.loop-place.invariant in
     let past : length s.places.now ≤ c.loop-place.place-index = omega arith in
     let h = holds_last s.feed.now s.places.now _ c.loop-place.place-index _ _ past i.1 in
-    record { refusal = h.0; devices = λ z. h.1 }
+    record { refusal = sym (ap option c.in_ok-later.was) ∙ h.0; devices = h.1 }
 
 pub returns-else-k-lt-MAX_DEVICES-4 : goal.returns-else-k-lt-MAX_DEVICES-4
+unfolding option
 returns-else-k-lt-MAX_DEVICES-4 c =
     let s = c.args in
     let i = c.loop-place.invariant in
     let past : length s.places.now ≤ c.loop-place.place-index = omega arith in
     let h = holds_last s.feed.now s.places.now _ c.loop-place.place-index _ _ past i.1 in
-    record { refusal = h.0; devices = λ z. rw (none_apart c.loop-place.held c.loop-place.k c.loop-place.device i.0.room c.if-k-lt-MAX_DEVICES-4.false) at h.1 }
+    record { refusal = sym (ap option c.in_ok-later.was) ∙ h.0; devices = rw (none_apart c.loop-place.held c.loop-place.k c.loop-place.device i.0.room c.if-k-lt-MAX_DEVICES-4.false) at h.1 }
 
 pub returns-then-is_crowded : goal.returns-then-is_crowded
 unfolding option
@@ -63,11 +76,11 @@ returns-then-is_crowded c =
       | then-k-device+then-k-lt-MAX_DEVICES-2 v ↦
           let back : v.if-k-lt-MAX_DEVICES.held ≡ current l.held l.k l.device =
           elim v.if-k-lt-MAX_DEVICES.branch [ then-k-lt-MAX_DEVICES b ↦ b.held-is | else-k-lt-MAX_DEVICES b ↦ b.held-is ∙ none_back l.held l.k l.device l.invariant.0.room b.if-k-lt-MAX_DEVICES.false ] in
-          rw (v.held-is, v.k-is, v.device-is) (turn_known _ _ v.if-k-lt-MAX_DEVICES.held v.known_at-k.result room back v.known_at-k.ensures _ v.if-k-lt-MAX_DEVICES-2.true)
+          rw (v.held-is, v.k-is, v.device-is) (turn_known _ _ v.if-k-lt-MAX_DEVICES.held v.unwrap_or-k.result room back (v.unwrap_or-k.ensures ∙ v.known_at.ensures.place) _ v.if-k-lt-MAX_DEVICES-2.true)
       | then-k-device+else-k-lt-MAX_DEVICES-2 v ↦
           let back : v.if-k-lt-MAX_DEVICES.held ≡ current l.held l.k l.device =
           elim v.if-k-lt-MAX_DEVICES.branch [ then-k-lt-MAX_DEVICES b ↦ b.held-is | else-k-lt-MAX_DEVICES b ↦ b.held-is ∙ none_back l.held l.k l.device l.invariant.0.room b.if-k-lt-MAX_DEVICES.false ] in
-          rw (v.held-is, v.k-is, v.device-is) (turn_unknown _ _ v.if-k-lt-MAX_DEVICES.held v.known_at-k.result room back v.known_at-k.ensures l.device v.if-k-lt-MAX_DEVICES-2.false)
+          rw (v.held-is, v.k-is, v.device-is) (turn_unknown _ _ v.if-k-lt-MAX_DEVICES.held v.unwrap_or-k.result room back (v.unwrap_or-k.ensures ∙ v.known_at.ensures.place) l.device v.if-k-lt-MAX_DEVICES-2.false)
       | else-k-device v ↦ rw (v.held-is, v.k-is, v.device-is) (turn_stays _ l.held l.k l.device l.invariant.0 v.if-k-device.false, refl)
     ] in
     let is = sym c.touch_event_at-found.ensures ∙ c.in-Some.is in
@@ -77,7 +90,7 @@ returns-then-is_crowded c =
     let now : Holds s.feed.now s.places.now (option s.later) l.place-index (view s.ds) (view (current j.held j.k j.device)) = rw t.1 l.invariant.1 in
     let r : Some (NoPlace (get_or s.places.now l.place-index 0)) ≡ crowd_then s.feed.now s.places.now (λ us. option s.later) (view s.ds) =
     (no_place_at _ _ _ _ here _ _ now full) in
-    record { refusal = r; devices = λ z. none_some (sym z) }
+    record { refusal = r; devices = tt }
 
 pub add-held-requires : goal.add-held-requires
 add-held-requires c =
@@ -89,11 +102,11 @@ add-held-requires c =
       | then-k-device+then-k-lt-MAX_DEVICES-2 v ↦
           let back : v.if-k-lt-MAX_DEVICES.held ≡ current l.held l.k l.device =
           elim v.if-k-lt-MAX_DEVICES.branch [ then-k-lt-MAX_DEVICES b ↦ b.held-is | else-k-lt-MAX_DEVICES b ↦ b.held-is ∙ none_back l.held l.k l.device l.invariant.0.room b.if-k-lt-MAX_DEVICES.false ] in
-          rw (v.held-is, v.k-is, v.device-is) (turn_known _ _ v.if-k-lt-MAX_DEVICES.held v.known_at-k.result room back v.known_at-k.ensures _ v.if-k-lt-MAX_DEVICES-2.true)
+          rw (v.held-is, v.k-is, v.device-is) (turn_known _ _ v.if-k-lt-MAX_DEVICES.held v.unwrap_or-k.result room back (v.unwrap_or-k.ensures ∙ v.known_at.ensures.place) _ v.if-k-lt-MAX_DEVICES-2.true)
       | then-k-device+else-k-lt-MAX_DEVICES-2 v ↦
           let back : v.if-k-lt-MAX_DEVICES.held ≡ current l.held l.k l.device =
           elim v.if-k-lt-MAX_DEVICES.branch [ then-k-lt-MAX_DEVICES b ↦ b.held-is | else-k-lt-MAX_DEVICES b ↦ b.held-is ∙ none_back l.held l.k l.device l.invariant.0.room b.if-k-lt-MAX_DEVICES.false ] in
-          rw (v.held-is, v.k-is, v.device-is) (turn_unknown _ _ v.if-k-lt-MAX_DEVICES.held v.known_at-k.result room back v.known_at-k.ensures l.device v.if-k-lt-MAX_DEVICES-2.false)
+          rw (v.held-is, v.k-is, v.device-is) (turn_unknown _ _ v.if-k-lt-MAX_DEVICES.held v.unwrap_or-k.result room back (v.unwrap_or-k.ensures ∙ v.known_at.ensures.place) l.device v.if-k-lt-MAX_DEVICES-2.false)
       | else-k-device v ↦ rw (v.held-is, v.k-is, v.device-is) (turn_stays _ l.held l.k l.device l.invariant.0 v.if-k-device.false, refl)
     ] in
     not_known _ _ _ _ t.0 c.if-k-lt-MAX_DEVICES-3.false
@@ -117,11 +130,11 @@ loop-place-preserved c =
             | then-k-device+then-k-lt-MAX_DEVICES-2 v ↦
                 let back : v.if-k-lt-MAX_DEVICES.held ≡ current l.held l.k l.device =
                 elim v.if-k-lt-MAX_DEVICES.branch [ then-k-lt-MAX_DEVICES b ↦ b.held-is | else-k-lt-MAX_DEVICES b ↦ b.held-is ∙ none_back l.held l.k l.device l.invariant.0.room b.if-k-lt-MAX_DEVICES.false ] in
-                rw (v.held-is, v.k-is, v.device-is) (turn_known _ _ v.if-k-lt-MAX_DEVICES.held v.known_at-k.result room back v.known_at-k.ensures _ v.if-k-lt-MAX_DEVICES-2.true)
+                rw (v.held-is, v.k-is, v.device-is) (turn_known _ _ v.if-k-lt-MAX_DEVICES.held v.unwrap_or-k.result room back (v.unwrap_or-k.ensures ∙ v.known_at.ensures.place) _ v.if-k-lt-MAX_DEVICES-2.true)
             | then-k-device+else-k-lt-MAX_DEVICES-2 v ↦
                 let back : v.if-k-lt-MAX_DEVICES.held ≡ current l.held l.k l.device =
                 elim v.if-k-lt-MAX_DEVICES.branch [ then-k-lt-MAX_DEVICES b ↦ b.held-is | else-k-lt-MAX_DEVICES b ↦ b.held-is ∙ none_back l.held l.k l.device l.invariant.0.room b.if-k-lt-MAX_DEVICES.false ] in
-                rw (v.held-is, v.k-is, v.device-is) (turn_unknown _ _ v.if-k-lt-MAX_DEVICES.held v.known_at-k.result room back v.known_at-k.ensures l.device v.if-k-lt-MAX_DEVICES-2.false)
+                rw (v.held-is, v.k-is, v.device-is) (turn_unknown _ _ v.if-k-lt-MAX_DEVICES.held v.unwrap_or-k.result room back (v.unwrap_or-k.ensures ∙ v.known_at.ensures.place) l.device v.if-k-lt-MAX_DEVICES-2.false)
             | else-k-device v ↦ rw (v.held-is, v.k-is, v.device-is) (turn_stays _ l.held l.k l.device l.invariant.0 v.if-k-device.false, refl)
           ] in
           let is = sym c.touch_event_at-found.ensures ∙ w.in-Some.is in
@@ -137,11 +150,11 @@ loop-place-preserved c =
             | then-k-device+then-k-lt-MAX_DEVICES-2 v ↦
                 let back : v.if-k-lt-MAX_DEVICES.held ≡ current l.held l.k l.device =
                 elim v.if-k-lt-MAX_DEVICES.branch [ then-k-lt-MAX_DEVICES b ↦ b.held-is | else-k-lt-MAX_DEVICES b ↦ b.held-is ∙ none_back l.held l.k l.device l.invariant.0.room b.if-k-lt-MAX_DEVICES.false ] in
-                rw (v.held-is, v.k-is, v.device-is) (turn_known _ _ v.if-k-lt-MAX_DEVICES.held v.known_at-k.result room back v.known_at-k.ensures _ v.if-k-lt-MAX_DEVICES-2.true)
+                rw (v.held-is, v.k-is, v.device-is) (turn_known _ _ v.if-k-lt-MAX_DEVICES.held v.unwrap_or-k.result room back (v.unwrap_or-k.ensures ∙ v.known_at.ensures.place) _ v.if-k-lt-MAX_DEVICES-2.true)
             | then-k-device+else-k-lt-MAX_DEVICES-2 v ↦
                 let back : v.if-k-lt-MAX_DEVICES.held ≡ current l.held l.k l.device =
                 elim v.if-k-lt-MAX_DEVICES.branch [ then-k-lt-MAX_DEVICES b ↦ b.held-is | else-k-lt-MAX_DEVICES b ↦ b.held-is ∙ none_back l.held l.k l.device l.invariant.0.room b.if-k-lt-MAX_DEVICES.false ] in
-                rw (v.held-is, v.k-is, v.device-is) (turn_unknown _ _ v.if-k-lt-MAX_DEVICES.held v.known_at-k.result room back v.known_at-k.ensures l.device v.if-k-lt-MAX_DEVICES-2.false)
+                rw (v.held-is, v.k-is, v.device-is) (turn_unknown _ _ v.if-k-lt-MAX_DEVICES.held v.unwrap_or-k.result room back (v.unwrap_or-k.ensures ∙ v.known_at.ensures.place) l.device v.if-k-lt-MAX_DEVICES-2.false)
             | else-k-device v ↦ rw (v.held-is, v.k-is, v.device-is) (turn_stays _ l.held l.k l.device l.invariant.0 v.if-k-device.false, refl)
           ] in
           let is = sym c.touch_event_at-found.ensures ∙ w.in-Some.is in

@@ -1,7 +1,6 @@
 use Prim.Native.Nat.{◌+◌}
-use mathlib.Core.Path.{refl, sym, ◌∙◌}
+use mathlib.Core.Path.{sym, ◌∙◌}
 use native.Mathlib.Omega.{arith}
-use Rattle.event_loop.proofs.Loops.{ended}
 use Rattle.touch_ends.proofs.Ended.{adds_loop}
 use Rattle.touch_ends.proofs.ends.added_or_removed_touches.Goals as goal
 
@@ -17,6 +16,3 @@ pub loop-at-preserved : goal.loop-at-preserved
 loop-at-preserved c =
     let here = sym c.adds_at.ensures ∙ c.if-adds_at.false in
     (adds_loop _).goes_on _ _ _ (omega arith) ∙ rw c.loop-at.invariant here
-
-pub returns : goal.returns
-returns c = sym (rw (ended c.args.feed.now {ps = c.args.places.now} c.loop-at.at-index refl (omega arith)) at c.loop-at.invariant)

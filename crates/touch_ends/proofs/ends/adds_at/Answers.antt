@@ -5,8 +5,5 @@ use Rattle.event_loop.proofs.OfKind.{not_of_kind}
 use Rattle.touch_ends.proofs.Ended.{adds_idle}
 use Rattle.touch_ends.proofs.ends.adds_at.Goals as goal
 
-pub returns-then-kind_at-eq-TOUCH_KIND : goal.returns-then-kind_at-eq-TOUCH_KIND
-returns-then-kind_at-eq-TOUCH_KIND c = c.touch_adds_at.ensures (sym c.kind_at.ensures ∙ c.if-kind_at-eq-TOUCH_KIND.true)
-
 pub returns : goal.returns
 returns c = sym (adds_idle _ _ (not_of_kind _ _ touch_kind (λ e. c.if-kind_at-eq-TOUCH_KIND.false (c.kind_at.ensures ∙ e)) (λ k. omega arith)))

@@ -1,16 +1,10 @@
-use mathlib.Core.Path.{◌≡◌, ◌∙◌, refl}
+use mathlib.Core.Path.{◌≡◌, ◌∙◌}
 use Prim.Native.Nat.{◌<◌}
 use native.Mathlib.Omega.{arith}
 use lib.ListN.{length, take, length-take, length-set}
-use Rattle.touches.proofs.Places.{first_of, first_le}
+use Rattle.touches.proofs.Places.{first_of}
 use Rattle.touch_ends.proofs.Ended.{ended_start, ended_step, ended_end}
 use Rattle.touch_ends.proofs.ends.end_devices.Goals as goal
-
-pub loop-i-init : goal.loop-i-init
-loop-i-init c =
-    let ds = c.args.ds in
-    let l : length ds.places ≡ 4 = c.well_formed.0.1.1.1.0.1.0.1 in
-    (rw c.len-n.ensures (first_le ds.count ds.places), l, refl, refl)
 
 pub loop-i-preserved : goal.loop-i-preserved
 loop-i-preserved c =

@@ -5,14 +5,9 @@ use Rattle.model.specs.Touch.{added_or_removed_touches}
 use Rattle.feed.specs.Shape.{shape_by_kind, touch_shape, clean}
 use Rattle.feed.proofs.Words.{word_after}
 use Rattle.event_loop.specs.Shaped.{event_or_other}
-use Rattle.event_loop.proofs.Walk.{at_past}
 use Rattle.event_readers.proofs.KnownKind.{whole_as, short_as}
 use Rattle.touch_ends.proofs.Ended.{or_none}
 use Rattle.touch_ends.proofs.ends.touch_adds_at.Goals as goal
-
-pub returns-then-at-feed : goal.returns-then-at-feed
-unfolding added_or_removed_touches
-returns-then-at-feed c is = rw (at_past _ _ c.if-at-feed.true)
 
 pub returns-then-feed-at : goal.returns-then-feed-at
 unfolding added_or_removed_touches
