@@ -1,11 +1,11 @@
 -- A walk through the words of a hit list, two at a time. Assumes nothing.
 use Prim.Native.Nat.{ℕ, suc, ◌+◌, ◌*◌, ◌/◌, ◌<◌, ◌≤◌, max}
-use mathlib.Core.Path.{◌≡◌, refl}
+use mathlib.Core.Path.{◌≡◌, refl, ap}
 use mathlib.Core.Bool.{Bool, true, false, cond, ◌||◌}
 use Rattle.std.specs.Prelude.{Option, None, Some}
 use Rattle.std.specs.Option.{is_some, unwrap_or}
 use lib.Dec.{eqb}
-use mathlib.Core.List.{List, [], ◌∷◌}
+use mathlib.Core.List.{List, [], ◌∷◌, ◌++◌}
 use native.Mathlib.Numerals.{add-one}
 use native.Mathlib.Omega.{arith}
 use borrow.Author.Tests.{eq-eqb, ne_eqb}
@@ -21,7 +21,7 @@ rest ws i = hits_of (drop (i * 2) ws)
 abbrev pub at : List ℕ → ℕ → Hit
 at ws i = hit_of (get_or ws (i * 2) 0) (get_or ws (i * 2 + 1) 0)
 
-short : (ws : List ℕ) → length ws < 2 → hits_of ws ≡ []
+pub short : (ws : List ℕ) → length ws < 2 → hits_of ws ≡ []
 unfolding hits_of
 short [] h = refl
 short (a ∷ []) h = refl
@@ -37,6 +37,14 @@ next ws i h =
     let b : suc (i * 2) < length ws = omega arith in
     let e : (i + 1) * 2 ≡ suc (suc (i * 2)) = omega arith in
     rw (e, add-one, drop-cons ws (i * 2) 0 a, drop-cons ws (suc (i * 2)) 0 b)
+
+-- the first two words are an entry
+pub split : (ahead one more : List ℕ) → ahead ≡ one ++ more → length one ≡ 2 → hits_of ahead ≡ hit_of (get_or one 0 0) (get_or one 1 0) ∷ hits_of more
+unfolding hits_of
+split ahead [] more e n = absurd (omega (arith, n))
+split ahead (a ∷ []) more e n = absurd (omega (arith, n))
+split ahead (a ∷ b ∷ []) more e n = ap hits_of e
+split ahead (a ∷ b ∷ d ∷ one) more e n = absurd (omega (arith, n))
 
 -- as many entries as pairs of words
 pub entries : (ws : List ℕ) → length (hits_of ws) ≡ length ws / 2

@@ -6,6 +6,9 @@ ghost use Rattle.data.specs.Sense.{interactive};
 ghost use Rattle.model.specs.Interact.{has_hit, is_hit, order, order_of};
 ghost use Rattle.hit_lists.specs.Hits.{hits_of, view, hit_at, position_from, seek_from};
 
+// The words of an entry.
+pub const WORDS: usize = 2;
+
 // An entry: the words' own widths.
 #[derive(Clone, Copy)]
 pub struct Hit {
@@ -22,7 +25,8 @@ pub struct WidgetHits<'a> {
     pub drag: Option<Hit>,
 }
 
-// Whether an entry senses clicks or drags. The bits of a number: it is the host's word, of which any value is judged.
+// Whether an entry senses clicks or drags.
+// Kept (plain): no call of data's `interactive`, which is of a u32: the host's word has 64 bits, and any value of it is judged
 #[tactic(auto, unfolding(data::specs::Sense::interactive, data::specs::Sense::senses_click, data::specs::Sense::senses_drag))]
 pub fn interactive(sense: u64) -> bool
     ensures { result ≡ interactive sense }
@@ -33,10 +37,11 @@ pub fn interactive(sense: u64) -> bool
 // ---- looking for an id
 
 // The first place of the id from `from` on, if it has one there.
+// Kept (plain): by index, since the place is the answer: of chunks of the words from `from * 2` on, that product may not fit, and `from` would be added to
+// what they find
 fn position(words: &[u64], from: usize, id: u64) -> Option<usize>
     ensures { result ≡ position_from id from (hits_of (drop (from * 2) words.now)) }
 {
-    // two words an entry, by index: C lends the list as plain numbers
     let n = words.len() / 2;
     for at in from..n {
         if id == words[at * 2] {
@@ -68,6 +73,7 @@ pub fn order(words: &[u64], id: u64) -> usize
 }
 
 // Whether the entry at a place has the id.
+// Kept (plain): by index: one place is looked at, and `nth` of the chunks would walk there
 fn hit_at(words: &[u64], at: usize, id: u64) -> bool
     ensures { result ≡ hit_at id at words.now }
 {
@@ -111,6 +117,8 @@ pub fn lies_from(words: &[u64], top: usize, hint: usize, id: u64) -> bool
     has_hit(words, id)
 }
 
+// The order of a hit that may be there.
+// Kept (plain): no conversion: `order` of the hit's id in a list
 #[tactic(auto, unfolding(model::specs::Interact::order_of, crate::specs::Hits::view))]
 pub fn order_of(words: &[u64], hit: Option<Hit>) -> usize
     ensures { result ≡ order_of (view hit) (hits_of words.now) }

@@ -1,36 +1,44 @@
 -- What is refused of a hit list, an entry at a time. Assumes nothing.
 use Rattle.std.specs.Prelude.{Option, None, Some}
-use Prim.Native.Nat.{ℕ, zero, suc, ◌+◌, ◌-◌, ◌/◌, ◌<◌, ◌≤◌}
+use Prim.Native.Nat.{ℕ, zero, suc, ◌+◌, ◌-◌, ◌<◌, ◌≤◌}
 use mathlib.Core.Path.{◌≡◌}
-use mathlib.Core.List.{List, [], ◌∷◌}
+use mathlib.Core.List.{List, [], ◌∷◌, ◌++◌}
 use native.Mathlib.Numerals.{add-one}
 use native.Mathlib.Omega.{arith}
-use lib.ListN.{length}
+use lib.ListN.{length, get_or}
 use Rattle.model.specs.Pass.{or_else}
 use Rattle.model.specs.Types.{InteractRefusal}
 use Rattle.model.specs.Types.interaction.{TooManyHits}
 use Rattle.model.specs.Interact.{Hit, entry_refusal, hits_refusal}
-use Rattle.hit_lists.proofs.Walk.{rest, at, next}
+use Rattle.hit_lists.specs.Hits.{hits_of, hit_of}
+use Rattle.hit_lists.proofs.Walk.{short, split}
 
-module _ (ws : List ℕ) (m i : ℕ) (h : i < length ws / 2) where
-  pub too_many : m ≤ i → hits_refusal (m - i) i (rest ws i) ≡ Some (TooManyHits i)
+module _ (ahead one more : List ℕ) (e : ahead ≡ one ++ more) (two : length one ≡ 2) (m i : ℕ) where
+  pub too_many : m ≤ i → hits_refusal (m - i) i (hits_of ahead) ≡ Some (TooManyHits i)
   unfolding hits_refusal
-  too_many l = let z : m - i ≡ 0 = omega arith in rw (z, next ws i h)
+  too_many l = let z : m - i ≡ 0 = omega arith in rw (z, split ahead one more e two)
 
-  pub one_more : i < m → hits_refusal (m - i) i (rest ws i) ≡ or_else (entry_refusal i (at ws i)) (hits_refusal (m - (i + 1)) (i + 1) (rest ws (i + 1)))
+  abbrev first : Hit
+  first = hit_of (get_or one 0 0) (get_or one 1 0)
+
+  pub one_more : i < m → hits_refusal (m - i) i (hits_of ahead) ≡ or_else (entry_refusal i first) (hits_refusal (m - (i + 1)) (i + 1) (hits_of more))
   unfolding hits_refusal
   one_more l =
       let z : m - i ≡ suc (m - (i + 1)) = omega arith in
-      rw (z, next ws i h, add-one i)
+      rw (z, split ahead one more e two, add-one i)
 
   module _ (l : i < m) where
-    pub refused_here : (r : InteractRefusal) → entry_refusal i (at ws i) ≡ Some r → hits_refusal (m - i) i (rest ws i) ≡ Some r
+    pub refused_here : (r : InteractRefusal) → entry_refusal i first ≡ Some r → hits_refusal (m - i) i (hits_of ahead) ≡ Some r
     unfolding or_else
-    refused_here r e = rw (one_more l, e)
+    refused_here r q = rw (one_more l, q)
 
-    pub passed : entry_refusal i (at ws i) ≡ None → hits_refusal (m - i) i (rest ws i) ≡ hits_refusal (m - (i + 1)) (i + 1) (rest ws (i + 1))
+    pub passed : entry_refusal i first ≡ None → hits_refusal (m - i) i (hits_of ahead) ≡ hits_refusal (m - (i + 1)) (i + 1) (hits_of more)
     unfolding or_else
-    passed e = rw (one_more l, e)
+    passed q = rw (one_more l, q)
+
+pub no_entry : (ahead : List ℕ) (m i : ℕ) → length ahead < 2 → hits_refusal m i (hits_of ahead) ≡ None
+unfolding hits_refusal
+no_entry ahead m i h = rw (short ahead h)
 
 -- what is refused by nothing has no first refusal and no later one
 nothing_first : {A : Type 0} (a b : Option A) → or_else a b ≡ None → b ≡ None

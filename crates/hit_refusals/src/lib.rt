@@ -10,9 +10,10 @@ ghost use Rattle.hit_refusals.specs.Refusals.{refusal_of, input, unknown, buffer
 
 use data::limits::{ID_PLACES, MAX_HITS};
 use data::refusal::InteractRefusal;
-use hit_lists::{Hit, WidgetHits};
+use hit_lists::{Hit, WORDS, WidgetHits};
 
-// No bit but the three that sense.rs names. A number: it is the host's word, of which any value is judged.
+// No bit but the three that sense.rs names.
+// Kept (plain): no call of data's `sense_ok`, which is of a u32: the host's word has 64 bits, and any value of it is judged
 #[tactic(auto, unfolding(data::specs::Sense::sense_ok))]
 fn sense_ok(sense: u64) -> bool
     ensures { result ≡ sense_ok sense }
@@ -37,12 +38,11 @@ fn entry_refusal(i: usize, id: u64, sense: u64) -> Result<(), InteractRefusal>
 fn hits_refusal(words: &[u64]) -> Result<(), InteractRefusal>
     ensures { refusal_of result ≡ hits_refusal max_hits 0 (hits_of words.now) }
 {
-    // two words an entry, by index: C lends the list as plain numbers
-    for i in 0..words.len() / 2 {
+    for (i, entry) in words.chunks_exact(WORDS).enumerate() {
         if i == MAX_HITS {
             return Err(InteractRefusal::TooManyHits(i));
         }
-        entry_refusal(i, words[i * 2], words[i * 2 + 1])?;
+        entry_refusal(i, entry[0], entry[1])?;
     }
     Ok(())
 }
@@ -51,21 +51,14 @@ fn hits_refusal(words: &[u64]) -> Result<(), InteractRefusal>
 fn hit_refusal(hit: Option<Hit>) -> Result<(), InteractRefusal>
     ensures { refusal_of result ≡ hit_refusal (view hit) }
 {
-    match hit {
-        None => Ok(()),
-        Some(h) => entry_refusal(0, h.id, h.sense),
-    }
+    hit.map_or(Ok(()), |h| entry_refusal(0, h.id, h.sense))
 }
 
 // 8
 fn buffers_refusal(hovered: usize, contains: usize) -> Result<(), InteractRefusal>
     ensures { refusal_of result ≡ buffers_refusal hovered contains }
 {
-    // an if for each buffer: one `||` would be no plainer
-    if hovered < ID_PLACES {
-        return Err(InteractRefusal::ShortBuffer);
-    }
-    if contains < ID_PLACES {
+    if hovered < ID_PLACES || contains < ID_PLACES {
         return Err(InteractRefusal::ShortBuffer);
     }
     Ok(())

@@ -2,16 +2,17 @@
 use Rattle.std.specs.Prelude.{Option, None, Some}
 use Rattle.std.specs.Option as now
 use Rattle.std.specs.Option.{option_or}
-use Prim.Native.Nat.{ℕ, suc, ◌+◌, ◌/◌, ◌<◌, ◌≤◌}
-use mathlib.Core.Path.{◌≡◌, refl}
+use Prim.Native.Nat.{ℕ, suc, ◌+◌, ◌<◌, ◌≤◌}
+use mathlib.Core.Path.{◌≡◌, refl, ap}
 use mathlib.Core.Bool.{Bool, true, false, not, ◌&&◌, ◌||◌}
-use mathlib.Core.List.{List, [], ◌∷◌}
+use mathlib.Core.List.{List, [], ◌∷◌, ◌++◌}
 use native.Mathlib.Omega.{arith}
 use lib.Dec.{leb}
-use lib.ListN.{length, take}
+use lib.ListN.{length, take, get_or}
 use Rattle.data.specs.Sense.{senses_click, senses_drag}
 use Rattle.model.specs.Interact.{Hit, is_some, insert_id, insert_some, insert_hits, insert_on_top, order}
-use Rattle.hit_lists.proofs.Walk.{rest, at, next, done}
+use Rattle.hit_lists.specs.Hits.{hits_of, hit_of}
+use Rattle.hit_lists.proofs.Walk.{short, split}
 use Rattle.id_set.specs.Ids.{Written}
 use Rattle.id_set.proofs.Insert.{one_more, some_more}
 use Rattle.id_set.proofs.Written.{list, again, then_by}
@@ -56,24 +57,27 @@ module _ (a b : List ℕ) (r : ℕ) (w : Written (take r b) a r b) (f : List ℕ
   pub step_bound : r' ≤ r + 1
   step_bound = omega (arith, w.counted, w'.counted, g.upper (take r b))
 
-module _ (ws : List ℕ) (i : ℕ) where
-  pub hits_next : i < length ws / 2 → (s : List ℕ) → insert_hits (rest ws i) s ≡ insert_hits (rest ws (i + 1)) (insert_id (at ws i).id s)
+module _ (ahead one more : List ℕ) (e : ahead ≡ one ++ more) (two : length one ≡ 2) where
+  pub one_less : length (hits_of ahead) ≡ suc (length (hits_of more))
+  one_less = ap length (split ahead one more e two)
+
+  pub hits_next : (s : List ℕ) → insert_hits (hits_of ahead) s ≡ insert_hits (hits_of more) (insert_id (get_or one 0 0) s)
   unfolding insert_hits
-  hits_next h s = rw (next ws i h)
+  hits_next s = rw (split ahead one more e two)
 
-  pub hits_done : length ws / 2 ≤ i → (s : List ℕ) → insert_hits (rest ws i) s ≡ s
+  pub top_next : (top : ℕ) (close : List Hit) (s : List ℕ)
+      → insert_on_top top close (hits_of ahead) s ≡ insert_on_top top close (hits_of more) (insert_if (on_top top close (hit_of (get_or one 0 0) (get_or one 1 0))) (get_or one 0 0) s)
+  unfolding insert_on_top on_top
+  top_next top close s = rw (split ahead one more e two)
+
+module _ (ahead : List ℕ) (h : length ahead < 2) where
+  pub hits_done : (s : List ℕ) → insert_hits (hits_of ahead) s ≡ s
   unfolding insert_hits
-  hits_done h s = rw (done ws i h)
+  hits_done s = rw (short ahead h)
 
-  module _ (top : ℕ) (close : List Hit) where
-    pub top_next : i < length ws / 2 → (s : List ℕ)
-        → insert_on_top top close (rest ws i) s ≡ insert_on_top top close (rest ws (i + 1)) (insert_if (on_top top close (at ws i)) (at ws i).id s)
-    unfolding insert_on_top on_top
-    top_next h s = rw (next ws i h)
-
-    pub top_done : length ws / 2 ≤ i → (s : List ℕ) → insert_on_top top close (rest ws i) s ≡ s
-    unfolding insert_on_top
-    top_done h s = rw (done ws i h)
+  pub top_done : (top : ℕ) (close : List Hit) (s : List ℕ) → insert_on_top top close (hits_of ahead) s ≡ s
+  unfolding insert_on_top
+  top_done top close s = rw (short ahead h)
 
 -- the count after an id that may be there
 pub after_some : (o : Option ℕ) (s a : List ℕ) (r : ℕ) (b : List ℕ) → Written (insert_some o s) a r b → r ≤ suc (length s)

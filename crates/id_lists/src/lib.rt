@@ -7,7 +7,7 @@ ghost use Rattle.hit_lists.specs.Hits.{hits_of, hit_of, view};
 ghost use Rattle.id_set.specs.Ids.{Written};
 ghost use Rattle.id_lists.specs.Ids.{on_top, insert_if, both_ids, contains_ids, busy_ids, free_ids, hovered_ids};
 
-use hit_lists::{Hit, WidgetHits, interactive, lies_from, order_of, seek};
+use hit_lists::{Hit, WORDS, WidgetHits, interactive, lies_from, order_of, seek};
 use id_set::{insert_id, insert_some};
 
 #[tactic(auto, unfolding(model::specs::Interact::hit_id, hit_lists::specs::Hits::view))]
@@ -23,10 +23,9 @@ fn insert_hits(words: &[u64], ids: &mut [u64], count: usize) -> usize
     requires { count + length (hits_of words.now) ≤ length ids.old }
     ensures { Written (insert_hits (hits_of words.now) (take count ids.old)) ids.old result ids.new }
 {
-    // two words an entry, by index: C lends the list as plain numbers
     let mut r = count;
-    for i in 0..words.len() / 2 {
-        r = insert_id(ids, r, words[i * 2]);
+    for entry in words.chunks_exact(WORDS) {
+        r = insert_id(ids, r, entry[0]);
     }
     r
 }
@@ -49,18 +48,18 @@ fn insert_if(ids: &mut [u64], count: usize, keep: bool, id: u64) -> usize
     count
 }
 
-// Not `insert_hits` with a test: this walk also carries a place.
 // Both lists are in painting order as a rule, so an entry is sought from the last one's place in `close` on.
+// Kept (plain): not `insert_hits` with a test: this walk also carries a place
 fn insert_on_top(top: usize, close: &[u64], words: &[u64], ids: &mut [u64], count: usize) -> usize
     requires { count + length (hits_of words.now) ≤ length ids.old }
     ensures { Written (insert_on_top top (hits_of close.now) (hits_of words.now) (take count ids.old)) ids.old result ids.new }
 {
     let mut r = count;
     let mut at: usize = 0;
-    for i in 0..words.len() / 2 {
-        let id = words[i * 2];
+    for entry in words.chunks_exact(WORDS) {
+        let id = entry[0];
         at = seek(close, at, id);
-        let keep = on_top(top, close, at, id, words[i * 2 + 1]);
+        let keep = on_top(top, close, at, id, entry[1]);
         r = insert_if(ids, r, keep, id);
     }
     r
@@ -68,7 +67,7 @@ fn insert_on_top(top: usize, close: &[u64], words: &[u64], ids: &mut [u64], coun
 
 // ---- the two sets
 
-// The ids of the click's and the drag's hit. Two calls: a loop over two options would need an invariant.
+// The ids of the click's and the drag's hit.
 fn insert_both(click: Option<Hit>, drag: Option<Hit>, ids: &mut [u64]) -> usize
     requires { 2 ≤ length ids.old }
     ensures { Written (both_ids click drag) ids.old result ids.new }
@@ -86,7 +85,7 @@ pub fn contains_pointer(hits: WidgetHits<'_>, ids: &mut [u64]) -> usize
     insert_hits(hits.contains_pointer, ids, r)
 }
 
-// The ids that are clicked, dragged or long touched. Three calls, as above.
+// The ids that are clicked, dragged or long touched.
 fn insert_busy(
     clicked: Option<u64>,
     dragged: Option<u64>,

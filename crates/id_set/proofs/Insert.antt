@@ -1,14 +1,17 @@
 -- Putting an id in its place is the model's `insert_id`. Assumes nothing.
-use Rattle.std.specs.Prelude.{Option, None, Some}
+use Rattle.std.specs.Prelude.{Option, None, Some, position}
+use Rattle.std.specs.Option.{unwrap_or}
+use Rattle.std.specs.List.{position_or_len}
+use Rattle.std.proofs.lemmas.List.Sums.{fails_before_first, passes_at_first}
 use Prim.Native.Nat.{ℕ, zero, suc, ◌<◌, ◌≤◌}
 use mathlib.Core.Path.{◌≡◌, refl, sym, ap}
 use mathlib.Core.Bool.{Bool, true, false, cond}
 use mathlib.Core.List.{List, [], ◌∷◌, ◌++◌}
 use native.Mathlib.Omega.{arith}
-use lib.Dec.{ltb, eqb}
+use lib.Dec.{ltb, leb, eqb}
 use lib.ListN.{length, get_or, take, drop}
 use lib.Seq.{length-take-le, get_or-take}
-use borrow.Author.Tests.{lt-ltb, le-ltb, eq-eqb, ne_eqb}
+use borrow.Author.Tests.{lt-ltb, le-ltb, eq-eqb, ne_eqb, ltb-true, ltb-false, leb-true, leb-false}
 use Rattle.model.specs.Interact.{insert_id, insert_some}
 use Rattle.id_set.specs.Ids.{Place, stands_at}
 
@@ -19,6 +22,40 @@ later d e s r p =
       below = λ k h. p.below (suc k) (omega arith);
       not_below = λ h. p.not_below (omega arith);
     }
+
+-- the place that a search finds, or the number of ids
+module _ (d count : ℕ) (a : List ℕ) (l : count ≤ length a) where
+  abbrev t : ℕ → Bool
+  t x = leb d x
+
+  abbrev s : List ℕ
+  s = take count a
+
+  abbrev r : ℕ
+  r = position_or_len t s
+
+  long : length s ≡ count
+  long = length-take-le count a l
+
+  first : (b : Bool) → ltb r (length s) ≡ b → Place d s (unwrap_or (cond (ltb r (length s)) (Some r) None) count)
+  first true q =
+      rw q
+      (record {
+        within = omega (arith, ltb-true r (length s) q);
+        below = λ k h. leb-false d (get_or s k 0) (fails_before_first t s k 0 h);
+        not_below = λ h. leb-true d (get_or s r 0) (passes_at_first t s 0 h);
+      })
+  first false q =
+      let f : length s ≤ r = ltb-false r (length s) q in
+      rw q
+      (record {
+        within = omega (arith, long);
+        below = λ k h. leb-false d (get_or s k 0) (fails_before_first t s k 0 (omega (arith, f, long)));
+        not_below = λ h. absurd (omega (arith, long));
+      })
+
+  pub found_at : Place d s (unwrap_or (position t s) count)
+  found_at = first (ltb r (length s)) refl
 
 -- a place whose id is d itself: nothing is inserted
 pub present : (d : ℕ) (s : List ℕ) (r : ℕ) → Place d s r → r < length s → get_or s r 0 ≡ d → insert_id d s ≡ s

@@ -13,17 +13,16 @@ ghost use Rattle.interaction.specs.Post.{Answers, Answered, Interacts};
 
 use data::limits::MAX_TALLY;
 use data::refusal::InteractRefusal;
-use hit_lists::{Hit, WidgetHits};
+use hit_lists::WidgetHits;
 use hit_refusals::input_refusal;
 use id_lists::{contains_pointer, hovered};
 use interaction_events::walked;
 use interaction_state::drag::interaction_after;
-use interaction_state::lookup::Table;
 use interaction_state::state::{
     Answer, Interaction, InteractionSnapshot, Outcome, Seen, if_changed,
 };
 use pointer_events::CODES;
-use widget_index::table::{Numbers, WidgetRects, Words};
+use widget_index::index::Table;
 
 // The snapshot but for the two id sets.
 fn outcome(
@@ -61,11 +60,7 @@ fn tally_after(tally: u32, started: Option<u64>) -> u32
     requires { (is_some started && leb max_tally tally) ≡ false }
     ensures { result ≡ tally + one_if started }
 {
-    // a match: the sum in a closure for `map_or` would ask for the precondition once more
-    match started {
-        None => tally,
-        Some(_) => tally + 1,
-    }
+    tally + u32::from(started.is_some())
 }
 
 // The id sets are written, and the answer made.
@@ -97,6 +92,8 @@ fn answered(
 }
 
 // No entry and no buffer is refused: 10, or taken.
+// Kept (plain): the id buffers are lent one by one: of a struct that holds a `&mut` each clause would have to say what stands behind it afterwards. The
+// codes come whole with their count, by which `pointer_events` says what the events are: a slice cut off before would need that said once more
 fn unless_full(
     view: Seen,
     codes: &[u32; CODES],
@@ -125,41 +122,27 @@ fn unless_full(
 }
 
 // `interact` of whatever is seen of the input, of every panel with this interaction state and tally: refused, or taken as the model takes it. `top` gets
-// the hovered ids, `all` those that contain the pointer. The parameters are those of the host's call, of which the hits and the table go on together.
+// the hovered ids, `all` those that contain the pointer.
+// Kept (plain): the id buffers are lent one by one: of a struct that holds a `&mut` each clause would have to say what stands behind it afterwards. The
+// codes come whole with their count, by which `pointer_events` says what the events are: a slice cut off before would need that said once more
 pub fn interact(
     view: Seen,
     codes: &[u32; CODES],
     count: usize,
-    set: WidgetRects,
-    words: &Words,
-    numbers: &Numbers,
+    table: Table<'_>,
     s: Interaction,
     tally: u32,
-    close: &[u64],
-    within: &[u64],
-    click: Option<Hit>,
-    drag: Option<Hit>,
+    hits: WidgetHits<'_>,
     top: &mut [u64],
     all: &mut [u64],
 ) -> Result<Answer, InteractRefusal>
     ensures { (positions edges : List Float) (p : Panel) → p.interaction ≡ interaction_of s → p.tally ≡ tally
         → Interacts p
         (interact_seen (seen_of view (events codes.now positions count)) p
-        (input (lookup set words.now numbers.now edges)
-        close.now within.now click drag (length top.old) (length all.old)))
+        (input (lookup table.entry.set table.entry.words.now table.entry.numbers.now edges)
+        hits.entry.close.now hits.entry.contains_pointer.now hits.entry.click hits.entry.drag (length top.old) (length all.old)))
         result top.old all.old top.new all.new }
 {
-    let hits = WidgetHits {
-        close,
-        contains_pointer: within,
-        click,
-        drag,
-    };
-    let table = Table {
-        set,
-        words,
-        numbers,
-    };
     input_refusal(hits, top.len(), all.len())?;
     unless_full(view, codes, count, table, s, tally, hits, top, all)
 }

@@ -3,9 +3,8 @@
 
 ghost use Rattle.std.specs.Prelude.{◌≡◌, Bool, true, false, List, ℕ, Float, Option, None, Some};
 ghost use Rattle.hit_lists.specs.Hits.{view};
-ghost use Rattle.pointer_events.specs.declared.Entry.{Entry};
-ghost use Rattle.pointer_events.specs.Events.{event_of, events};
-ghost use Rattle.model.specs.Types.{Pos2, PointerButton, Click, Pressed, Released, WidgetRect};
+ghost use Rattle.pointer_events.specs.Events.{kind_of, events};
+ghost use Rattle.model.specs.Types.{Pos2, PointerButton, PointerEvent, Click, Pressed, Released, WidgetRect};
 ghost use Rattle.model.specs.Interact.{InteractInput, forget_gone_click, abort_if, long_touch_if, pointer_event, pointer_events, walked};
 ghost use Rattle.interaction_state.specs.View.{interaction_of};
 ghost use Rattle.interaction_state.specs.Lookup.{lookup};
@@ -13,16 +12,17 @@ ghost use Rattle.interaction_events.specs.View.{going_of, seen_of, Looks};
 
 use hit_lists::WidgetHits;
 use id_lists::hit_id;
-use interaction_state::lookup::Table;
+use interaction_state::lookup::known_id;
 use interaction_state::state::{Going, Interaction, Seen};
-use pointer_events::{CODES, counted};
+use pointer_events::{CODES, EventKind, counted, kind_at};
+use widget_index::index::Table;
 
 // The widget that might be clicked is gone, and so is the click. One that might be dragged, or is dragged, stays.
 fn forget_gone_click(table: Table<'_>, s: Interaction) -> Interaction
     ensures { (edges : List Float) → interaction_of result ≡ forget_gone_click (lookup table.entry.set table.entry.words.now table.entry.numbers.now edges) (interaction_of s) }
 {
     Interaction {
-        potential_click_id: table.known_id(s.potential_click_id),
+        potential_click_id: known_id(table, s.potential_click_id),
         ..s
     }
 }
@@ -58,7 +58,7 @@ fn long_touch_if(long: bool, table: Table<'_>, s: Interaction) -> Going
     if !long {
         return going(s);
     }
-    let touched = table.known_id(s.potential_click_id);
+    let touched = known_id(table, s.potential_click_id);
     if touched.is_some() {
         return Going {
             interaction: Interaction::default(),
@@ -101,7 +101,7 @@ fn clicked(table: Table<'_>, g: Going) -> Going
     ensures { (x : InteractInput) (edges : List Float) → x.widgets ≡ lookup table.entry.set table.entry.words.now table.entry.numbers.now edges
         → (k : Click) (b : PointerButton) → going_of result ≡ pointer_event x false (Released (Some k) b) (going_of g) }
 {
-    let known = table.known_id(g.interaction.potential_click_id);
+    let known = known_id(table, g.interaction.potential_click_id);
     Going {
         interaction: Interaction::default(),
         clicked: known.or(g.clicked),
@@ -109,31 +109,28 @@ fn clicked(table: Table<'_>, g: Going) -> Going
     }
 }
 
-// A number: it is the lent word of the event.
-// By the kind of a pointer event: 0 moved, 1 pressed, 2 released, else released with a click.
+// A release that is a click is none while something is dragged.
 fn pointer_event(
-    kind: u32,
+    kind: EventKind,
     dragging: bool,
     hits: WidgetHits<'_>,
     table: Table<'_>,
     g: Going,
 ) -> Going
     ensures { (x : InteractInput) → Looks x table.entry.set table.entry.words.now table.entry.numbers.now hits.entry.click hits.entry.drag
-        → (e : Entry) → e.kind ≡ kind → going_of result ≡ pointer_event x dragging (event_of e) (going_of g) }
+        → (e : PointerEvent) → kind_of e ≡ kind → going_of result ≡ pointer_event x dragging e (going_of g) }
 {
-    if kind == 0 {
-        return g;
+    match kind {
+        EventKind::Moved => g,
+        EventKind::Pressed(_) => pressed(hits, g),
+        EventKind::Released(click, _) => {
+            if click.is_some() & !dragging {
+                clicked(table, g)
+            } else {
+                released(g)
+            }
+        }
     }
-    if kind == 1 {
-        return pressed(hits, g);
-    }
-    if kind == 2 {
-        return released(g);
-    }
-    if dragging {
-        return released(g);
-    }
-    clicked(table, g)
 }
 
 fn pointer_events(
@@ -147,9 +144,10 @@ fn pointer_events(
     ensures { (positions : List Float) (x : InteractInput) → Looks x table.entry.set table.entry.words.now table.entry.numbers.now hits.entry.click hits.entry.drag
         → going_of result ≡ pointer_events x dragging (events codes.now positions count) (going_of g) }
 {
+    // Kept (plain): by index: the contract finds an event by its number in the codes and in the positions
     let mut h = g;
     for i in 0..counted(count) {
-        h = pointer_event(codes[i * 4], dragging, hits, table, h);
+        h = pointer_event(kind_at(codes, i), dragging, hits, table, h);
     }
     h
 }

@@ -6,10 +6,11 @@ ghost use Rattle.model.specs.Interact.{InteractInput, get, could_still_be_clicke
 ghost use Rattle.interaction_state.specs.View.{interaction_of, kept_after};
 ghost use Rattle.interaction_state.specs.Lookup.{lookup, found_of};
 
-use crate::lookup::{Found, Table};
+use crate::lookup::{Found, look_up};
 use crate::state::{Interaction, Seen, kept_if};
 use data::sense::{senses_click, senses_drag};
 use hit_lists::{WidgetHits, has_hit, is_hit};
+use widget_index::index::Table;
 
 #[tactic(auto, unfolding(model::specs::Interact::could_still_be_clicked))]
 fn could_still_be_clicked(hits: WidgetHits<'_>, id: u64) -> bool
@@ -43,7 +44,7 @@ fn new_drag(dragging: bool, hits: WidgetHits<'_>, table: Table<'_>, id: Option<u
         → result ≡ new_drag x dragging (get id (lookup table.entry.set table.entry.words.now table.entry.numbers.now edges)) }
 {
     let d = id?;
-    let f = table.look_up(d)?;
+    let f = look_up(table, d)?;
     is_dragged(f, dragging, hits, d).then_some(d)
 }
 
@@ -57,7 +58,8 @@ fn dragged_after(
     ensures { (x : InteractInput) (edges : List Float) → x.widgets ≡ lookup table.entry.set table.entry.words.now table.entry.numbers.now edges
         → x.contains_pointer ≡ hits_of hits.entry.contains_pointer.now → x.click ≡ view hits.entry.click → result ≡ dragged_after x dragging (interaction_of s) }
 {
-    // a match: a closure for `or_else` would need the contract of `new_drag` once more
+    // Kept (proof): a match: tried, `or_else`: the closure's contract does not say what `new_drag` ensures of every input. `or` would ask the table while one
+    // is dragged, too
     match s.dragged {
         Some(d) => Some(d),
         None => new_drag(dragging, hits, table, s.potential_drag_id),

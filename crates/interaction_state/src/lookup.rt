@@ -3,16 +3,8 @@ ghost use Rattle.std.specs.Prelude.{◌≡◌, List, Float};
 ghost use Rattle.model.specs.Interact.{get, widget_id};
 ghost use Rattle.interaction_state.specs.Lookup.{lookup, found_of};
 
-use widget_index::index::find;
-use widget_index::table::{Numbers, TRAITS, WidgetRects, Words};
-
-// The widget set with the two lent arrays that it is in.
-#[derive(Clone, Copy)]
-pub struct Table<'a> {
-    pub set: WidgetRects,
-    pub words: &'a Words,
-    pub numbers: &'a Numbers,
-}
+use widget_index::index::Table;
+use widget_index::table::TRAITS;
 
 #[derive(Clone, Copy)]
 pub struct Found {
@@ -20,24 +12,22 @@ pub struct Found {
     pub sense: u32,
 }
 
-impl<'a> Table<'a> {
-    pub fn look_up(self, id: u64) -> Option<Found>
-        ensures { (edges : List Float) → result ≡ found_of (lookup self.entry.set self.entry.words.now self.entry.numbers.now edges id) }
-    {
-        let s = find(self.set, self.words, self.numbers, id)?;
-        let traits = self.numbers[TRAITS + s];
-        Some(Found {
-            enabled: traits / 2 % 2 == 1,
-            sense: traits / 4,
-        })
-    }
+pub fn look_up(table: Table<'_>, id: u64) -> Option<Found>
+    ensures { (edges : List Float) → result ≡ found_of (lookup table.entry.set table.entry.words.now table.entry.numbers.now edges id) }
+{
+    let s = table.find(id)?;
+    let traits = table.numbers[TRAITS + s];
+    Some(Found {
+        enabled: traits / 2 % 2 == 1,
+        sense: traits / 4,
+    })
+}
 
-    // The id, if its widget is known.
-    pub fn known_id(self, id: Option<u64>) -> Option<u64>
-        ensures { (edges : List Float) → result ≡ widget_id (get id (lookup self.entry.set self.entry.words.now self.entry.numbers.now edges)) }
-    {
-        let d = id?;
-        self.look_up(d)?;
-        Some(d)
-    }
+// The id, if its widget is known.
+pub fn known_id(table: Table<'_>, id: Option<u64>) -> Option<u64>
+    ensures { (edges : List Float) → result ≡ widget_id (get id (lookup table.entry.set table.entry.words.now table.entry.numbers.now edges)) }
+{
+    let d = id?;
+    look_up(table, d)?;
+    Some(d)
 }

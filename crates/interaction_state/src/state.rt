@@ -20,6 +20,7 @@ pub struct Seen {
     pub could_any_button_be_click: bool,
     pub any_down: bool,
     // `latest_pos().is_some()`
+    // Kept (plain): the answer to a question: an interact reads no position
     pub has_pointer: bool,
 }
 
@@ -65,7 +66,7 @@ pub struct Answer {
 pub fn kept_if(keep: bool, id: Option<u64>) -> Option<u64>
     ensures { result ≡ kept_if keep id }
 {
-    // an if: `filter` would take a closure that reads no id
+    // Kept (plain): an if: `filter` would take a closure that reads no id
     if keep { id } else { None }
 }
 

@@ -6,6 +6,7 @@ use Rattle.model.specs.Pass as Model
 use Rattle.touch_state.specs.View.{view}
 use Rattle.interaction_state.specs.declared.state.Answer.{Answer}
 use Rattle.data.specs.declared.refusal.InteractRefusal.{InteractRefusal}
+use Rattle.data.specs.declared.refusal.PassRefusal.{PassRefusal}
 use Rattle.interaction_state.specs.View.{interaction_of}
 use Rattle.input_state.specs.View.{Lent, panel}
 use Rattle.input_pass.specs.declared.begin.Begun.{Begun}
@@ -21,9 +22,10 @@ pub record Fresh (presses : List ℕ) (r : Panel) : Type 0 where
   -- over any lent arrays with these presses, whatever the others hold
   pub shows_fresh : (l : Lent) → l.presses ≡ presses → shown_by l r ≡ fresh
 
--- after a pass: its state and its devices, as before where it is refused; interaction and tally are not its to change
-abbrev pub after_pass : Panel → Begun → Panel
-after_pass p b = record { input = b.state; devices = b.devices; interaction = p.interaction; tally = p.tally }
+-- after a pass: refused, all is as before; taken, its state and its devices. Interaction and tally are not its to change
+abbrev pub after_pass : Panel → Result Begun PassRefusal → Panel
+after_pass p (Err why) = p
+after_pass p (Ok b) = record { input = b.state; devices = b.devices; interaction = p.interaction; tally = p.tally }
 
 -- after an interact: refused, all is as before; taken, the interaction and the tally are those that it answers
 abbrev pub after_interact : Panel → Result Answer InteractRefusal → Panel

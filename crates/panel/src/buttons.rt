@@ -1,5 +1,5 @@
 // Buttons, presses, clicks and the pass's pointer events.
-// Calls handed on: the clauses are what this door adds.
+// Kept (plain): calls handed on, each with a clause of its own: the clauses are what this door adds.
 ghost use Rattle.model.specs.Types.{Primary, Secondary, Middle};
 ghost use Rattle.model.specs.Questions.{settled, bool, number, maybe_position, maybe_seconds};
 ghost use Rattle.model.specs.Questions as ask;

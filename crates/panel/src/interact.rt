@@ -3,7 +3,7 @@ ghost use Rattle.panel.specs.Steps.{Sees, Interacts};
 
 use crate::touching::is_long_touch;
 use data::refusal::InteractRefusal;
-use hit_lists::Hit;
+use hit_lists::{Hit, WidgetHits};
 use input_state::clock::Clock;
 use input_state::pointer::Pointer;
 use input_state::screen::Screen;
@@ -13,6 +13,7 @@ use pointer_clicks::{any_down, could_any_button_be_click, is_decidedly_dragging}
 use pointer_events::CODES;
 use pointer_questions::moving::has_pointer;
 use touch_state::devices::Devices;
+use widget_index::index::Table;
 use widget_index::table::{Numbers, WidgetRects, Words};
 
 // egui's Key::Escape
@@ -45,7 +46,7 @@ fn seen(
 
 // Refused, with both id buffers as before; or taken: the answer holds the interaction and the tally for the next interact. `top` gets the hovered ids,
 // `all` those that contain the pointer, both ascending; 66 places each. The widgets are those of the set, whose rectangles are not read.
-// As many parameters as the host's call: C lends each array by itself.
+// Kept (C): as many parameters as the host's call, since C lends each array by itself
 pub fn interact(
     clock: Clock,
     screen: Screen,
@@ -77,15 +78,19 @@ pub fn interact(
         view,
         codes,
         pointer.press.held.event_count,
-        set,
-        words,
-        numbers,
+        Table {
+            set,
+            words,
+            numbers,
+        },
         interaction,
         tally,
-        close,
-        within,
-        click,
-        drag,
+        WidgetHits {
+            close,
+            contains_pointer: within,
+            click,
+            drag,
+        },
         top,
         all,
     )

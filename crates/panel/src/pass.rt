@@ -2,6 +2,7 @@
 ghost use Rattle.input_state.specs.View.{lent};
 ghost use Rattle.input_pass.specs.Begun.{Begun as BegunAs};
 
+use data::refusal::PassRefusal;
 use emath_history::history::{MAX_LEN, PARTS};
 use input_pass::begin::{Begun, begin_pass};
 use input_state::input::PassInput;
@@ -10,7 +11,8 @@ use key_state::keys::PRESSES;
 use pointer_events::{CODES, PLACES};
 use touch_state::devices::Devices;
 
-// Refused, with the state, the devices and every lent place as before; or taken, and then every lent place is stated too.
+// Kept (C): lent one by one, as C lends them at the door: of a struct that holds a `&mut` each clause would have to say what stands behind it.
+// Refused, with every lent place as before, the state and the devices being the caller's; or taken, and then every lent place is stated too.
 pub fn pass(
     input: InputState,
     devices: Devices,
@@ -21,7 +23,7 @@ pub fn pass(
     presses: &mut [u8; PRESSES],
     given: PassInput,
     feed: &[u32],
-) -> Begun
+) -> Result<Begun, PassRefusal>
     ensures { BegunAs
         given feed.now
         (lent times.old positions.old codes.old places.old presses.old) input devices

@@ -2,7 +2,7 @@
 ghost use Rattle.std.specs.Prelude.{◌≡◌};
 ghost use Rattle.panel.specs.View.{Fresh, after_pass, after_interact};
 
-use data::refusal::InteractRefusal;
+use data::refusal::{InteractRefusal, PassRefusal};
 use input_pass::begin::Begun;
 use input_state::state::InputState;
 use interaction_state::state::{Answer, Interaction};
@@ -26,27 +26,28 @@ pub fn fresh(presses: &mut [u8; PRESSES]) -> Panel
     Panel {
         input: input_state::state::fresh(),
         devices: touch_state::devices::none(),
-        interaction: Interaction {
-            potential_click_id: None,
-            potential_drag_id: None,
-            dragged: None,
-        },
+        interaction: Interaction::default(),
         tally: 0,
     }
 }
 
+// Kept (plain): here and below a function for each call: what is alike is that a refusal leaves the panel; what is put in differs.
 // The panel after a pass, taken or refused.
-pub fn after_pass(panel: Panel, begun: Begun) -> Panel
+pub fn after_pass(panel: Panel, begun: Result<Begun, PassRefusal>) -> Panel
     ensures { result ≡ after_pass panel begun }
 {
-    Panel {
-        input: begun.state,
-        devices: begun.devices,
-        ..panel
+    match begun {
+        Err(_) => panel,
+        Ok(taken) => Panel {
+            input: taken.state,
+            devices: taken.devices,
+            ..panel
+        },
     }
 }
 
 // The panel after an interact, taken or refused.
+// Kept (plain): what is put in is not what a pass puts in.
 pub fn after_interact(panel: Panel, interacted: Result<Answer, InteractRefusal>) -> Panel
     ensures { result ≡ after_interact panel interacted }
 {

@@ -1,5 +1,5 @@
 // Touches and gestures.
-// Calls handed on: the clauses are what this door adds.
+// Kept (plain): calls handed on, each with a clause of its own: the clauses are what this door adds.
 ghost use Rattle.model.specs.Questions.{settled, bool, gesture};
 ghost use Rattle.model.specs.Questions as ask;
 ghost use Rattle.panel.specs.Answers.{OfDevices, OfLongTouch};

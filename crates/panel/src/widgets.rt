@@ -1,11 +1,14 @@
 // The widget set: a header by value, with its table in three lent arrays. Fresh arrays may hold anything.
 // Calls handed on: the clauses are what this door adds.
+// Kept (C): C lends the arrays of the set, each by itself, so they are parameters here, and one table from here on
 ghost use Rattle.widget_rect.specs.Told.{Inserts};
 ghost use Rattle.widget_rect.specs.Questions.{Empty, Contains, Gets, Orders, Counts, Layers};
 
 use data::layers::LayerId;
+use data::refusal::InsertRefusal;
 use data::widget::WidgetRect;
-use widget_append::Decision;
+use widget_append::Insertion;
+use widget_index::index::Table;
 use widget_index::table::{Edges, Numbers, WidgetRects, Words};
 
 // A new set, or one that is emptied.
@@ -25,7 +28,7 @@ pub fn insert(
     layer: &mut [WidgetRect],
     widget: WidgetRect,
     move_to_top: bool,
-) -> Decision
+) -> Result<Insertion, InsertRefusal>
     ensures { Inserts
         «set» words.old numbers.old edges.old layer.old widget move_to_top
         result words.new numbers.new edges.new layer.new }
@@ -36,7 +39,14 @@ pub fn insert(
 pub fn contains(set: WidgetRects, words: &Words, numbers: &Numbers, id: u64) -> bool
     ensures { Contains «set» words.now numbers.now id result }
 {
-    widget_rect::questions::contains(set, words, numbers, id)
+    widget_rect::questions::contains(
+        Table {
+            set,
+            words,
+            numbers,
+        },
+        id,
+    )
 }
 
 pub fn get(
@@ -48,7 +58,15 @@ pub fn get(
 ) -> Option<WidgetRect>
     ensures { Gets «set» words.now numbers.now edges.now id result }
 {
-    widget_rect::questions::get(set, words, numbers, edges, id)
+    widget_rect::questions::get(
+        Table {
+            set,
+            words,
+            numbers,
+        },
+        edges,
+        id,
+    )
 }
 
 // In which layer, and in which order in that layer?
@@ -61,19 +79,41 @@ pub fn order(
 ) -> Option<(LayerId, usize)>
     ensures { Orders «set» words.now numbers.now edges.now id result }
 {
-    widget_rect::questions::order(set, words, numbers, edges, id)
+    widget_rect::questions::order(
+        Table {
+            set,
+            words,
+            numbers,
+        },
+        edges,
+        id,
+    )
 }
 
 // How many widgets the set counts in a layer.
 pub fn layer_count(set: WidgetRects, words: &Words, numbers: &Numbers, layer: LayerId) -> usize
     ensures { Counts «set» words.now numbers.now layer result }
 {
-    widget_rect::questions::layer_count(set, words, numbers, layer)
+    widget_rect::questions::layer_count(
+        Table {
+            set,
+            words,
+            numbers,
+        },
+        layer,
+    )
 }
 
 // The layers in the order of their first insertion: the one at i, if there is one.
 pub fn layer_id(set: WidgetRects, words: &Words, numbers: &Numbers, i: usize) -> Option<LayerId>
     ensures { Layers «set» words.now numbers.now i result }
 {
-    widget_rect::questions::layer_id(set, words, numbers, i)
+    widget_rect::questions::layer_id(
+        Table {
+            set,
+            words,
+            numbers,
+        },
+        i,
+    )
 }

@@ -1,4 +1,5 @@
 -- The definitions of specs/Append.antt, case by case: which tests lead to which outcome. Assumes nothing.
+use Rattle.std.specs.Prelude.{Err, Result}
 use mathlib.Core.Path.{◌≡◌, refl}
 use Prim.Native.Nat.{ℕ, ◌+◌}
 use mathlib.Core.Bool.{true, false}
@@ -11,14 +12,14 @@ use Rattle.data.specs.declared.refusal.InsertRefusal.{InsertRefusal}
 use Rattle.data.specs.declared.refusal.InsertRefusal.TheVariants.{Full, ShortSlice}
 use Rattle.widget_index.specs.declared.table.WidgetRects.{WidgetRects}
 use Rattle.widget_index.specs.Table.{layers_of, find_layer}
-use Rattle.widget_append.specs.declared.Decision.{Decision}
-use Rattle.widget_append.specs.Append.{Outcome, Gives, refuse, unchanged, number_of, count_of, append, insert_new}
+use Rattle.widget_append.specs.declared.Insertion.{Insertion}
+use Rattle.widget_append.specs.Append.{Outcome, Gives, unchanged, number_of, count_of, append, insert_new}
 
-pub gives : {o o' : Outcome} {r : Decision} {ws ns : List ℕ} {es : List Float} → o ≡ o' → Gives o' r ws ns es → Gives o r ws ns es
+pub gives : {o o' : Outcome} {r : Result Insertion InsertRefusal} {ws ns : List ℕ} {es : List Float} → o ≡ o' → Gives o' r ws ns es → Gives o r ws ns es
 gives e g = rw e g
 
-pub as_before : {r d : Decision} (ws ns : List ℕ) (es : List Float) → r ≡ d → Gives (unchanged d ws ns es) r ws ns es
-as_before ws ns es e = record { decision = e; words = refl; numbers = refl; edges = refl }
+pub as_before : (why : InsertRefusal) (ws ns : List ℕ) (es : List Float) → Gives (unchanged why ws ns es) (Err why) ws ns es
+as_before why ws ns es = record { decision = refl; words = refl; numbers = refl; edges = refl }
 
 module _ (h : WidgetRects) (words numbers : List ℕ) (edges : List Float) (lent : ℕ) (w : WidgetRect) where
   abbrev layer_entry : ℕ
@@ -31,7 +32,7 @@ module _ (h : WidgetRects) (words numbers : List ℕ) (edges : List Float) (lent
   new_count = count_of numbers layer_entry
 
   abbrev as_is : InsertRefusal → Outcome
-  as_is why = unchanged (refuse h w why) words numbers edges
+  as_is why = unchanged why words numbers edges
 
   pub full : leb max_widgets h.widgets ≡ true → insert_new h words numbers edges lent w ≡ as_is Full
   unfolding insert_new

@@ -1,5 +1,5 @@
 -- One insertion on the set's own arrays: what it answers, the set after it, every place of the three arrays, and what becomes of the lent slice. Here of a new widget.
-use Rattle.std.specs.Prelude.{ℕ, ◌+◌, ◌-◌, ◌*◌, cond, ◌≡◌, List, [], ◌∷◌, leb, ltb, eqb, Float, set, Ok, Err}
+use Rattle.std.specs.Prelude.{ℕ, ◌+◌, ◌-◌, ◌*◌, cond, ◌≡◌, List, [], ◌∷◌, leb, ltb, eqb, Float, set, Ok, Err, Result}
 use Rattle.data.specs.Limits.{max_widgets, max_layers}
 use Rattle.data.specs.declared.widget.WidgetRect.{WidgetRect}
 use Rattle.data.specs.declared.refusal.InsertRefusal.{InsertRefusal}
@@ -8,29 +8,35 @@ use Rattle.model.specs.Widgets.{move_to_end}
 use Rattle.widget_index.specs.declared.table.WidgetRects.{WidgetRects}
 use Rattle.widget_index.specs.Layout.{stores, parents, layer_ids, links, places, traits, orders, counts, place, count_at, packed}
 use Rattle.widget_index.specs.Table.{layers_of, bucket, head, find_layer}
-use Rattle.widget_append.specs.declared.Decision.{Decision}
+use Rattle.widget_append.specs.declared.Insertion.{Insertion}
 
--- the decision, and the arrays after it
+-- the decision, taken or refused, and the arrays after it
 pub record Outcome : Type 0 where
-  pub decision : Decision
+  pub decision : Result Insertion InsertRefusal
   pub words : List ℕ
   pub numbers : List ℕ
   pub edges : List Float
 
 -- what a function that decides gives
-pub record Gives (o : Outcome) (r : Decision) (ws ns : List ℕ) (es : List Float) : Type 0 where
+pub record Gives (o : Outcome) (r : Result Insertion InsertRefusal) (ws ns : List ℕ) (es : List Float) : Type 0 where
   pub decision : r ≡ o.decision
   pub words : ws ≡ o.words
   pub numbers : ns ≡ o.numbers
   pub edges : es ≡ o.edges
 
--- the lent slice after a decision: `to - from` places from `from` on change
+-- the lent slice after an insertion: `to - from` places from `from` on change
 unfoldable pub settled : ℕ → ℕ → WidgetRect → List WidgetRect → List WidgetRect
 settled from to w slice = cond (ltb from to) (move_to_end from to w slice) slice
 
--- all as before
-abbrev pub refuse : WidgetRects → WidgetRect → InsertRefusal → Decision
-refuse h w why = record { answer = Err why; «set» = h; from = 0; to = 0; widget = w }
+-- the set after a decision: refused, it is as before
+abbrev pub set_after : WidgetRects → Result Insertion InsertRefusal → WidgetRects
+set_after h (Err why) = h
+set_after h (Ok i) = i.«set»
+
+-- the lent slice after a decision: refused, it is as before
+abbrev pub settled_by : Result Insertion InsertRefusal → List WidgetRect → List WidgetRect
+settled_by (Err why) slice = slice
+settled_by (Ok i) slice = settled i.from i.to i.widget slice
 
 -- ---- stores of one record
 
@@ -69,20 +75,23 @@ unfoldable pub append : WidgetRects → List ℕ → List ℕ → List Float →
 append h words numbers edges w l count =
     record {
       decision =
-          record {
-            answer = Ok (record { position = count; count = count + 1 });
+          Ok
+          (record {
+            position = count;
+            count = count + 1;
             «set» = record { widgets = h.widgets + 1; layers = layers_after h.layers l };
             from = count;
             to = count + 1;
             widget = w;
-          };
+          });
       words = appended_words h.widgets l w words;
       numbers = appended_numbers h.widgets l count (head h words numbers w.id) w numbers;
       edges = with_edges h.widgets w edges;
     }
 
-abbrev pub unchanged : Decision → List ℕ → List ℕ → List Float → Outcome
-unchanged d words numbers edges = record { decision = d; words = words; numbers = numbers; edges = edges }
+-- a refusal, and all as before
+abbrev pub unchanged : InsertRefusal → List ℕ → List ℕ → List Float → Outcome
+unchanged why words numbers edges = record { decision = Err why; words = words; numbers = numbers; edges = edges }
 
 -- 6, then 8
 unfoldable pub insert_new : WidgetRects → List ℕ → List ℕ → List Float → ℕ → WidgetRect → Outcome
@@ -92,7 +101,7 @@ insert_new h words numbers edges lent w =
     let l = number_of e n in
     let count = count_of numbers e in
     cond (leb max_widgets h.widgets)
-    (unchanged (refuse h w Full) words numbers edges)
+    (unchanged Full words numbers edges)
     (cond (leb max_layers l)
-    (unchanged (refuse h w Full) words numbers edges)
-    (cond (ltb lent (count + 1)) (unchanged (refuse h w ShortSlice) words numbers edges) (append h words numbers edges w l count)))
+    (unchanged Full words numbers edges)
+    (cond (ltb lent (count + 1)) (unchanged ShortSlice words numbers edges) (append h words numbers edges w l count)))

@@ -1,53 +1,38 @@
 // What an insertion answers, the stores of one record, and the insertion of a new widget. The lent slice is not touched here.
+// Kept (plain): the set's three arrays of plain numbers, lent one by one: of a struct that holds a `&mut` each clause would have to say what stands behind it.
 #![tactic(auto)]
 
-ghost use Rattle.std.specs.Prelude.{◌≡◌, ◌<◌, ◌≤◌};
-ghost use Rattle.widget_index.specs.Table.{find_layer};
-ghost use Rattle.widget_append.specs.Append.{Gives, refuse, with_edges, with_traits, number_of, count_of, layers_after, append, insert_new};
+ghost use Rattle.std.specs.Prelude.{◌≡◌, ◌<◌, ◌≤◌, Ok};
+ghost use Rattle.widget_index.specs.Table.{layers_of, find_layer};
+ghost use Rattle.widget_index.specs.Layout.{entry_of};
+ghost use Rattle.widget_append.specs.Append.{Gives, with_edges, with_traits, number_of, count_of, layers_after, append, insert_new};
 
 use data::layers::LayerId;
 use data::limits::{MAX_LAYERS, MAX_WIDGETS};
 use data::refusal::InsertRefusal;
 use data::widget::WidgetRect;
-use widget_index::index::{bucket, find_layer, head};
+use widget_index::index::{Table, bucket};
 use widget_index::table::{
     COUNTS, Edges, LAYER_IDS, LINKS, Numbers, ORDERS, PARENTS, PLACES, TRAITS, WidgetRects, Words,
     count_at, layers_of, packed, place,
 };
 
-// Where an insertion put the widget: its position in its layer, and how many widgets the layer has now.
+// An insertion that is taken: the widget's position in its layer, how many widgets the layer has now, and the set after it. In the lent
+// slice, the record at `from` goes, each after it up to `to` falls by one, and `widget` comes last.
 #[derive(Clone, Copy)]
 pub struct Insertion {
     pub position: usize,
+    // Kept (C): the layer's records are lent by C in a slice that may be longer, so their number stands here
     pub count: usize,
-}
-
-// What is to be done: in the lent slice, the record at `from` goes, each after it up to `to` falls by one, and `widget` comes last.
-// The answer beside the rest, no Result of the rest: refused or taken, the caller goes on with the set and settles the slice without a match.
-#[derive(Clone, Copy)]
-pub struct Decision {
-    pub answer: Result<Insertion, InsertRefusal>,
     pub set: WidgetRects,
     pub from: usize,
     pub to: usize,
     pub widget: WidgetRect,
 }
 
-pub fn refuse(h: WidgetRects, w: WidgetRect, why: InsertRefusal) -> Decision
-    ensures { result ≡ refuse h w why }
-{
-    Decision {
-        answer: Err(why),
-        set: h,
-        from: 0,
-        to: 0,
-        widget: w,
-    }
-}
-
 // ---- stores of one record
 
-// Eight stores by index: C lends the edges as plain numbers.
+// The eight edges of a slot.
 pub fn put_edges(edges: &mut Edges, s: usize, w: WidgetRect)
     requires { s < 1024 }
     ensures { edges.new ≡ with_edges s w edges.old }
@@ -71,16 +56,26 @@ pub fn put_traits(numbers: &mut Numbers, s: usize, w: WidgetRect)
 
 // ---- a new widget
 
-// The number of the layer among n, and how many widgets it has: a new layer comes last, with none.
+// The number of the layer, and how many widgets it has: a new layer comes last, with none.
 #[tactic(auto, unfolding(crate::specs::Append::number_of, crate::specs::Append::count_of))]
-fn layer_for(words: &Words, numbers: &Numbers, layer: LayerId, n: usize) -> (usize, usize)
-    requires { n ≤ 32 }
-    ensures number { (result.0 ≡ number_of (find_layer words.now numbers.now layer n) n) × (result.0 ≤ 32) }
-    ensures counted { (result.1 ≡ count_of numbers.now (find_layer words.now numbers.now layer n)) × (result.1 < 2048) }
+fn layer_for(table: Table<'_>, layer: LayerId) -> (usize, usize)
+    ensures number { (result.0 ≡ number_of (find_layer table.entry.words.now table.entry.numbers.now layer (layers_of table.entry.set)) (layers_of table.entry.set)) × (result.0 ≤ 32) }
+    ensures counted { (result.1 ≡ count_of table.entry.numbers.now (find_layer table.entry.words.now table.entry.numbers.now layer (layers_of table.entry.set))) × (result.1 < 2048) }
 {
-    match find_layer(words, numbers, layer, n) {
-        Some(l) => (l, count_at(numbers, l)),
-        None => (n, 0),
+    match table.find_layer(layer) {
+        Some(l) => (l, count_at(table.numbers, l)),
+        None => (layers_of(table.set), 0),
+    }
+}
+
+// What stands for a slot in the lent array: the slot plus one, and 0 for none.
+fn entry(slot: Option<usize>) -> u32
+    requires { entry_of slot ≤ 1024 }
+    ensures { result ≡ entry_of slot }
+{
+    match slot {
+        Some(s) => (s + 1) as u32,
+        None => 0,
     }
 }
 
@@ -104,18 +99,23 @@ fn append(
     w: WidgetRect,
     l: usize,
     count: usize,
-) -> Decision
+) -> Insertion
     requires { (h.widgets < 1024) × (l < 32) × (count < 2048) }
-    ensures { Gives (append h words.old numbers.old edges.old w l count) result words.new numbers.new edges.new }
+    ensures { Gives (append h words.old numbers.old edges.old w l count) (Ok result) words.new numbers.new edges.new }
 {
     let s = h.widgets;
-    let e = head(h, words, numbers, w.id);
+    let table = Table {
+        set: h,
+        words,
+        numbers,
+    };
+    let e = entry(table.head(w.id));
     let b = bucket(w.id);
     let p = place(l, count);
     words[s] = w.id;
     words[PARENTS + s] = w.parent_id;
     words[LAYER_IDS + l] = w.layer_id.id;
-    numbers[LINKS + s] = e as u32;
+    numbers[LINKS + s] = e;
     numbers[b] = (s + 1) as u32;
     numbers[PLACES + s] = p;
     numbers[ORDERS + l] = w.layer_id.order;
@@ -126,11 +126,9 @@ fn append(
         widgets: s + 1,
         layers: layers_after(h.layers, l),
     };
-    Decision {
-        answer: Ok(Insertion {
-            position: count,
-            count: count + 1,
-        }),
+    Insertion {
+        position: count,
+        count: count + 1,
         set,
         from: count,
         to: count + 1,
@@ -146,18 +144,23 @@ pub fn insert_new(
     edges: &mut Edges,
     lent: usize,
     w: WidgetRect,
-) -> Decision
+) -> Result<Insertion, InsertRefusal>
     ensures { Gives (insert_new h words.old numbers.old edges.old lent w) result words.new numbers.new edges.new }
 {
     if MAX_WIDGETS <= h.widgets {
-        return refuse(h, w, InsertRefusal::Full);
+        return Err(InsertRefusal::Full);
     }
-    let (l, count) = layer_for(words, numbers, w.layer_id, layers_of(h));
+    let table = Table {
+        set: h,
+        words,
+        numbers,
+    };
+    let (l, count) = layer_for(table, w.layer_id);
     if MAX_LAYERS <= l {
-        return refuse(h, w, InsertRefusal::Full);
+        return Err(InsertRefusal::Full);
     }
     if lent < count + 1 {
-        return refuse(h, w, InsertRefusal::ShortSlice);
+        return Err(InsertRefusal::ShortSlice);
     }
-    append(h, words, numbers, edges, w, l, count)
+    Ok(append(h, words, numbers, edges, w, l, count))
 }

@@ -39,21 +39,13 @@ module _ (words numbers : List ℕ) (d : ℕ) where
       (λ (r : ℕ). cond (eqb (suc s) 0) 0 (cond (eqb d (id_at words (suc s - 1))) (suc s) r))
       (enough f g (link_at numbers (suc s - 1)) (omega (arith, link_falls numbers (suc s - 1))) (omega (arith, link_falls numbers (suc s - 1))))
 
-  pub stops : (e : ℕ) → 0 < e → d ≡ id_at words (e - 1) → chain words numbers d e e ≡ e
+  pub stops : (s : ℕ) → d ≡ id_at words s → chain words numbers d (suc s) (suc s) ≡ suc s
   unfolding chain
-  stops zero h same = absurd (never h)
-    where
-      never : 0 < 0 → ⊥
-      never h = omega arith
-  stops (suc s) h same = rw (eqb-suc-zero, eq-eqb _ _ same)
+  stops s same = let e : suc s - 1 ≡ s = omega arith in rw (eqb-suc-zero, e, eq-eqb _ _ same)
 
-  pub goes_on : (e : ℕ) → 0 < e → (d ≡ id_at words (e - 1) → ⊥) → chain words numbers d e e ≡ chain words numbers d (link_at numbers (e - 1)) (link_at numbers (e - 1))
+  pub goes_on : (s : ℕ) → (d ≡ id_at words s → ⊥) → chain words numbers d (suc s) (suc s) ≡ chain words numbers d (link_at numbers s) (link_at numbers s)
   unfolding chain
-  goes_on zero h other = absurd (never h)
-    where
-      never : 0 < 0 → ⊥
-      never h = omega arith
-  goes_on (suc s) h other = rw (eqb-suc-zero, ne_eqb _ _ other) (enough s (link_at numbers (suc s - 1)) (link_at numbers (suc s - 1)) (omega (arith, link_falls numbers (suc s - 1))) (omega arith))
+  goes_on s other = let e : suc s - 1 ≡ s = omega arith in rw (eqb-suc-zero, e, ne_eqb _ _ other) (enough s (link_at numbers s) (link_at numbers s) (link_falls numbers s) (omega arith))
 
 -- the same of `last`
 module _ (p : ℕ → Bool) where

@@ -1,16 +1,13 @@
 // The widget set: a header by value, and its table in three lent arrays of numbers. Fresh arrays may hold anything.
-// Places counted by hand, and three parameters: C lends the arrays, each by itself, as plain numbers.
-ghost use Rattle.std.specs.Prelude.{◌≡◌, ◌<◌, ◌≤◌, Float};
+// Kept (C): C lends the arrays as plain numbers, with their counts, which are clamped here; what stands in a number is worked out by hand
+ghost use Rattle.std.specs.Prelude.{◌≡◌, ◌<◌, ◌≤◌};
 ghost use Rattle.model.specs.Widgets.{same_layer};
-ghost use Rattle.widget_index.specs.Layout.{id_at, link_at, place_at, layer_of, position_of, place, count_at, packed, sense_of, enabled_of, visible_of};
-ghost use Rattle.widget_index.specs.Table.{widgets_of, layers_of, layer_at, rect_at, widget_at, trait_at, bucket, head};
+ghost use Rattle.widget_index.specs.Layout.{layer_of, position_of, place, count_at, packed};
+ghost use Rattle.widget_index.specs.Table.{widgets_of, layers_of};
 
 use data::bits::bit_number;
 use data::layers::LayerId;
 use data::limits::{MAX_LAYERS, MAX_WIDGETS};
-use data::widget::WidgetRect;
-use emath::pos2::Pos2;
-use emath::rect::Rect;
 
 // How many widgets and layers are known.
 #[derive(Clone, Copy)]
@@ -66,22 +63,11 @@ pub fn layers_of(h: WidgetRects) -> usize
     h.layers.min(MAX_LAYERS)
 }
 
-// Two comparisons, the model's definition word for word: a derived `==` would need a lemma besides, that it is this one.
 #[tactic(auto, unfolding(model::specs::Widgets::same_layer))]
 pub fn same_layer(a: LayerId, b: LayerId) -> bool
     ensures { result ≡ same_layer a b }
 {
-    (a.order == b.order) & (a.id == b.id)
-}
-
-pub fn layer_at(words: &Words, numbers: &Numbers, l: usize) -> LayerId
-    requires { l < 32 }
-    ensures { result ≡ layer_at words.now numbers.now l }
-{
-    LayerId {
-        order: numbers[ORDERS + l],
-        id: words[LAYER_IDS + l],
-    }
+    a == b
 }
 
 pub fn layer_of(place: u32) -> usize
@@ -114,40 +100,4 @@ pub fn packed(sense: u32, enabled: bool, visible: bool) -> u32
     ensures { result ≡ packed sense enabled visible }
 {
     sense % 8 * 4 + bit_number(enabled) * 2 + bit_number(visible)
-}
-
-fn rect_at(edges: &Edges, s: usize, j: usize) -> Rect
-    requires { (s < 1024) × (j ≤ 4) }
-    ensures { result ≡ rect_at edges.now s j }
-{
-    let min = Pos2 {
-        x: edges[s * 8 + j],
-        y: edges[s * 8 + (j + 1)],
-    };
-    let max = Pos2 {
-        x: edges[s * 8 + (j + 2)],
-        y: edges[s * 8 + (j + 3)],
-    };
-    Rect { min, max }
-}
-
-// The record of a slot.
-pub fn widget_at(words: &Words, numbers: &Numbers, edges: &Edges, s: usize) -> WidgetRect
-    requires { s < 1024 }
-    ensures { result ≡ widget_at words.now numbers.now edges.now s }
-{
-    let layer_id = layer_at(words, numbers, layer_of(numbers[PLACES + s]));
-    let rect = rect_at(edges, s, 0);
-    let interact_rect = rect_at(edges, s, 4);
-    let traits = numbers[TRAITS + s];
-    WidgetRect {
-        id: words[s],
-        parent_id: words[PARENTS + s],
-        layer_id,
-        rect,
-        interact_rect,
-        sense: traits / 4,
-        enabled: traits / 2 % 2 == 1,
-        visible: traits % 2 == 1,
-    }
 }

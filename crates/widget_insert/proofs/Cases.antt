@@ -1,6 +1,6 @@
 -- The definitions of specs/Insert.antt, case by case: which tests lead to which outcome. Assumes nothing.
-use Rattle.std.specs.Prelude.{None, Some}
-use mathlib.Core.Path.{◌≡◌, refl}
+use Rattle.std.specs.Prelude.{None, Some, Ok}
+use mathlib.Core.Path.{◌≡◌, refl, ap}
 use Prim.Native.Nat.{ℕ, suc, ◌+◌, ◌-◌}
 use native.Mathlib.Omega.{arith}
 use mathlib.Core.Bool.{Bool, true, false}
@@ -15,23 +15,23 @@ use Rattle.model.specs.Widgets.{same_layer, updated, record_refusal}
 use Rattle.widget_index.specs.declared.table.WidgetRects.{WidgetRects}
 use Rattle.widget_index.specs.Layout.{place_at, layer_of, position_of, count_at}
 use Rattle.widget_index.specs.Table.{widgets_of, layer_at, widget_at, find}
-use Rattle.widget_append.specs.declared.Decision.{Decision}
-use Rattle.widget_append.specs.Append.{Outcome, Gives, refuse, unchanged, insert_new, with_traits, with_edges}
+use Rattle.widget_append.specs.declared.Insertion.{Insertion}
+use Rattle.widget_append.specs.Append.{Outcome, Gives, unchanged, insert_new, with_traits, with_edges}
 use Rattle.widget_insert.specs.Insert.{at_least, take_update, moved_numbers, replace, move_to_top, insert_known, insert_checked, decide_unless, decide}
 
-module _ (h : WidgetRects) (words numbers : List ℕ) (edges : List Float) (w : WidgetRect) (s : ℕ) {ns : List ℕ} {es : List Float} {r : Decision} where
+module _ (h : WidgetRects) (words numbers : List ℕ) (edges : List Float) (w : WidgetRect) (s : ℕ) {ns : List ℕ} {es : List Float} {r : Insertion} where
   pub moved : (l position count : ℕ) → r ≡ take_update h (count - 1) count position count w → ns ≡ moved_numbers (widgets_of h) s l position count w numbers → es ≡ with_edges s w edges
-      → Gives (move_to_top h words numbers edges w s l position count) r words ns es
+      → Gives (move_to_top h words numbers edges w s l position count) (Ok r) words ns es
   unfolding move_to_top
-  moved l position count d e f = record { decision = d; words = refl; numbers = e; edges = f }
+  moved l position count d e f = record { decision = ap Ok d; words = refl; numbers = e; edges = f }
 
-  pub replaced : (position count : ℕ) → r ≡ take_update h position count position (position + 1) w → ns ≡ with_traits s w numbers → es ≡ with_edges s w edges → Gives (replace h words numbers edges w s position count) r words ns es
+  pub replaced : (position count : ℕ) → r ≡ take_update h position count position (position + 1) w → ns ≡ with_traits s w numbers → es ≡ with_edges s w edges → Gives (replace h words numbers edges w s position count) (Ok r) words ns es
   unfolding replace
-  replaced position count d e f = record { decision = d; words = refl; numbers = e; edges = f }
+  replaced position count d e f = record { decision = ap Ok d; words = refl; numbers = e; edges = f }
 
 module _ (h : WidgetRects) (words numbers : List ℕ) (edges : List Float) (lent : ℕ) (w : WidgetRect) where
   abbrev as_is : InsertRefusal → Outcome
-  as_is why = unchanged (refuse h w why) words numbers edges
+  as_is why = unchanged why words numbers edges
 
   -- ---- a known widget
   module _ (s : ℕ) where

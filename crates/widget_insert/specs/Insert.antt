@@ -7,8 +7,8 @@ use Rattle.model.specs.Widgets.{same_layer, updated, record_refusal}
 use Rattle.widget_index.specs.declared.table.WidgetRects.{WidgetRects}
 use Rattle.widget_index.specs.Layout.{places, span, place_at, layer_of, position_of, place, count_at}
 use Rattle.widget_index.specs.Table.{widgets_of, widget_at, find}
-use Rattle.widget_append.specs.declared.Decision.{Decision}
-use Rattle.widget_append.specs.Append.{Outcome, unchanged, refuse, with_edges, with_traits, insert_new}
+use Rattle.widget_append.specs.declared.Insertion.{Insertion}
+use Rattle.widget_append.specs.Append.{Outcome, unchanged, with_edges, with_traits, insert_new}
 
 -- ---- a known widget
 
@@ -27,13 +27,13 @@ fall (suc n) after before numbers =
 unfoldable pub at_least : ℕ → ℕ → ℕ
 at_least low n = cond (ltb n low) low n
 
-abbrev pub take_update : WidgetRects → ℕ → ℕ → ℕ → ℕ → WidgetRect → Decision
-take_update h position count from to w = record { answer = Ok (record { position = position; count = count }); «set» = h; from = from; to = to; widget = w }
+abbrev pub take_update : WidgetRects → ℕ → ℕ → ℕ → ℕ → WidgetRect → Insertion
+take_update h position count from to w = record { position = position; count = count; «set» = h; from = from; to = to; widget = w }
 
 unfoldable pub replace : WidgetRects → List ℕ → List ℕ → List Float → WidgetRect → ℕ → ℕ → ℕ → Outcome
 replace h words numbers edges w s position count =
     record {
-      decision = take_update h position count position (position + 1) w;
+      decision = Ok (take_update h position count position (position + 1) w);
       words = words;
       numbers = with_traits s w numbers;
       edges = with_edges s w edges;
@@ -46,7 +46,7 @@ moved_numbers n s l position count w numbers =
 unfoldable pub move_to_top : WidgetRects → List ℕ → List ℕ → List Float → WidgetRect → ℕ → ℕ → ℕ → ℕ → Outcome
 move_to_top h words numbers edges w s l position count =
     record {
-      decision = take_update h (count - 1) count position count w;
+      decision = Ok (take_update h (count - 1) count position count w);
       words = words;
       numbers = moved_numbers (widgets_of h) s l position count w numbers;
       edges = with_edges s w edges;
@@ -62,9 +62,9 @@ insert_known h words numbers edges lent w s top =
     let count = at_least (position + 1) (count_at numbers l) in
     cond (same_layer w.layer_id old.layer_id)
     (cond (ltb lent count)
-    (unchanged (refuse h w ShortSlice) words numbers edges)
+    (unchanged ShortSlice words numbers edges)
     (cond top (move_to_top h words numbers edges new s l position count) (replace h words numbers edges new s position count)))
-    (unchanged (refuse h w OtherLayer) words numbers edges)
+    (unchanged OtherLayer words numbers edges)
 
 -- ---- an insertion
 
@@ -74,7 +74,7 @@ insert_checked h words numbers edges lent w top =
     cond (eqb e 0) (insert_new h words numbers edges lent w) (insert_known h words numbers edges lent w (e - 1) top)
 
 unfoldable pub decide_unless : Option InsertRefusal → WidgetRects → List ℕ → List ℕ → List Float → ℕ → WidgetRect → Bool → Outcome
-decide_unless (Some why) h words numbers edges lent w top = unchanged (refuse h w why) words numbers edges
+decide_unless (Some why) h words numbers edges lent w top = unchanged why words numbers edges
 decide_unless None h words numbers edges lent w top = insert_checked h words numbers edges lent w top
 
 -- with `lent` places in the slice

@@ -1,4 +1,5 @@
 // One insertion: what it decides, and the set after it. The lent slice is not touched here.
+// Kept (plain): lent one by one: of a struct that holds a `&mut` each clause would have to say what stands behind it afterwards.
 #![tactic(auto)]
 
 ghost use Rattle.std.specs.Prelude.{◌≡◌, ◌+◌, ◌-◌, ◌<◌, ◌≤◌};
@@ -13,11 +14,11 @@ use data::refusal::InsertRefusal;
 use data::sense::{bitor, sense_ok};
 use data::widget::WidgetRect;
 use domain::rect_ok;
-use widget_append::{Decision, Insertion, insert_new, put_edges, put_traits, refuse};
-use widget_index::index::find;
+use widget_append::{Insertion, insert_new, put_edges, put_traits};
+use widget_index::index::Table;
 use widget_index::table::{
     Edges, Numbers, PLACES, WidgetRects, Words, count_at, layer_of, place, position_of, same_layer,
-    widget_at, widgets_of,
+    widgets_of,
 };
 
 // ---- refusals 1, 9, 2
@@ -111,11 +112,12 @@ fn take_update(
     from: usize,
     to: usize,
     w: WidgetRect,
-) -> Decision
+) -> Insertion
     ensures { result ≡ take_update h position count from to w }
 {
-    Decision {
-        answer: Ok(Insertion { position, count }),
+    Insertion {
+        position,
+        count,
         set: h,
         from,
         to,
@@ -131,7 +133,7 @@ fn replace(
     s: usize,
     position: usize,
     count: usize,
-) -> Decision
+) -> Insertion
     requires { (s < 1024) × (position < 2048) }
     ensures { (result ≡ take_update h position count position (position + 1) w) × (numbers.new ≡ with_traits s w numbers.old) × (edges.new ≡ with_edges s w edges.old) }
 {
@@ -150,7 +152,7 @@ fn move_to_top(
     l: usize,
     position: usize,
     count: usize,
-) -> Decision
+) -> Insertion
     requires { (s < 1024) × (l < 32) × (position < count) × (count ≤ 2048) }
     ensures { (result ≡ take_update h (count - 1) count position count w) × (numbers.new ≡ moved_numbers (widgets_of h) s l position count w numbers.old) × (edges.new ≡ with_edges s w edges.old) }
 {
@@ -174,26 +176,31 @@ fn insert_known(
     w: WidgetRect,
     s: usize,
     top: bool,
-) -> Decision
+) -> Result<Insertion, InsertRefusal>
     requires { s < 1024 }
     ensures { Gives (insert_known h words.now numbers.old edges.old lent w s top) result words.now numbers.new edges.new }
 {
-    let old = widget_at(words, numbers, edges, s);
+    let table = Table {
+        set: h,
+        words,
+        numbers,
+    };
+    let old = table.widget_at(edges, s);
     if !same_layer(w.layer_id, old.layer_id) {
-        return refuse(h, w, InsertRefusal::OtherLayer);
+        return Err(InsertRefusal::OtherLayer);
     }
     let p = numbers[PLACES + s];
     let l = layer_of(p);
     let position = position_of(p);
     let count = at_least(position + 1, count_at(numbers, l));
     if lent < count {
-        return refuse(h, w, InsertRefusal::ShortSlice);
+        return Err(InsertRefusal::ShortSlice);
     }
     let new = updated(old, w);
     if top {
-        return move_to_top(h, numbers, edges, new, s, l, position, count);
+        return Ok(move_to_top(h, numbers, edges, new, s, l, position, count));
     }
-    replace(h, numbers, edges, new, s, position, count)
+    Ok(replace(h, numbers, edges, new, s, position, count))
 }
 
 // ---- an insertion
@@ -206,10 +213,15 @@ fn insert_checked(
     lent: usize,
     w: WidgetRect,
     top: bool,
-) -> Decision
+) -> Result<Insertion, InsertRefusal>
     ensures { Gives (insert_checked h words.old numbers.old edges.old lent w top) result words.new numbers.new edges.new }
 {
-    match find(h, words, numbers, w.id) {
+    let table = Table {
+        set: h,
+        words,
+        numbers,
+    };
+    match table.find(w.id) {
         None => insert_new(h, words, numbers, edges, lent, w),
         Some(s) => insert_known(h, words, numbers, edges, lent, w, s, top),
     }
@@ -224,11 +236,9 @@ pub fn decide(
     lent: usize,
     w: WidgetRect,
     top: bool,
-) -> Decision
+) -> Result<Insertion, InsertRefusal>
     ensures { Gives (decide h words.old numbers.old edges.old lent w top) result words.new numbers.new edges.new }
 {
-    match record_refusal(w) {
-        Err(why) => refuse(h, w, why),
-        Ok(()) => insert_checked(h, words, numbers, edges, lent, w, top),
-    }
+    record_refusal(w)?;
+    insert_checked(h, words, numbers, edges, lent, w, top)
 }

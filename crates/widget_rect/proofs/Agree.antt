@@ -1,5 +1,5 @@
 -- For a well-formed set, what `decide` leaves is what the model's `insert` leaves, and the set is well-formed again. Assumes nothing.
-use Rattle.std.specs.Prelude.{Option, None, Some}
+use Rattle.std.specs.Prelude.{Option, None, Some, Result}
 use mathlib.Core.Path.{◌≡◌, refl, sym, ◌∙◌, ap}
 use Prim.Native.Nat.{ℕ, zero, suc, ◌+◌, ◌-◌, ◌<◌, ◌≤◌}
 use native.Mathlib.Omega.{arith}
@@ -21,8 +21,8 @@ use Rattle.model.specs.Widgets as M
 use Rattle.widget_index.specs.declared.table.WidgetRects.{WidgetRects}
 use Rattle.widget_index.specs.Layout.{span, place, place_at, layer_of, position_of, count_at}
 use Rattle.widget_index.specs.Table.{last, widgets_of, layers_of, layer_at, widget_at, known_at, layer_entry_at, view, head, find, find_layer}
-use Rattle.widget_append.specs.declared.Decision.{Decision}
-use Rattle.widget_append.specs.Append.{Outcome, Gives, refuse, unchanged, number_of, count_of, append, insert_new, with_traits, settled}
+use Rattle.widget_append.specs.declared.Insertion.{Insertion}
+use Rattle.widget_append.specs.Append.{Outcome, Gives, unchanged, number_of, count_of, append, insert_new, with_traits, settled, set_after, settled_by}
 use Rattle.widget_insert.specs.Insert.{at_least, replace, move_to_top, moved_numbers, fall, insert_known, insert_checked, decide}
 use Rattle.widget_append.proofs.Cases as New
 use Rattle.widget_insert.proofs.Cases as C
@@ -53,10 +53,6 @@ moves_to_end : (from to : ℕ) (w : WidgetRect) (slice : List WidgetRect) → fr
 unfolding settled
 moves_to_end from to w slice less = rw (lt-ltb from to less)
 
-untouched : (w : WidgetRect) (slice : List WidgetRect) → settled 0 0 w slice ≡ slice
-unfolding settled
-untouched w slice = refl
-
 insertion_parts : (v v' : M.WidgetRects) (z z' : List WidgetRect) (p p' c c' : ℕ) → v ≡ v' → z ≡ z' → p ≡ p' → c ≡ c'
     → ◌≡◌ {A = M.Insertion} (record { widgets = v; slice = z; position = p; count = c }) (record { widgets = v'; slice = z'; position = p'; count = c' })
 insertion_parts v v' z z' p p' c c' e f g h = rw (e, f, g, h)
@@ -76,8 +72,8 @@ module _ (h : WidgetRects) (words numbers : List ℕ) (edges : List Float) (slic
 
   -- what is to be shown of an outcome
   pub record Right (o : Outcome) : Type 0 where
-    pub well_formed : WellFormed o.decision.«set» o.words o.numbers o.edges
-    pub agrees : told o.decision.answer (view o.decision.«set» o.words o.numbers o.edges) (settled o.decision.from o.decision.to o.decision.widget slice) ≡ M.insert top was slice w
+    pub well_formed : WellFormed (set_after h o.decision) o.words o.numbers o.edges
+    pub agrees : told o.decision (view (set_after h o.decision) o.words o.numbers o.edges) (settled_by o.decision slice) ≡ M.insert top was slice w
 
   right : {o o' : Outcome} → o ≡ o' → Right o' → Right o
   right e r = rw e r
@@ -96,7 +92,7 @@ module _ (h : WidgetRects) (words numbers : List ℕ) (edges : List Float) (slic
     unfolding M.insert M.insert_refusal M.insert_unless or_else
     model_takes k e f = rw (shaped, e, f) (ap (λ x. M.inserted (M.insert_by x top was slice w)) e)
 
-  refused_right : (why : InsertRefusal) → M.insert top was slice w ≡ M.refused why → Right (unchanged (refuse h w why) words numbers edges)
+  refused_right : (why : InsertRefusal) → M.insert top was slice w ≡ M.refused why → Right (unchanged why words numbers edges)
   unfolding told
   refused_right why e = record { well_formed = record { words_long = lw; numbers_long = ln; edges_long = le; indexed = wf }; agrees = sym e }
 
@@ -121,7 +117,7 @@ module _ (h : WidgetRects) (words numbers : List ℕ) (edges : List Float) (slic
         (model-count : M.layer_count w.layer_id was ≡ count) (model-full : (b : Bool) → leb max_widgets h.widgets ≡ false → leb max_layers l ≡ b → M.full was (M.find_layer w.layer_id was.by_layer) ≡ b)
         (model-full-widgets : leb max_widgets h.widgets ≡ true → M.full was (M.find_layer w.layer_id was.by_layer) ≡ true)
         (home : leb max_layers l ≡ false → Home h words numbers w.layer_id l count)
-        (by_layer : (room : h.widgets < max_widgets) (there : Home h words numbers w.layer_id l count) → (view (append h words numbers edges w l count).decision.«set» (append h words numbers edges w l count).words (append h words numbers edges w l count).numbers (append h words numbers edges w l count).edges).by_layer ≡ M.count_in w.layer_id was.by_layer) where
+        (by_layer : (room : h.widgets < max_widgets) (there : Home h words numbers w.layer_id l count) → (view (set_after h (append h words numbers edges w l count).decision) (append h words numbers edges w l count).words (append h words numbers edges w l count).numbers (append h words numbers edges w l count).edges).by_layer ≡ M.count_in w.layer_id was.by_layer) where
       layer_found : find_layer words numbers w.layer_id (layers_of h) ≡ e
       layer_found = ap (find_layer words numbers w.layer_id) all_layers ∙ found
 
@@ -131,7 +127,7 @@ module _ (h : WidgetRects) (words numbers : List ℕ) (edges : List Float) (slic
       layer_counted : count_of numbers (find_layer words numbers w.layer_id (layers_of h)) ≡ count
       layer_counted = ap (count_of numbers) layer_found ∙ counted
 
-      refuses : (why : InsertRefusal) → M.known_refusal was lent w None ≡ Some why → Right (unchanged (refuse h w why) words numbers edges)
+      refuses : (why : InsertRefusal) → M.known_refusal was lent w None ≡ Some why → Right (unchanged why words numbers edges)
       refuses why r = refused_right why (model_later shaped None why nothing_known r)
 
       full_refusal : M.full was (M.find_layer w.layer_id was.by_layer) ≡ true → M.known_refusal was lent w None ≡ Some Full
@@ -271,7 +267,7 @@ module _ (h : WidgetRects) (words numbers : List ℕ) (edges : List Float) (slic
     own_count : at_least (position + 1) (count_at numbers l) ≡ count
     own_count = U.count_is h words numbers wf s inside
 
-    refuses_known : (why : InsertRefusal) → M.known_refusal was lent w (Some (known_at words numbers edges s)) ≡ Some why → Right (unchanged (refuse h w why) words numbers edges)
+    refuses_known : (why : InsertRefusal) → M.known_refusal was lent w (Some (known_at words numbers edges s)) ≡ Some why → Right (unchanged why words numbers edges)
     refuses_known why r = refused_right why (model_later shaped (Some (known_at words numbers edges s)) why the_known r)
 
     short_count : ltb lent count ≡ false → (position < count) × (count ≤ lent)
@@ -359,16 +355,16 @@ module _ (h : WidgetRects) (words numbers : List ℕ) (edges : List Float) (slic
       go (Some why) e = right (C.refuses h words numbers edges lent w top why e) (refused_right why (model_refuses why e))
 
 -- ---- what `insert` ensures, from what its callees do
-pub inserts : (h : WidgetRects) (words numbers : List ℕ) (edges : List Float) (slice : List WidgetRect) (w : WidgetRect) (top : Bool) (r : Decision) (ws ns : List ℕ) (es : List Float) (zs : List WidgetRect)
-    → Gives (decide h words numbers edges (length slice) w top) r ws ns es → zs ≡ settled r.from r.to r.widget slice → Inserts h words numbers edges slice w top r ws ns es zs
+pub inserts : (h : WidgetRects) (words numbers : List ℕ) (edges : List Float) (slice : List WidgetRect) (w : WidgetRect) (top : Bool) (r : Result Insertion InsertRefusal) (ws ns : List ℕ) (es : List Float) (zs : List WidgetRect)
+    → Gives (decide h words numbers edges (length slice) w top) r ws ns es → zs ≡ settled_by r slice → Inserts h words numbers edges slice w top r ws ns es zs
 inserts h words numbers edges slice w top r ws ns es zs g e =
-    let agrees : WellFormed h words numbers edges → told r.answer (view r.«set» ws ns es) zs ≡ M.insert top (view h words numbers edges) slice w =
+    let agrees : WellFormed h words numbers edges → told r (view (set_after h r) ws ns es) zs ≡ M.insert top (view h words numbers edges) slice w =
     λ wf. rw (e, g.decision, g.words, g.numbers, g.edges) (decide_right h words numbers edges slice w top wf.indexed wf.words_long wf.numbers_long wf.edges_long).agrees in
     record {
       own = g;
       slice_after = e;
-      refused = λ why q. rw (e, g.decision, g.words, g.numbers, g.edges) ((decide_keeps h words numbers edges slice (length slice) w top).keeps why (sym (ap (λ (d : Decision). d.answer) g.decision) ∙ q));
+      refused = λ why q. rw (e, g.decision, g.words, g.numbers, g.edges) ((decide_keeps h words numbers edges slice (length slice) w top).keeps why (sym g.decision ∙ q));
       model = agrees;
-      row = λ wf. told_row r.answer _ _ ∙ ap model_row (agrees wf);
+      row = λ wf. told_row r _ _ ∙ ap model_row (agrees wf);
       well_formed = λ wf. rw (g.decision, g.words, g.numbers, g.edges) (decide_right h words numbers edges slice w top wf.indexed wf.words_long wf.numbers_long wf.edges_long).well_formed;
     }

@@ -1,5 +1,5 @@
 -- Whatever the set and its arrays hold, what is decided fits the lent slice. Assumes nothing.
-use Rattle.std.specs.Prelude.{Option, None, Some}
+use Rattle.std.specs.Prelude.{Option, None, Some, Ok, Err, Result}
 use mathlib.Core.Path.{◌≡◌, refl}
 use Prim.Native.Nat.{ℕ, zero, suc, ◌+◌, ◌≤◌, zero-le}
 use native.Mathlib.Omega.{arith}
@@ -15,6 +15,7 @@ use Rattle.model.specs.Widgets.{same_layer, record_refusal}
 use Rattle.widget_index.specs.declared.table.WidgetRects.{WidgetRects}
 use Rattle.widget_index.specs.Layout.{place_at, layer_of, position_of, count_at}
 use Rattle.widget_index.specs.Table.{layers_of, layer_at, find, find_layer}
+use Rattle.widget_append.specs.declared.Insertion.{Insertion}
 use Rattle.widget_append.specs.Append.{Outcome, number_of, count_of, append, insert_new}
 use Rattle.widget_insert.specs.Insert.{at_least, replace, move_to_top, insert_known, insert_checked, decide}
 use Rattle.widget_append.proofs.Cases as New
@@ -28,15 +29,20 @@ at_least_low low n = go (ltb n low) refl
     go true t = rw t (omega arith)
     go false t = rw t (ltb-false n low t)
 
+-- how far a decision settles the slice
+unfoldable pub end_of : Result Insertion InsertRefusal → ℕ
+end_of (Err why) = 0
+end_of (Ok i) = i.to
+
 module _ (h : WidgetRects) (words numbers : List ℕ) (edges : List Float) (lent : ℕ) (w : WidgetRect) (top : Bool) where
   abbrev Fits : Outcome → Type 0
-  Fits o = o.decision.to ≤ lent
+  Fits o = end_of o.decision ≤ lent
 
   fits : {o o' : Outcome} → o ≡ o' → Fits o' → Fits o
   fits e f = rw e f
 
   new_fits : Fits (insert_new h words numbers edges lent w)
-  unfolding append
+  unfolding append end_of
   new_fits = go (leb max_widgets h.widgets) refl (leb max_layers l) refl (ltb lent (count + 1)) refl
     where
       e : ℕ
@@ -56,7 +62,7 @@ module _ (h : WidgetRects) (words numbers : List ℕ) (edges : List Float) (lent
       go false f false g false i = fits (New.appends h words numbers edges lent w f g i) (ltb-false lent _ i)
 
   known_fits : (s : ℕ) → Fits (insert_known h words numbers edges lent w s top)
-  unfolding replace move_to_top
+  unfolding replace move_to_top end_of
   known_fits s = go (same_layer w.layer_id (layer_at words numbers (layer_of (place_at numbers s)))) refl (ltb lent (at_least (position_of (place_at numbers s) + 1) (count_at numbers (layer_of (place_at numbers s))))) refl top refl
     where
       go : (a : Bool) → same_layer w.layer_id (layer_at words numbers (layer_of (place_at numbers s))) ≡ a
@@ -75,7 +81,8 @@ module _ (h : WidgetRects) (words numbers : List ℕ) (edges : List Float) (lent
       go zero none-there = fits (C.is_new h words numbers edges lent w top none-there) new_fits
       go (suc s) found = fits (C.is_known h words numbers edges lent w top s found) (known_fits s)
 
-  pub decide_fits : (decide h words numbers edges lent w top).decision.to ≤ lent
+  pub decide_fits : end_of (decide h words numbers edges lent w top).decision ≤ lent
+  unfolding end_of
   decide_fits = go (record_refusal w) refl
     where
       go : (r : Option InsertRefusal) → record_refusal w ≡ r → Fits (decide h words numbers edges lent w top)

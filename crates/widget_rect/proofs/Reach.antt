@@ -20,7 +20,7 @@ use Rattle.widget_append.specs.declared.Insertion.{Insertion}
 use Rattle.data.specs.declared.refusal.InsertRefusal.{InsertRefusal}
 use Rattle.widget_index.specs.Layout.{id_at, place_at, layer_of, position_of, place, count_at}
 use Rattle.widget_index.specs.Table.{firsts, widgets_of, layers_of, layer_at, known_at, layer_entry_at, view}
-use Rattle.widget_append.specs.Append.{Outcome, settled}
+use Rattle.widget_append.specs.Append.{Outcome, set_after, settled_by}
 use Rattle.widget_insert.specs.Insert.{decide}
 use Rattle.widget_rect.specs.Reached.{Reached, starts, inserts, Orderly, nobody, nowhere, known, layer, EveryReachedSetIsOrderly}
 use Rattle.widget_rect.specs.WellFormed.{Indexed, WellFormed}
@@ -70,12 +70,12 @@ held s (inserts {s = before} top slice w i reached e) = next (held before reache
     next : Held before → Held i.widgets
     next b =
         record {
-          h = o.decision.«set»;
+          h = set_after b.h o.decision;
           words = o.words;
           numbers = o.numbers;
           edges = o.edges;
           well_formed = done.well_formed;
-          holds = was_taken o.decision.answer _ (settled o.decision.from o.decision.to o.decision.widget slice) i (done.agrees ∙ ap (λ v. M.insert top v slice w) b.holds ∙ e);
+          holds = was_taken o.decision _ (settled_by o.decision slice) i (done.agrees ∙ ap (λ v. M.insert top v slice w) b.holds ∙ e);
         }
       where
         o : Outcome

@@ -17,7 +17,7 @@ use Rattle.widget_index.specs.declared.table.WidgetRects.{WidgetRects}
 use Rattle.widget_index.specs.Layout.{place_at, layer_of, position_of, count_at}
 use Rattle.widget_index.specs.Table.{layers_of, widget_at, find, find_layer}
 use Rattle.widget_append.specs.declared.Insertion.{Insertion}
-use Rattle.widget_append.specs.Append.{Outcome, refuse, unchanged, number_of, count_of, append, insert_new, settled}
+use Rattle.widget_append.specs.Append.{Outcome, unchanged, number_of, count_of, append, insert_new, settled_by}
 use Rattle.widget_insert.specs.Insert.{at_least, replace, move_to_top, insert_known, insert_checked, decide_unless, decide}
 use Rattle.widget_rect.specs.Told.{told, row_of, model_row, Kept}
 
@@ -31,16 +31,15 @@ module _ (h : WidgetRects) (words numbers : List ℕ) (edges : List Float) (slic
   -- an outcome that keeps all where it is a refusal
   pub record Keeps (o : Outcome) : Type 0 where
     pub keeps :
-        (why : InsertRefusal) → o.decision.answer ≡ Err why
-        → Kept h words numbers edges slice o.decision o.words o.numbers o.edges (settled o.decision.from o.decision.to o.decision.widget slice)
+        (why : InsertRefusal) → o.decision ≡ Err why
+        → Kept h words numbers edges slice o.decision o.words o.numbers o.edges (settled_by o.decision slice)
 
-  refuse_keeps : (w : WidgetRect) (why : InsertRefusal) → Keeps (unchanged (refuse h w why) words numbers edges)
-  unfolding settled
-  refuse_keeps w why =
+  refuse_keeps : (why : InsertRefusal) → Keeps (unchanged why words numbers edges)
+  refuse_keeps why =
       record { keeps = λ reason e. record { set_kept = refl; words_kept = refl; numbers_kept = refl; edges_kept = refl; slice_kept = refl } }
 
-  taken_keeps : (o : Outcome) (i : Insertion) → o.decision.answer ≡ Ok i → Keeps o
-  taken_keeps o i e = record { keeps = λ why k. let z : ◌≡◌ {A = ℕ} 0 1 = cc in absurd (omega arith) }
+  taken_keeps : (o : Outcome) {i : Insertion} → o.decision ≡ Ok i → Keeps o
+  taken_keeps o e = record { keeps = λ why k. let z : ◌≡◌ {A = ℕ} 0 1 = cc in absurd (omega arith) }
 
   either : (b : Bool) (x y : Outcome) → Keeps x → Keeps y → Keeps (cond b x y)
   either true x y f g = f
@@ -48,7 +47,7 @@ module _ (h : WidgetRects) (words numbers : List ℕ) (edges : List Float) (slic
 
   module _ (lent : ℕ) (w : WidgetRect) where
     abbrev as_is : InsertRefusal → Outcome
-    as_is why = unchanged (refuse h w why) words numbers edges
+    as_is why = unchanged why words numbers edges
 
     new_keeps : Keeps (insert_new h words numbers edges lent w)
     unfolding insert_new append
@@ -60,9 +59,9 @@ module _ (h : WidgetRects) (words numbers : List ℕ) (edges : List Float) (slic
         let new = append h words numbers edges w l count in
         let if-long = cond (ltb lent (count + 1)) (as_is ShortSlice) new in
         let if-few-layers = cond (leb max_layers l) (as_is Full) if-long in
-        either (leb max_widgets h.widgets) (as_is Full) if-few-layers (refuse_keeps w Full)
-        (either (leb max_layers l) (as_is Full) if-long (refuse_keeps w Full)
-        (either (ltb lent (count + 1)) (as_is ShortSlice) new (refuse_keeps w ShortSlice) (taken_keeps new (record { position = count; count = count + 1 }) refl)))
+        either (leb max_widgets h.widgets) (as_is Full) if-few-layers (refuse_keeps Full)
+        (either (leb max_layers l) (as_is Full) if-long (refuse_keeps Full)
+        (either (ltb lent (count + 1)) (as_is ShortSlice) new (refuse_keeps ShortSlice) (taken_keeps new refl)))
 
     known_keeps : (s : ℕ) (top : Bool) → Keeps (insert_known h words numbers edges lent w s top)
     unfolding insert_known move_to_top replace
@@ -77,9 +76,9 @@ module _ (h : WidgetRects) (words numbers : List ℕ) (edges : List Float) (slic
         let if-long = cond top moved replaced in
         let if-same-layer = cond (ltb lent count) (as_is ShortSlice) if-long in
         either (same_layer w.layer_id old.layer_id) if-same-layer (as_is OtherLayer)
-        (either (ltb lent count) (as_is ShortSlice) if-long (refuse_keeps w ShortSlice)
-        (either top moved replaced (taken_keeps moved (record { position = count - 1; count = count }) refl) (taken_keeps replaced (record { position = position; count = count }) refl)))
-        (refuse_keeps w OtherLayer)
+        (either (ltb lent count) (as_is ShortSlice) if-long (refuse_keeps ShortSlice)
+        (either top moved replaced (taken_keeps moved refl) (taken_keeps replaced refl)))
+        (refuse_keeps OtherLayer)
 
     checked_keeps : (top : Bool) → Keeps (insert_checked h words numbers edges lent w top)
     unfolding insert_checked
@@ -92,5 +91,5 @@ module _ (h : WidgetRects) (words numbers : List ℕ) (edges : List Float) (slic
     decide_keeps top = go (record_refusal w)
       where
         go : (q : Option InsertRefusal) → Keeps (decide_unless q h words numbers edges lent w top)
-        go (Some why) = refuse_keeps w why
+        go (Some why) = refuse_keeps why
         go None = checked_keeps top

@@ -6,9 +6,8 @@ use Rattle.data.specs.declared.widget.WidgetRect.{WidgetRect}
 use Rattle.model.specs.Widgets as M
 use Rattle.widget_index.specs.declared.table.WidgetRects.{WidgetRects}
 use Rattle.widget_append.specs.declared.Insertion.{Insertion}
-use Rattle.widget_append.specs.declared.Decision.{Decision}
 use Rattle.widget_index.specs.Table.{view}
-use Rattle.widget_append.specs.Append.{Gives, settled}
+use Rattle.widget_append.specs.Append.{Gives, set_after, settled_by}
 use Rattle.widget_insert.specs.Insert.{decide}
 use Rattle.widget_rect.specs.WellFormed.{WellFormed}
 
@@ -29,9 +28,9 @@ model_row (M.inserted i) = None
 
 -- 01, every row of insert: "as before"
 pub record Kept (h : WidgetRects) (words numbers : List ℕ) (edges : List Float) (slice : List WidgetRect)
-    (r : Decision) (ws ns : List ℕ) (es : List Float) (zs : List WidgetRect) : Type 0 where
-  -- the set
-  pub set_kept : r.«set» ≡ h
+    (r : Result Insertion InsertRefusal) (ws ns : List ℕ) (es : List Float) (zs : List WidgetRect) : Type 0 where
+  -- the set, which is passed by value: a refusal answers none, so the one before stands
+  pub set_kept : set_after h r ≡ h
   -- every place of its three arrays
   pub words_kept : ws ≡ words
   pub numbers_kept : ns ≡ numbers
@@ -41,14 +40,14 @@ pub record Kept (h : WidgetRects) (words numbers : List ℕ) (edges : List Float
 
 -- One insertion of w into the set h, whose layer's widgets are lent in `slice`: it answers r, and leaves these arrays and this slice.
 pub record Inserts (h : WidgetRects) (words numbers : List ℕ) (edges : List Float) (slice : List WidgetRect) (w : WidgetRect) (top : Bool)
-    (r : Decision) (ws ns : List ℕ) (es : List Float) (zs : List WidgetRect) : Type 0 where
+    (r : Result Insertion InsertRefusal) (ws ns : List ℕ) (es : List Float) (zs : List WidgetRect) : Type 0 where
   -- for every set, whatever its arrays hold: the index's own way
   pub own : Gives (decide h words numbers edges (length slice) w top) r ws ns es
-  pub slice_after : zs ≡ settled r.from r.to r.widget slice
+  pub slice_after : zs ≡ settled_by r slice
   -- for every set: a refused insertion leaves all as before
-  pub refused : (why : InsertRefusal) → r.answer ≡ Err why → Kept h words numbers edges slice r ws ns es zs
+  pub refused : (why : InsertRefusal) → r ≡ Err why → Kept h words numbers edges slice r ws ns es zs
   -- for a set that the operations made: the model's `insert`, and the set is such a one again
-  pub model : WellFormed h words numbers edges → told r.answer (view r.«set» ws ns es) zs ≡ M.insert top (view h words numbers edges) slice w
+  pub model : WellFormed h words numbers edges → told r (view (set_after h r) ws ns es) zs ≡ M.insert top (view h words numbers edges) slice w
   -- 01's number and index of the answer are those of the model's
-  pub row : WellFormed h words numbers edges → row_of r.answer ≡ model_row (M.insert top (view h words numbers edges) slice w)
-  pub well_formed : WellFormed h words numbers edges → WellFormed r.«set» ws ns es
+  pub row : WellFormed h words numbers edges → row_of r ≡ model_row (M.insert top (view h words numbers edges) slice w)
+  pub well_formed : WellFormed h words numbers edges → WellFormed (set_after h r) ws ns es

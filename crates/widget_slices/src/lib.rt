@@ -8,7 +8,7 @@ use data::limits::MAX_WIDGETS;
 use data::widget::WidgetRect;
 use widget_rect::slice::settle;
 
-// By value, as its caller keeps it: lent, it would be `settle` itself.
+// Kept (plain): by value, as its callers keep it: lent, it would be `settle` itself
 pub fn settled(
     mut a: [WidgetRect; MAX_WIDGETS],
     from: usize,

@@ -2,15 +2,8 @@ use Prim.Native.Nat.{◌*◌, ◌≤◌}
 use mathlib.Core.Path.{◌≡◌, sym, ◌∙◌}
 use lib.ListN.{length}
 use native.Mathlib.Omega.{arith}
-use borrow.Author.Tests.{le-leb}
 use Rattle.hit_lists.proofs.First.{stands, stands_below, lies_below, too_far, lies}
 use Rattle.hit_lists.proofs.lies_from.Goals as goal
-
-pub returns-then-top-eq0 : goal.returns-then-top-eq0
-returns-then-top-eq0 c =
-    let a = c.args in
-    let bottom : a.top ≡ 0 = c.if-top-eq0.true in
-    sym (le-leb a.top _ (omega arith))
 
 pub returns-then-words-top : goal.returns-then-words-top
 returns-then-words-top c =

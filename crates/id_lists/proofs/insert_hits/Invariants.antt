@@ -1,12 +1,20 @@
 -- The invariant: what is written so far, with the ids of the entries to come, is the whole list.
-use Prim.Native.Nat.{◌+◌, ◌≤◌, ◌/◌}
+use Prim.Native.Nat.{◌+◌, ◌≤◌}
 use mathlib.Core.Path.{◌≡◌}
 use lib.ListN.{length, take}
+use Rattle.std.specs.Slice.Iter.{chunks_exact_size, chunks_exact_rest}
 use Rattle.model.specs.Interact.{insert_hits}
 use Rattle.hit_lists.specs.Hits.{hits_of}
-use Rattle.hit_lists.proofs.Walk.{rest}
 use Rattle.id_set.specs.Ids.{Written}
 use Rattle.id_lists.proofs.insert_hits.Given as goal
 
-abbrev pub invariant-loop-i : goal.invariant-loop-i
-invariant-loop-i l = (l.count + length l.words / 2 ≤ length l.initial.ids) × (l.r ≤ l.count + l.i) × (length l.ids ≡ length l.initial.ids) × Written (take l.r l.ids) l.initial.ids l.r l.ids × (insert_hits (rest l.words l.i) (take l.r l.ids) ≡ insert_hits (hits_of l.words) (take l.count l.initial.ids))
+abbrev pub invariant-loop-entry : goal.invariant-loop-entry
+invariant-loop-entry l =
+    let ahead = chunks_exact_rest l.entry-iterator in
+    record {
+      size : chunks_exact_size l.entry-iterator ≡ 2;
+      room : l.r + length (hits_of ahead) ≤ length l.initial.ids;
+      places : length l.ids ≡ length l.initial.ids;
+      written : Written (take l.r l.ids) l.initial.ids l.r l.ids;
+      whole : insert_hits (hits_of ahead) (take l.r l.ids) ≡ insert_hits (hits_of l.words) (take l.count l.initial.ids);
+    }

@@ -1,5 +1,4 @@
 use mathlib.Core.Path.{sym, ◌∙◌}
-use lib.Seq.{length-take-le}
 use Rattle.id_set.proofs.Written.{found, put}
 use native.Mathlib.Omega.{arith}
 use Rattle.id_set.proofs.insert_id.Goals as goal
@@ -7,11 +6,6 @@ use Rattle.id_set.proofs.insert_id.Goals as goal
 pub returns-then-stands_at : goal.returns-then-stands_at
 returns-then-stands_at c =
     found _ _ _ _ c.place_of-at.ensures (omega arith) (sym c.stands_at.ensures ∙ c.if-stands_at.true)
-
-pub shift_in-requires : goal.shift_in-requires
-shift_in-requires c =
-    let a = c.args in
-    (rw (length-take-le a.count a.ids.now (omega arith)) at c.place_of-at.ensures.within, omega arith)
 
 pub returns : goal.returns
 returns c =

@@ -6,9 +6,6 @@ use Rattle.interaction_events.specs.View.{going_of}
 use Rattle.interaction_events.proofs.Looked.{click_id_of, touches, touches_none, default_is}
 use Rattle.interaction_events.proofs.long_touch_if.Goals as goal
 
-pub returns-then-not-long : goal.returns-then-not-long
-returns-then-not-long c edges = rw (c.if-not-long.true) (c.going.ensures _)
-
 pub returns-then-is_some : goal.returns-then-is_some
 unfolding long_touch_if going_of is_some
 returns-then-is_some c edges =

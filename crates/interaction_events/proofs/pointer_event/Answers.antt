@@ -1,24 +1,21 @@
-use mathlib.Core.Path.{sym, ◌∙◌}
+use mathlib.Core.Path.{◌∙◌}
 use Rattle.model.specs.Interact.{pointer_event}
-use Rattle.interaction_events.proofs.Walk.{is_moved, is_pressed, is_released, is_clicked, dragging_release}
+use Rattle.interaction_events.proofs.Walk.{of_moved, of_pressed, of_released, clicks, releases}
 use Rattle.interaction_events.proofs.pointer_event.Goals as goal
 
-pub returns-then-kind-eq0 : goal.returns-then-kind-eq0
+pub returns-in-Moved : goal.returns-in-Moved
 unfolding pointer_event
-returns-then-kind-eq0 c x l e k = rw (is_moved e (k ∙ c.if-kind-eq0.true))
+returns-in-Moved c x l e k = rw (of_moved e (k ∙ c.in-Moved.is)).1
 
-pub returns-then-kind-eq1 : goal.returns-then-kind-eq1
-returns-then-kind-eq1 c x l e k = rw (is_pressed e (k ∙ c.if-kind-eq1.true)) (c.pressed.ensures x l.click_hit l.drag_hit _ _ _)
+pub returns-in-Pressed : goal.returns-in-Pressed
+returns-in-Pressed c x l e k = rw (of_pressed e _ (k ∙ c.in-Pressed.is)).1 (c.pressed.ensures x l.click_hit l.drag_hit _ _ _)
 
-pub returns-then-kind-eq2 : goal.returns-then-kind-eq2
-returns-then-kind-eq2 c x l e k = rw (is_released e (k ∙ c.if-kind-eq2.true)) (c.released.ensures x _ _)
+pub returns-then-is_some-dragging : goal.returns-then-is_some-dragging
+returns-then-is_some-dragging c x l e k =
+    let r = of_released e _ _ (k ∙ c.in-Released.is) in
+    rw r.1.0 (clicks x _ _ _ _ r.0 (rw (r.1.1, ← c.is_some.ensures) c.if-is_some-dragging.true) (λ j. c.clicked.ensures x l.edges l.widgets j _))
 
-pub returns-then-dragging : goal.returns-then-dragging
-returns-then-dragging c x l e k =
-    rw (is_clicked e (λ q. c.if-kind-eq0.false (sym k ∙ q)) (λ q. c.if-kind-eq1.false (sym k ∙ q)) (λ q. c.if-kind-eq2.false (sym k ∙ q)), c.if-dragging.true)
-    (c.released-then-dragging.ensures x _ _ ∙ dragging_release x _ _ _)
-
-pub returns : goal.returns
-returns c x l e k =
-    rw (is_clicked e (λ q. c.if-kind-eq0.false (sym k ∙ q)) (λ q. c.if-kind-eq1.false (sym k ∙ q)) (λ q. c.if-kind-eq2.false (sym k ∙ q)), c.if-dragging.false)
-    (c.clicked.ensures x l.edges l.widgets _ _)
+pub returns-else-is_some-dragging : goal.returns-else-is_some-dragging
+returns-else-is_some-dragging c x l e k =
+    let r = of_released e _ _ (k ∙ c.in-Released.is) in
+    rw r.1.0 (releases x _ _ _ _ r.0 (rw (r.1.1, ← c.is_some.ensures) c.if-is_some-dragging.false) (c.released.ensures x _ _))

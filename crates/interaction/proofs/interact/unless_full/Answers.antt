@@ -16,9 +16,6 @@ returns-then-full c ps edges p hs ht =
       contains_kept = refl;
     }
 
-pub tally_after-n-requires : goal.tally_after-n-requires
-tally_after-n-requires c = sym c.full.ensures ∙ c.if-full.false
-
 pub returns : goal.returns
 returns c ps edges p hs ht =
     let a = c.args in

@@ -9,10 +9,10 @@ use Rattle.widget_rect.proofs.questions.layer_count.Goals as goal
 
 pub returns-in-None : goal.returns-in-None
 unfolding count_of
-returns-in-None c = answers_count _ _ _ _ _ (rw (← c.layers_of.ensures.0, sym c.find_layer.ensures.0 ∙ ap entry_of c.in-None.is))
+returns-in-None c = answers_count _ _ _ _ _ (rw (sym c.find_layer.ensures.0 ∙ ap entry_of c.in-None.is))
 
 pub returns-in-Some : goal.returns-in-Some
 unfolding count_of
 returns-in-Some c =
     let one : suc c.in-Some.l - 1 ≡ c.in-Some.l = omega arith in
-    answers_count _ _ _ _ _ (rw (← c.layers_of.ensures.0, sym c.find_layer.ensures.0 ∙ ap entry_of c.in-Some.is, eqb-suc-zero, one) c.count_at.ensures.0)
+    answers_count _ _ _ _ _ (rw (sym c.find_layer.ensures.0 ∙ ap entry_of c.in-Some.is, eqb-suc-zero, one) c.count_at.ensures.0)

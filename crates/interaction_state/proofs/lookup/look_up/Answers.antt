@@ -1,7 +1,7 @@
 use mathlib.Core.Path.{sym, ◌∙◌, ap}
 use Rattle.widget_index.specs.Layout.{entry_of}
 use Rattle.interaction_state.specs.Lookup.{at_entry, lookup, found_of}
-use Rattle.interaction_state.proofs.lookup.Table.look_up.Goals as goal
+use Rattle.interaction_state.proofs.lookup.look_up.Goals as goal
 
 pub returns-in_err-s : goal.returns-in_err-s
 unfolding lookup at_entry found_of

@@ -1,7 +1,7 @@
 use Rattle.model.specs.Interact.{get, widget_id}
 use mathlib.Core.Path.{sym, ◌∙◌}
 use Rattle.interaction_state.proofs.Looked.{looked_up, known_is, unknown_is}
-use Rattle.interaction_state.proofs.lookup.Table.known_id.Goals as goal
+use Rattle.interaction_state.proofs.lookup.known_id.Goals as goal
 
 pub returns-in_err-d : goal.returns-in_err-d
 unfolding get widget_id

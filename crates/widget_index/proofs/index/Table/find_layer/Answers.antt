@@ -3,7 +3,7 @@ use mathlib.Core.Path.{◌≡◌, sym, ◌∙◌}
 use native.Mathlib.Omega.{arith}
 use Rattle.widget_index.specs.Table.{find_layer, last}
 use Rattle.widget_index.proofs.Chain.{last_stops, last_goes_on}
-use Rattle.widget_index.proofs.index.find_layer.Goals as goal
+use Rattle.widget_index.proofs.index.Table.find_layer.Goals as goal
 
 pub returns-then-same_layer : goal.returns-then-same_layer
 unfolding find_layer
