@@ -1,17 +1,18 @@
 -- Every history of the code is the model's, and demand 3 holds of it. Assumes nothing.
-use Rattle.std.specs.Prelude.{Option, None, Some, Ok, Err, Result, ⊤}
+use Rattle.std.specs.Prelude.{Option, None, Some, Ok, Err, Result}
 use Prim.Native.Nat.{ℕ, ◌≤◌}
 use mathlib.Core.Path.{◌≡◌, refl, sym, ◌∙◌, ap, ap₂, subst, subst₂}
 use mathlib.Core.Bool.{Bool, false, ◌||◌}
 use mathlib.Core.List.{List, [], ◌∷◌}
 use native.Mathlib.Omega.{arith}
+use borrow.Author.Rules.{rules}
 use Rattle.data.specs.Limits.{max_tally}
 use Rattle.model.specs.Types.{PassRefusal}
 use Rattle.model.specs.Touch.{InOrder}
 use Rattle.model.specs.Pointer.{CountTrue}
 use Rattle.model.specs.Pass.{Panel, PassInput, fresh}
 use Rattle.model.specs.Interact.{InteractInput, InteractionSnapshot, with_interaction}
-use Rattle.model.specs.Calls.{Call, passes, interacts, Outcome, passed, answered, OfPass, OfInteract, call, after, run, outcomes}
+use Rattle.model.specs.Calls.{Call, passes, interacts, Outcome, passed, answered, of_pass, of_interact, call, after, run, outcomes}
 use Rattle.theorems.specs.Balance as Model
 use Rattle.theorems.specs.Clearing.{Clears, Takes, Fair, Since, nothing_since, then_since, is_passed, Alike, twice}
 use Rattle.theorems.specs.Reach.{Reached}
@@ -26,6 +27,7 @@ use Rattle.data.specs.declared.refusal.InteractRefusal.{InteractRefusal}
 use Rattle.interaction_state.specs.View.{interaction_of}
 use Rattle.input_pass.specs.declared.begin.Begun.{Begun}
 use Rattle.input_state.specs.declared.input.PassInput as Declared
+use Rattle.panel.specs.declared.state.Panel as Restored
 use Rattle.input_state.specs.declared.state.InputState.{InputState}
 use Rattle.input_state.specs.View.{Lent}
 use Rattle.input_pass.specs.Begun.{outcome}
@@ -40,8 +42,6 @@ use Rattle.image_form.specs.Form.{taken, read_image, Parkable}
 use Rattle.image_form.proofs.Whole.{same_panel}
 use Rattle.parking.specs.declared.check.ImageRefusal.{ImageRefusal}
 use Rattle.parking.specs.declared.check.ImageRefusal.TheVariants.{FirstWord, Word}
-use Rattle.parking.specs.declared.restore.Restored.{Restored}
-use Rattle.parking.specs.Restored.{RestoredAs}
 use Rattle.histories.specs.History.{Running, shows, Starts, Passes, passed_on, pass_answer, Given, interact_input, InteractsAs, interacted_on, interact_answer, Parks, Restores, restored_on}
 use Rattle.histories.specs.History.{History, rests, then_pass, then_interact, then_parked, then_refused, WidgetsAreTheModels, IsRun, EveryHistoryIsRun, HistoriesReach, EveryRunIsParkable, HistoriesReadBack}
 use Rattle.histories.specs.History.{Balanced, HistoriesBalance, Life, AnswerAlike, HistoriesClear}
@@ -52,34 +52,22 @@ record Stepped (x : Running) (c : Call) (a : Outcome) (y : Running) : Type 0 whe
   panel : shows y ≡ after (shows x) a
   in_order : InOrder (view y.panel.devices)
 
-abbrev with_input : Running → InputState → Devices → Lent → Running
-with_input x s ds l = record { panel = record { input = s; devices = ds; interaction = x.panel.interaction; tally = x.panel.tally }; lent = l }
+refuses : (x : Running) (given : Declared.PassInput) (feed : List ℕ) (why : PassRefusal) (l : Lent) → Passes x given feed (Err why) l
+    → Contract.refusal_of given feed x.panel.input.clock.time (view x.panel.devices) ≡ None → ⊥
+unfolding option
+refuses x given feed why l h n = let z : ◌≡◌ {A = ℕ} 0 1 = cc h.refusal in omega arith
 
-kept : (x : Running) (s : InputState) (ds : Devices) (l : Lent) → s ≡ x.panel.input → ds ≡ x.panel.devices → l ≡ x.lent → shows (with_input x s ds l) ≡ shows x
-kept x s ds l e f g =
-    ap (λ (t : InputState). shows (with_input x t ds l)) e
-    ∙ ap (λ (d : Devices). shows (with_input x x.panel.input d l)) f
-    ∙ ap (λ (m : Lent). shows (with_input x x.panel.input x.panel.devices m)) g
-
-pass_step : (x : Running) (given : Declared.PassInput) (feed : List ℕ) (r : Begun) (l : Lent) → InOrder (view x.panel.devices) → Passes x given feed r l
+pass_step : (x : Running) (given : Declared.PassInput) (feed : List ℕ) (r : Result Begun PassRefusal) (l : Lent) → InOrder (view x.panel.devices) → Passes x given feed r l
     → Stepped x (passes (Shown.input feed given)) (pass_answer x r l) (passed_on x r l)
-unfolding call OfPass outcome after
-pass_step x given feed r l o h =
+unfolding call of_pass outcome after option
+pass_step x given feed (Ok b) l o h =
+    record { answer = ap of_pass (h.whole o (interaction_of x.panel.interaction) x.panel.tally); panel = refl; in_order = h.in_order o }
+pass_step x given feed (Err why) l o h =
     record {
-      answer = ap OfPass (h.whole o (interaction_of x.panel.interaction) x.panel.tally);
-      panel = go (option r.refusal) refl;
-      in_order = h.in_order o;
+      answer = ap of_pass (h.whole o (interaction_of x.panel.interaction) x.panel.tally);
+      panel = ap (λ (m : Lent). shown_by m x.panel) (h.refused (refuses x given feed why l h)).2;
+      in_order = o;
     }
-  where
-    go : (q : Option PassRefusal) → option r.refusal ≡ q → shows (passed_on x r l) ≡ after (shows x) (OfPass (outcome q (shows (passed_on x r l))))
-    go None e = refl
-    go (Some q) e = kept x r.state r.devices l all.0 all.1 all.2
-      where
-        refuses : Contract.refusal_of given feed x.panel.input.clock.time (view x.panel.devices) ≡ None → ⊥
-        refuses n = let z : ◌≡◌ {A = ℕ} 0 1 = cc h.refusal in omega arith
-
-        all : (r.state ≡ x.panel.input) × (r.devices ≡ x.panel.devices) × (l ≡ x.lent)
-        all = h.refused refuses
 
 shows_itself : (x : Running)
     → ShowsInput x.panel.input.clock x.panel.input.screen x.panel.input.pointer x.panel.devices x.lent.codes x.lent.presses (shows x)
@@ -100,11 +88,11 @@ shows_itself x =
 
 interact_step : (x : Running) (g : Given) (r : Result Answer InteractRefusal) (hovered contains : List ℕ) → InOrder (view x.panel.devices) → InteractsAs x g r hovered contains
     → Stepped x (interacts (interact_input g)) (interact_answer x r hovered contains) (interacted_on x r)
-unfolding call OfInteract after with_interaction
+unfolding call of_interact after with_interaction
 interact_step x g (Err why) hovered contains o h =
-    record { answer = sym (ap OfInteract (h.own (shows x) (shows_itself x) refl refl g.edges).answer); panel = refl; in_order = o }
+    record { answer = sym (ap of_interact (h.own (shows x) (shows_itself x) refl refl g.edges).answer); panel = refl; in_order = o }
 interact_step x g (Ok a) hovered contains o h =
-    record { answer = sym (ap OfInteract (h.own (shows x) (shows_itself x) refl refl g.edges).answer); panel = refl; in_order = o }
+    record { answer = sym (ap of_interact (h.own (shows x) (shows_itself x) refl refl g.edges).answer); panel = refl; in_order = o }
 
 pub widgets_are_the_models : WidgetsAreTheModels
 widgets_are_the_models g wf = sym (looked_up g.set g.words g.numbers g.edges wf)
@@ -113,20 +101,19 @@ widgets_are_the_models g wf = sym (looked_up g.set g.words g.numbers g.edges wf)
 reads_back : (x : Running) (words : List ℕ) → Parkable (shows x) → Parks x words → read_image words ≡ taken (shows x)
 reads_back x words o p = ap read_image p.written ∙ p.ensured.3 o
 
-restored_shows : (x other : Running) (words : List ℕ) (r : Restored) (l : Lent) → Parkable (shows x) → Parks x words → Restores other words r l → r.refusal ≡ Ok tt
-    → shows (restored_on r l) ≡ shows x
-restored_shows x other words r l o p h e =
-    let t = subst (λ (q : Result ⊤ ImageRefusal). RestoredAs words other.panel other.lent r l q) e h in
-    same_panel (shows (restored_on r l)) (shows x) (sym t.answered ∙ reads_back x words o p)
+no_error : {why : ImageRefusal} {p : Restored.Panel} → ◌≡◌ {A = Result Restored.Panel ImageRefusal} (Err why) (Ok p) → ⊥
+no_error e = search rules
+
+restored_shows : (x other : Running) (words : List ℕ) (r : Result Restored.Panel ImageRefusal) (p : Restored.Panel) (l : Lent) → Parkable (shows x) → Parks x words → Restores other words r l → r ≡ Ok p
+    → shows (restored_on other r l) ≡ shows x
+restored_shows x other words (Ok q) p l o k h e = same_panel (shows (restored_on other (Ok q) l)) (shows x) (sym h.answered ∙ reads_back x words o k)
+restored_shows x other words (Err why) p l o k h e = absurd (no_error e)
 
 -- refused, it shows what it showed
-refused_shows : (x : Running) (words : List ℕ) (r : Restored) (l : Lent) → Restores x words r l → (r.refusal ≡ Ok tt → ⊥) → shows (restored_on r l) ≡ shows x
-refused_shows x words r l h n = go r.refusal refl h
-  where
-    go : (q : Result ⊤ ImageRefusal) → r.refusal ≡ q → RestoredAs words x.panel x.lent r l q → shows (restored_on r l) ≡ shows x
-    go (Ok tt) e k = absurd (n e)
-    go (Err FirstWord) e k = ap₂ shown_by k.lent k.panel
-    go (Err (Word i)) e k = ap₂ shown_by k.lent k.panel
+refused_shows : (x : Running) (words : List ℕ) (r : Result Restored.Panel ImageRefusal) (why : ImageRefusal) (l : Lent) → Restores x words r l → r ≡ Err why → shows (restored_on x r l) ≡ shows x
+refused_shows x words (Ok q) why l h e = absurd (no_error (sym e))
+refused_shows x words (Err FirstWord) why l h e = ap (λ (m : Lent). shown_by m x.panel) h.lent
+refused_shows x words (Err (Word i)) why l h e = ap (λ (m : Lent). shown_by m x.panel) h.lent
 
 -- ---- a whole history
 joins : (p p' q : Panel) (c : Call) (a : Outcome) (calls : List Call) (answers : List Outcome) → a ≡ call p c → p' ≡ after p a → answers ≡ outcomes p' calls → q ≡ run p' calls
@@ -176,10 +163,10 @@ follows {x} o (then_pass given feed r l h rest) =
 follows {x} o (then_interact g r hovered contains h rest) =
     let s = interact_step x g r hovered contains o.in_order h in
     extended s (follows (stepped_parkable x _ _ _ o s) rest)
-follows {x} o (then_parked words other r l p h e rest) =
-    let s = restored_shows x other words r l o p h e in
+follows {x} o (then_parked words other r p l k h e rest) =
+    let s = restored_shows x other words r p l o k h e in
     shown_again s (follows (subst Parkable (sym s) o) rest)
-follows {x} o (then_refused words r l h n rest) = let s = refused_shows x words r l h n in shown_again s (follows (subst Parkable (sym s) o) rest)
+follows {x} o (then_refused words r why l h e rest) = let s = refused_shows x words r why l h e in shown_again s (follows (subst Parkable (sym s) o) rest)
 
 pub every_run_is_parkable : EveryRunIsParkable
 every_run_is_parkable calls = record { in_range = every_run_is_in_range calls; in_order = (reach calls).devices; count_true = (reach calls).count_true }

@@ -4,7 +4,7 @@ use Rattle.std.specs.Prelude.{ℕ, ◌+◌, ◌≤◌, ◌≡◌, Bool, false, �
 use Rattle.data.specs.Limits.{max_tally}
 use Rattle.model.specs.Pass as Model
 use Rattle.model.specs.Interact.{InteractInput, InteractionSnapshot}
-use Rattle.model.specs.Calls.{Call, passes, interacts, Outcome, refused_interact, passed, answered, OfPass, after, run, outcomes}
+use Rattle.model.specs.Calls.{Call, passes, interacts, Outcome, refused_interact, passed, answered, of_pass, after, run, outcomes}
 use Rattle.theorems.specs.Balance.{one_if_is, starts, stops, last_dragged, all_starts}
 use Rattle.theorems.specs.Reach.{Reached}
 use Rattle.theorems.specs.Clearing.{Clears, Fair, Since, nothing_since, then_since, Same, When, is_passed, twice}
@@ -15,6 +15,7 @@ use Rattle.widget_index.specs.declared.table.WidgetRects.{WidgetRects}
 use Rattle.widget_rect.specs.WellFormed.{WellFormed}
 use Rattle.interaction_state.specs.declared.state.Answer.{Answer}
 use Rattle.data.specs.declared.refusal.InteractRefusal.{InteractRefusal}
+use Rattle.data.specs.declared.refusal.PassRefusal.{PassRefusal}
 use Rattle.interaction_state.specs.View.{snapshot_of}
 use Rattle.interaction_state.specs.Lookup.{lookup}
 use Rattle.input_pass.specs.declared.begin.Begun.{Begun}
@@ -27,7 +28,7 @@ use Rattle.panel.specs.declared.state.Panel.{Panel}
 use Rattle.panel.specs.View.{shown_by, Fresh, after_pass, after_interact}
 use Rattle.panel.specs.Steps.{Interacts, widgets_of}
 use Rattle.image_form.specs.Form.{taken, read_image, Parkable}
-use Rattle.parking.specs.declared.restore.Restored.{Restored}
+use Rattle.parking.specs.declared.check.ImageRefusal.{ImageRefusal}
 use Rattle.parking.specs.Parked.{ParkedAs}
 use Rattle.parking.specs.Restored.{RestoredAs}
 
@@ -44,16 +45,16 @@ abbrev pub Starts : Running → Type 0
 Starts x = Fresh x.lent.presses x.panel
 
 -- ---- one pass: given these, the call returned r and left the arrays so
-abbrev pub Passes : Running → PassInput → List ℕ → Begun → Lent → Type 0
+abbrev pub Passes : Running → PassInput → List ℕ → Result Begun PassRefusal → Lent → Type 0
 Passes x given feed r l = Contract.Begun given feed x.lent x.panel.input x.panel.devices l r
 
 -- then the panel is as panel's `after_pass` returns it
-abbrev pub passed_on : Running → Begun → Lent → Running
+abbrev pub passed_on : Running → Result Begun PassRefusal → Lent → Running
 passed_on x r l = record { panel = after_pass x.panel r; lent = l }
 
 -- what it answers: its refusal, or that it is taken
-abbrev pub pass_answer : Running → Begun → Lent → Outcome
-pass_answer x r l = OfPass (outcome (option r.refusal) (shows (passed_on x r l)))
+abbrev pub pass_answer : Running → Result Begun PassRefusal → Lent → Outcome
+pass_answer x r l = of_pass (outcome (option r) (shows (passed_on x r l)))
 
 -- ---- one interact, with its own widgets, hits and id buffers
 pub record Given : Type 0 where
@@ -99,18 +100,19 @@ pub record Parks (x : Running) (words : List ℕ) : Type 0 where
   pub ensured : ParkedAs (shows x) before buffer (Ok count)
   pub written : words ≡ take count buffer
 
--- ---- one restoring: given these words, `restore` of panel x returned r and left the arrays so
-abbrev pub Restores : Running → List ℕ → Restored → Lent → Type 0
-Restores x words r l = RestoredAs words x.panel x.lent r l r.refusal
+-- ---- one restoring: given these words and panel x's arrays, `restore` returned r and left the arrays so
+abbrev pub Restores : Running → List ℕ → Result Panel ImageRefusal → Lent → Type 0
+Restores x words r l = RestoredAs words x.lent r l
 
--- then the panel is the one that it returned
-abbrev pub restored_on : Restored → Lent → Running
-restored_on r l = record { panel = r.panel; lent = l }
+-- then the panel is the one that it returned; refused, the one before
+abbrev pub restored_on : Running → Result Panel ImageRefusal → Lent → Running
+restored_on x (Ok p) l = record { panel = p; lent = l }
+restored_on x (Err why) l = record { panel = x.panel; lent = l }
 
 -- ---- a history: panel x gets the calls, gives the answers and is then y
 pub data History : Running → List Call → List Outcome → Running → Type 0 where
   rests : {x : Running} → History x [] [] x
-  then_pass : {x y : Running} {calls : List Call} {answers : List Outcome} (given : PassInput) (feed : List ℕ) (r : Begun) (l : Lent)
+  then_pass : {x y : Running} {calls : List Call} {answers : List Outcome} (given : PassInput) (feed : List ℕ) (r : Result Begun PassRefusal) (l : Lent)
       → Passes x given feed r l → History (passed_on x r l) calls answers y
       → History x (passes (Shown.input feed given) ∷ calls) (pass_answer x r l ∷ answers) y
   then_interact : {x y : Running} {calls : List Call} {answers : List Outcome} (g : Given) (r : Result Answer InteractRefusal) (hovered contains : List ℕ)
@@ -118,11 +120,11 @@ pub data History : Running → List Call → List Outcome → Running → Type 0
       → History x (interacts (interact_input g) ∷ calls) (interact_answer x r hovered contains ∷ answers) y
   -- 02 A.6: "A panel restored from an image that parking wrote has the past of the parked one". Neither is a call; the panel that is restored, on this
   -- board or on another, may be any
-  then_parked : {x y : Running} {calls : List Call} {answers : List Outcome} (words : List ℕ) (other : Running) (r : Restored) (l : Lent)
-      → Parks x words → Restores other words r l → r.refusal ≡ Ok tt → History (restored_on r l) calls answers y → History x calls answers y
+  then_parked : {x y : Running} {calls : List Call} {answers : List Outcome} (words : List ℕ) (other : Running) (r : Result Panel ImageRefusal) (p : Panel) (l : Lent)
+      → Parks x words → Restores other words r l → r ≡ Ok p → History (restored_on other r l) calls answers y → History x calls answers y
   -- a refused restoring, of any words
-  then_refused : {x y : Running} {calls : List Call} {answers : List Outcome} (words : List ℕ) (r : Restored) (l : Lent)
-      → Restores x words r l → (r.refusal ≡ Ok tt → ⊥) → History (restored_on r l) calls answers y → History x calls answers y
+  then_refused : {x y : Running} {calls : List Call} {answers : List Outcome} (words : List ℕ) (r : Result Panel ImageRefusal) (why : ImageRefusal) (l : Lent)
+      → Restores x words r l → r ≡ Err why → History (restored_on x r l) calls answers y → History x calls answers y
 
 -- ---- every history is the model's
 pub record IsRun (x : Running) (calls : List Call) (answers : List Outcome) (y : Running) : Type 0 where

@@ -51,14 +51,13 @@ pub fn clock_words(c: Clock) -> [u32; 8]
 fn time_bad(words: &[u32]) -> Result<(), usize>
     ensures { found result ≡ two_bad (double_ok time_ok) words.now 2 }
 {
-    double_in_bad(words, TIME, time_ok(double_at(words, TIME)))
+    double_in_bad(words, TIME, time_ok)
 }
 
 fn predicted_bad(words: &[u32]) -> Result<(), usize>
     ensures { found result ≡ word_bad (single_ok unit_interval_ok) words.now 8 }
 {
-    let ok = unit_interval_ok(single_at(words, PREDICTED_DT));
-    single_in_bad(words, PREDICTED_DT, ok)
+    single_in_bad(words, PREDICTED_DT, unit_interval_ok)
 }
 
 // The first wrong word of the group.

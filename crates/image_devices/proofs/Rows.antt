@@ -101,14 +101,8 @@ group_length n c a t = ap (λ (z : List Device). suc (length (all entry (devices
 pub count_le : (n c : ℕ) (a : List Device) → length a ≡ 4 → n ≡ length (take c a) → n ≤ 4
 count_le n c a l e = omega (arith, length-take c a)
 
--- ---- checking: of the ids before only the last is looked at
+-- ---- checking
 module _ (f : List ℕ → ℕ → Option ℕ) (ws : List ℕ) where
-  pub keys_last : (n : ℕ) (d : ℕ) (xs ys : List ℕ) (i : ℕ) → keys_bad 84 ascending f n (d ∷ xs) ws i ≡ keys_bad 84 ascending f n (d ∷ ys) ws i
-  unfolding keys_bad ascending
-  keys_last zero d xs ys i = refl
-  keys_last (suc n) d xs ys i =
-      ap (λ (z : Option ℕ). or_else (two_bad (ascending (d ∷ xs)) ws i) (or_else (f ws (i + 2)) z)) (keys_last n (two_at ws i) (d ∷ xs) (d ∷ ys) (i + 86))
-
   -- where nothing is wrong, nothing is wrong with any entry
   pub sound_entry : (n : ℕ) (seen : List ℕ) (i j : ℕ) → j < n → keys_bad 84 ascending f n seen ws i ≡ None → f ws (i + j * 86 + 2) ≡ None
   unfolding keys_bad

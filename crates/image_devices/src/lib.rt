@@ -1,13 +1,13 @@
 // Group 12 of an image (02 A.6): the touch devices by ascending id, each with its touches and its gesture.
 #![tactic(auto)]
 
-ghost use Rattle.std.specs.Prelude.{◌≡◌, [], map, ◌+◌, ◌*◌, ◌<◌, ◌≤◌, length, take, None};
+ghost use Rattle.std.specs.Prelude.{◌≡◌, map, ◌+◌, ◌*◌, ◌<◌, ◌≤◌, length, take, None};
 ghost use Rattle.std.proofs.lemmas.List.Edits.{sets};
 ghost use Rattle.data.specs.Limits.{max_devices, max_touches};
 ghost use Rattle.touch_device.specs.View.{device_view};
 ghost use Rattle.touch_state.specs.View.{known, view};
 ghost use Rattle.image.specs.Codes.{write, entry_words, Each, all};
-ghost use Rattle.image.specs.Places.{or_else, two_bad, bad_at, value_at, keys_bad, key_at, span};
+ghost use Rattle.image.specs.Places.{or_else, two_bad, bad_at, value_at, key_at, span};
 ghost use Rattle.image_words.specs.Leaves.{found};
 ghost use Rattle.image_touches.specs.Touches.{ascending, seen_of, touches_code};
 ghost use Rattle.image_devices.specs.Devices.{device_code, devices_code, device_el, device_of, devices_el, devices_of, DeviceIn};
@@ -15,27 +15,32 @@ ghost use Rattle.image_devices.specs.Devices.{device_code, devices_code, device_
 use data::limits::MAX_DEVICES;
 use image_gesture::{gesture_at, gesture_bad, gesture_put};
 use image_touches::{touches_at, touches_bad, touches_put};
-use image_words::{high, key_bad, low, table_bad, table_count, two_at};
+use image_words::{Listing, high, key_bad, keys_bad, low, two_at};
 use touch_device::Device;
 use touch_state::devices::Devices;
 
-// The group's name and its leading word of length 0, and the words of a device.
-const DEVICES: u32 = 12;
+// The words of a device.
+pub const DEVICE_WORDS: usize = 86;
 
+// The group's list, of the most devices that this form holds.
+const DEVICES: Listing = Listing {
+    name: 12,
+    most: 4,
+    size: DEVICE_WORDS,
+};
+
+// The group's leading word of length 0.
 const DEVICES_WORD: u32 = 0xC000_0000;
 
-const DEVICE_WORDS: usize = 86;
-
-const DEVICE_SIZE: u32 = 86;
+// Of a device, after its id.
+const AFTER_ID: usize = 84;
 
 // Where a device's touches and its gesture stand, after its id.
 const TOUCHES: usize = 2;
 
 const GESTURE: usize = 63;
 
-// The most that this form holds.
-const MOST_DEVICES: u32 = 4;
-
+// The most touches of a device that this form holds.
 const MOST_TOUCHES: u32 = 10;
 
 fn device_put(d: Device, out: &mut [u32], at: usize)
@@ -43,12 +48,10 @@ fn device_put(d: Device, out: &mut [u32], at: usize)
     ensures { (out.new ≡ sets out.old at (entry_words (write (device_code max_touches)) (device_el (device_view d))))
         × DeviceIn (device_el (device_view d)) × (length (entry_words (write (device_code max_touches)) (device_el (device_view d))) ≡ 86) }
 {
-    let touches = d.touches;
-    let gesture = d.gesture_state;
     out[at] = high(d.id);
     out[at + 1] = low(d.id);
-    touches_put(touches, out, at + TOUCHES);
-    gesture_put(gesture, out, at + GESTURE);
+    touches_put(d.touches, out, at + TOUCHES);
+    gesture_put(d.gesture_state, out, at + GESTURE);
 }
 
 // The first n devices.
@@ -58,8 +61,7 @@ fn rows_put(places: [Device; MAX_DEVICES], n: usize, out: &mut [u32], at: usize)
         × Each DeviceIn (devices_el (map device_view (take n places))) }
 {
     for i in 0..n {
-        let d = places[i];
-        device_put(d, out, at + i * DEVICE_WORDS);
+        device_put(places[i], out, at + i * DEVICE_WORDS);
     }
 }
 
@@ -76,8 +78,7 @@ fn rows_words(places: [Device; MAX_DEVICES], n: usize) -> usize
 {
     let mut words: usize = 0;
     for i in 0..n {
-        let d = places[i];
-        words += device_words(d);
+        words += device_words(places[i]);
     }
     words
 }
@@ -87,8 +88,7 @@ pub fn devices_words(ds: Devices) -> usize
     ensures { (result ≡ 1 + length (known ds) * 86) × (result ≡ length (write (devices_code max_devices max_touches) (devices_el (view ds)))) }
 {
     let n = touch_state::devices::len(ds);
-    let places = ds.places;
-    1 + rows_words(places, n)
+    1 + rows_words(ds.places, n)
 }
 
 pub fn devices_put(ds: Devices, out: &mut [u32], at: usize)
@@ -97,9 +97,8 @@ pub fn devices_put(ds: Devices, out: &mut [u32], at: usize)
         × Each DeviceIn (devices_el (view ds)) }
 {
     let n = touch_state::devices::len(ds);
-    let places = ds.places;
     out[at] = DEVICES_WORD + (n * DEVICE_WORDS) as u32;
-    rows_put(places, n, out, at + 1);
+    rows_put(ds.places, n, out, at + 1);
 }
 
 fn device_bad(words: &[u32], at: usize, before: Option<u64>) -> Result<(), usize>
@@ -111,24 +110,11 @@ fn device_bad(words: &[u32], at: usize, before: Option<u64>) -> Result<(), usize
     gesture_bad(words, at + GESTURE)
 }
 
-fn rows_bad(words: &[u32], at: usize, n: usize) -> Result<(), usize>
-    requires { at + n * 86 + 86 < 0x1000_0000 }
-    ensures { found result ≡ keys_bad 84 ascending (bad_at (device_code max_touches)) n [] words.now at }
-{
-    let mut before = None;
-    for i in 0..n {
-        let k = at + i * DEVICE_WORDS;
-        device_bad(words, k, before)?;
-        before = Some(two_at(words, k));
-    }
-    Ok(())
-}
-
 // How many devices follow, where the leading word is right.
 pub fn devices_count(words: &[u32], at: usize) -> usize
     ensures { (result ≤ max_devices) × (bad_at (devices_code max_devices max_touches) words.now at ≡ None → 1 + result * 86 ≡ span (devices_code max_devices max_touches) words.now at) }
 {
-    table_count(words, at, DEVICES, MOST_DEVICES, DEVICE_SIZE)
+    DEVICES.count(words, at)
 }
 
 #[tactic(auto, unfolding(image::specs::Places::bad_at, image::specs::Places::span, image::specs::Places::or_else, image::specs::Codes::size, image_words::specs::Leaves::found))]
@@ -136,9 +122,15 @@ pub fn devices_bad(words: &[u32], at: usize) -> Result<(), usize>
     requires { at < 0x100_0000 }
     ensures { found result ≡ bad_at (devices_code max_devices max_touches) words.now at }
 {
-    table_bad(words, at, DEVICES, MOST_DEVICES, DEVICE_SIZE)?;
-    let n = table_count(words, at, DEVICES, MOST_DEVICES, DEVICE_SIZE);
-    rows_bad(words, at + 1, n)
+    DEVICES.bad(words, at)?;
+    let n = DEVICES.count(words, at);
+    keys_bad(
+        words,
+        at + 1,
+        n,
+        AFTER_ID,
+        |k, before| device_bad(words, k, before),
+    )
 }
 
 fn device_at(words: &[u32], at: usize) -> Device
@@ -160,7 +152,7 @@ pub fn devices_at(words: &[u32], at: usize) -> Devices
     requires { (at < 0x100_0000) × (bad_at (devices_code max_devices max_touches) words.now at ≡ None) }
     ensures { view result ≡ devices_of (value_at (devices_code max_devices max_touches) words.now at) }
 {
-    let n = table_count(words, at, DEVICES, MOST_DEVICES, DEVICE_SIZE);
+    let n = DEVICES.count(words, at);
     let mut ds = touch_state::devices::none();
     for i in 0..n {
         let d = device_at(words, at + 1 + i * DEVICE_WORDS);

@@ -6,7 +6,7 @@ ghost use Rattle.std.proofs.lemmas.List.Edits.{sets};
 ghost use Rattle.data.specs.Limits.{max_events};
 ghost use Rattle.pointer_events.specs.Events.{events, events_from, counted};
 ghost use Rattle.image.specs.Codes.{write, In, Each, all};
-ghost use Rattle.image.specs.Places.{bad_at, value_at, rows_bad, rows_at, span};
+ghost use Rattle.image.specs.Places.{bad_at, value_at, rows_at, span};
 ghost use Rattle.image.specs.Places as places;
 ghost use Rattle.image_words.specs.Leaves.{found, any_id};
 ghost use Rattle.image_events.specs.Events.{pos_code, clicked_code, by_kind, event_code, events_code, event_el, event_of_el, events_el, events_of_el, Stored};
@@ -16,67 +16,79 @@ use data::pointer::PointerEvent;
 use emath::pos2::Pos2;
 use image_options::pair_bad;
 use image_words::{
-    copy, header_bad, single_at, single_bad, single_word, table_bad, table_count, word_at,
-    word_bad, zeros_bad,
+    Listing, copy, header_bad, rows_bad, single_at, single_bad, single_word, word_at, word_bad,
+    zeros_bad,
 };
 use pointer_events::{CODES, Entry, PLACES, counted, entry_at, entry_of, event_of, push};
 
-// The group's name and its leading word of length 0, and the words of an event.
+// The words of an event.
+pub const EVENT_WORDS: usize = 6;
+
+// The group's name, and its leading word of length 0.
 const EVENTS: u32 = 11;
 
 const EVENTS_WORD: u32 = 0xB000_0000;
 
-const EVENT_WORDS: usize = 6;
-
-const EVENT_SIZE: u32 = 6;
-
+// Not a kind: the greatest word that the field may hold.
 const MAX_KIND: u32 = 3;
 
 const MAX_BUTTON: u32 = 4;
 
 const MAX_FLAGS: u32 = 31;
 
+// The lent arrays that the events stand in, read.
+// Kept (C): C lends the codes and the positions as two arrays of plain numbers.
+#[derive(Clone, Copy)]
+pub struct Entries<'a> {
+    pub codes: &'a [u32; CODES],
+    pub positions: &'a [f32; PLACES],
+}
+
+// The group's list, of at most `most` events.
+fn list(most: u32) -> Listing
+    ensures { (result.name ≡ 11) × (result.most ≡ most) × (result.size ≡ 6) }
+{
+    Listing {
+        name: EVENTS,
+        most,
+        size: EVENT_WORDS,
+    }
+}
+
 // A stored kind over 3 is written as the 3 that it means.
 pub fn event_words(e: PointerEvent) -> [u32; 6]
     ensures { (result ≡ write event_code (event_el e)) × In event_code (event_el e) }
 {
     let x = entry_of(e);
-    let pos = x.pos;
     [
         x.kind,
         x.button,
         x.count,
         x.flags,
-        single_word(pos.x),
-        single_word(pos.y),
+        single_word(x.pos.x),
+        single_word(x.pos.y),
     ]
 }
 
 // The first n events.
-fn rows_put(codes: &[u32; CODES], positions: &[f32; PLACES], n: usize, out: &mut [u32], at: usize)
+fn rows_put(from: Entries, n: usize, out: &mut [u32], at: usize)
     requires { (n ≤ max_events) × (at + n * 6 ≤ length out.old) }
-    ensures { (out.new ≡ sets out.old at (all (write event_code) (events_el (events_from codes.now positions.now 0 n)))) × Each (In event_code) (events_el (events_from codes.now positions.now 0 n)) }
+    ensures { (out.new ≡ sets out.old at (all (write event_code) (events_el (events_from from.entry.codes.now from.entry.positions.now 0 n)))) × Each (In event_code) (events_el (events_from from.entry.codes.now from.entry.positions.now 0 n)) }
 {
     for i in 0..n {
-        let x = entry_at(codes, positions, i);
+        let x = entry_at(from.codes, from.positions, i);
         let part = event_words(event_of(x));
         copy(out, at + i * EVENT_WORDS, &part);
     }
 }
 
-pub fn events_put(
-    codes: &[u32; CODES],
-    positions: &[f32; PLACES],
-    count: usize,
-    out: &mut [u32],
-    at: usize,
-)
+pub fn events_put(from: Entries, count: usize, out: &mut [u32], at: usize)
     requires { at + (1 + counted count * 6) ≤ length out.old }
-    ensures { (out.new ≡ sets out.old at (write (events_code max_events) (events_el (events codes.now positions.now count)))) × In (events_code max_events) (events_el (events codes.now positions.now count)) }
+    ensures { (out.new ≡ sets out.old at (write (events_code max_events) (events_el (events from.entry.codes.now from.entry.positions.now count)))) × In (events_code max_events) (events_el (events from.entry.codes.now from.entry.positions.now count)) }
 {
     let n = counted(count);
     out[at] = EVENTS_WORD + (n * EVENT_WORDS) as u32;
-    rows_put(codes, positions, n, out, at + 1);
+    rows_put(from, n, out, at + 1);
 }
 
 // Any count: it is wrong only where it is missing.
@@ -129,6 +141,7 @@ fn released_bad(words: &[u32], at: usize) -> Result<(), usize>
 }
 
 // The five words after the kind.
+// Kept (plain): the word itself is matched: `EventKind` would need words that are not yet checked.
 fn fields_bad(words: &[u32], at: usize, kind: u32) -> Result<(), usize>
     requires { at < 0x1_0000_0000 }
     ensures { found result ≡ bad_at (by_kind kind) words.now at }
@@ -149,23 +162,12 @@ fn event_bad(words: &[u32], at: usize) -> Result<(), usize>
     fields_bad(words, at + 1, word_at(words, at))
 }
 
-// The first wrong word of n events.
-fn rows_bad(words: &[u32], at: usize, n: usize) -> Result<(), usize>
-    requires { at + n * 6 + 6 < 0x1_0000_0000 }
-    ensures { found result ≡ rows_bad 6 (bad_at event_code) n words.now at }
-{
-    for i in 0..n {
-        event_bad(words, at + i * EVENT_WORDS)?;
-    }
-    Ok(())
-}
-
 // How many events follow, where the leading word is right. A form holds at most `most`.
 pub fn events_count(words: &[u32], at: usize, most: u32) -> usize
     requires { most ≤ max_events }
     ensures { (result ≤ most) × (bad_at (events_code most) words.now at ≡ None → 1 + result * 6 ≡ span (events_code most) words.now at) }
 {
-    table_count(words, at, EVENTS, most, EVENT_SIZE)
+    list(most).count(words, at)
 }
 
 #[tactic(auto, unfolding(image::specs::Places::bad_at, image::specs::Places::span, image::specs::Places::or_else, image::specs::Codes::size, image_words::specs::Leaves::found))]
@@ -173,9 +175,10 @@ pub fn events_bad(words: &[u32], at: usize, most: u32) -> Result<(), usize>
     requires { (at < 0x1000_0000) × (most ≤ max_events) }
     ensures { found result ≡ bad_at (events_code most) words.now at }
 {
-    table_bad(words, at, EVENTS, most, EVENT_SIZE)?;
-    let n = table_count(words, at, EVENTS, most, EVENT_SIZE);
-    rows_bad(words, at + 1, n)
+    let events = list(most);
+    events.bad(words, at)?;
+    let n = events.count(words, at);
+    rows_bad(at + 1, n, EVENT_WORDS, |k| event_bad(words, k))
 }
 
 fn event_at(words: &[u32], at: usize) -> PointerEvent
@@ -196,6 +199,7 @@ fn event_at(words: &[u32], at: usize) -> PointerEvent
     event_of(x)
 }
 
+// Kept (plain): lent one by one: of a struct that holds a `&mut` each clause would have to say what stands behind it afterwards.
 fn rows_at(
     codes: &mut [u32; CODES],
     positions: &mut [f32; PLACES],
@@ -215,6 +219,7 @@ fn rows_at(
 }
 
 // The new count; requires that nothing is wrong, so that nothing is written before all is checked.
+// Kept (plain): lent one by one: of a struct that holds a `&mut` each clause would have to say what stands behind it afterwards.
 pub fn events_at(
     codes: &mut [u32; CODES],
     positions: &mut [f32; PLACES],
@@ -225,6 +230,6 @@ pub fn events_at(
     requires { (at < 0x1000_0000) × (most ≤ max_events) × (bad_at (events_code most) words.now at ≡ None) }
     ensures { Stored (events_of_el (value_at (events_code most) words.now at)) codes.old positions.old result codes.new positions.new }
 {
-    let n = table_count(words, at, EVENTS, most, EVENT_SIZE);
+    let n = list(most).count(words, at);
     rows_at(codes, positions, words, at + 1, n)
 }

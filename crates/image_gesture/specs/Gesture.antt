@@ -1,5 +1,6 @@
 -- A device's gesture in an image: its description, and a gesture as its value and back.
-use Rattle.std.specs.Prelude.{ℕ, cond, eqb, Option, None, Some}
+use Rattle.std.specs.Prelude.{ℕ, cond, eqb, Option}
+use Rattle.std.specs.Option.{option_map}
 use Rattle.data.specs.Numbers.{pinch_number}
 use Rattle.data.specs.declared.touch.PinchType.{PinchType}
 use Rattle.data.specs.declared.touch.PinchType.TheVariants.{Horizontal, Vertical, Proportional}
@@ -30,12 +31,10 @@ abbrev pub previous_code : Code
 previous_code = maybe averages_code
 
 unfoldable pub previous_el : Option DynGestureState → El previous_code
-previous_el None = None
-previous_el (Some d) = Some (averages_el d)
+previous_el d = option_map averages_el d
 
 unfoldable pub previous_of : El previous_code → Option DynGestureState
-previous_of None = None
-previous_of (Some v) = Some (averages_of v)
+previous_of v = option_map averages_of v
 
 -- three pinches
 abbrev pub max_pinch : ℕ
@@ -72,9 +71,7 @@ abbrev pub gesture_code : Code
 gesture_code = maybe fields_code
 
 unfoldable pub gesture_el : Option GestureState → El gesture_code
-gesture_el None = None
-gesture_el (Some g) = Some (fields_el g)
+gesture_el g = option_map fields_el g
 
 unfoldable pub gesture_of : El gesture_code → Option GestureState
-gesture_of None = None
-gesture_of (Some v) = Some (fields_of v)
+gesture_of v = option_map fields_of v

@@ -6,10 +6,10 @@ ghost use Rattle.std.proofs.lemmas.List.Edits.{sets};
 ghost use Rattle.image.specs.Codes.{write, In};
 ghost use Rattle.image.specs.Places.{bad_at, value_at};
 ghost use Rattle.image_words.specs.Leaves.{found};
-ghost use Rattle.image_gesture.specs.Gesture.{averages_code, averages_el, averages_of, previous_code, previous_el, previous_of, pinch_of, start_code, start_el, fields_code, fields_of, gesture_code, gesture_el, gesture_of};
+ghost use Rattle.image_gesture.specs.Gesture.{averages_code, averages_el, averages_of, previous_code, previous_el, pinch_of, start_code, start_el, fields_code, fields_of, gesture_code, gesture_el, gesture_of};
 
 use data::touch::{DynGestureState, GestureState, PinchType};
-use image_options::{maybe_bad, pair_bad, pos_at, vec_at};
+use image_options::{maybe_at, maybe_bad, pair_bad, pos_at, vec_at};
 use image_words::{
     copy, double_at, double_bad, double_word, high, low, single_at, single_bad, single_word,
     word_at, word_bad, zeros_put,
@@ -35,18 +35,15 @@ const MAX_PINCH: u32 = 2;
 pub fn averages_words(d: DynGestureState) -> [u32; 8]
     ensures { (result ≡ write averages_code (averages_el d)) × In averages_code (averages_el d) }
 {
-    let abs = d.avg_abs_distance2;
-    let pos = d.avg_pos;
-    let heading = d.heading;
     [
         single_word(d.avg_distance),
-        single_word(abs.x),
-        single_word(abs.y),
-        single_word(pos.x),
-        single_word(pos.y),
+        single_word(d.avg_abs_distance2.x),
+        single_word(d.avg_abs_distance2.y),
+        single_word(d.avg_pos.x),
+        single_word(d.avg_pos.y),
         single_word(d.avg_force),
-        single_word(heading.x),
-        single_word(heading.y),
+        single_word(d.heading.x),
+        single_word(d.heading.y),
     ]
 }
 
@@ -54,14 +51,12 @@ fn start_words(g: GestureState) -> [u32; 5]
     ensures { (result ≡ write start_code (start_el g)) × In start_code (start_el g) }
 {
     let time = double_word(g.start_time);
-    let pos = g.start_pointer_pos;
-    let pinch = g.pinch_type;
     [
         high(time),
         low(time),
-        single_word(pos.x),
-        single_word(pos.y),
-        pinch.number(),
+        single_word(g.start_pointer_pos.x),
+        single_word(g.start_pointer_pos.y),
+        g.pinch_type.number(),
     ]
 }
 
@@ -85,12 +80,10 @@ fn fields_put(g: GestureState, out: &mut [u32], at: usize)
     ensures { (out.new ≡ sets out.old at (write gesture_code (gesture_el (Some g)))) × In gesture_code (gesture_el (Some g)) }
 {
     let start = start_words(g);
-    let previous = g.previous;
-    let current = g.current;
-    let averages = averages_words(current);
+    let averages = averages_words(g.current);
     out[at] = 1;
     copy(out, at + 1, &start);
-    previous_put(previous, out, at + 1 + PREVIOUS);
+    previous_put(g.previous, out, at + 1 + PREVIOUS);
     copy(out, at + 1 + CURRENT, &averages);
 }
 
@@ -128,6 +121,7 @@ fn start_bad(words: &[u32], at: usize) -> Result<(), usize>
     word_bad(words, at + 4, MAX_PINCH)
 }
 
+// Kept (plain): `maybe_bad` of the averages; the chain of checks that calls it then needs no proof of its own.
 fn previous_bad(words: &[u32], at: usize) -> Result<(), usize>
     requires { at + 9 < 0x1_0000_0000 }
     ensures { found result ≡ bad_at previous_code words.now at }
@@ -145,6 +139,7 @@ fn fields_bad(words: &[u32], at: usize) -> Result<(), usize>
     averages_bad(words, at + CURRENT)
 }
 
+// Kept (plain): `maybe_bad` of a gesture, as `previous_bad` is of averages.
 pub fn gesture_bad(words: &[u32], at: usize) -> Result<(), usize>
     requires { at + 23 < 0x1_0000_0000 }
     ensures { found result ≡ bad_at gesture_code words.now at }
@@ -172,16 +167,7 @@ fn averages_at(words: &[u32], at: usize) -> DynGestureState
     }
 }
 
-fn previous_at(words: &[u32], at: usize) -> Option<DynGestureState>
-    requires { at + 9 < 0x1_0000_0000 }
-    ensures { result ≡ previous_of (value_at previous_code words.now at) }
-{
-    if word_at(words, at) == 0 {
-        return None;
-    }
-    Some(averages_at(words, at + 1))
-}
-
+// Kept (plain): no From for a number. A word may hold any number, which the check has kept below 3, and the type is another crate's.
 fn pinch_of(w: u32) -> PinchType
     ensures { result ≡ pinch_of w }
 {
@@ -199,7 +185,7 @@ fn fields_at(words: &[u32], at: usize) -> GestureState
     let start_time = double_at(words, at);
     let start_pointer_pos = pos_at(words, at + 2);
     let pinch_type = pinch_of(word_at(words, at + 4));
-    let previous = previous_at(words, at + PREVIOUS);
+    let previous = maybe_at(words, at + PREVIOUS, averages_at(words, at + PREVIOUS + 1));
     let current = averages_at(words, at + CURRENT);
     GestureState {
         start_time,
@@ -214,8 +200,5 @@ pub fn gesture_at(words: &[u32], at: usize) -> Option<GestureState>
     requires { at + 23 < 0x1_0000_0000 }
     ensures { result ≡ gesture_of (value_at gesture_code words.now at) }
 {
-    if word_at(words, at) == 0 {
-        return None;
-    }
-    Some(fields_at(words, at + 1))
+    maybe_at(words, at, fields_at(words, at + 1))
 }

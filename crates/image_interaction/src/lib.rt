@@ -10,8 +10,8 @@ ghost use Rattle.interaction_state.specs.View.{interaction_of};
 ghost use Rattle.image_interaction.specs.Groups.{sums_place, sums_code, sums_el, sums_of, interaction_place, interaction_code, interaction_el, tally_place, tally_code};
 ghost use Rattle.image_interaction.specs.Groups as groups;
 
-use image_options::{maybe_id_at, maybe_id_bad, maybe_id_words, pair_bad, vec_at};
-use image_words::{header_bad, single_at, single_bad, single_word, word_at, word_bad};
+use image_options::{maybe_at, maybe_id_bad, maybe_words, pair_bad, vec_at};
+use image_words::{header_bad, single_at, single_bad, single_word, two_at, word_at, word_bad};
 use input_state::sums::Sums;
 use interaction_state::state::Interaction;
 
@@ -49,26 +49,22 @@ const MAX_WORD: u32 = 0xFFFF_FFFF;
 pub fn sums_words(s: Sums) -> [u32; 6]
     ensures { (result ≡ write sums_code (sums_el (sums s))) × In sums_code (sums_el (sums s)) }
 {
-    let smooth = s.smooth_scroll_delta;
     [
         SUMS,
         single_word(s.zoom_factor),
         single_word(s.zoom_exponent),
         single_word(s.rotation_radians),
-        single_word(smooth.x),
-        single_word(smooth.y),
+        single_word(s.smooth_scroll_delta.x),
+        single_word(s.smooth_scroll_delta.y),
     ]
 }
 
 pub fn interaction_words(s: Interaction) -> [u32; 10]
     ensures { (result ≡ write interaction_code (interaction_el (interaction_of s))) × In interaction_code (interaction_el (interaction_of s)) }
 {
-    let click = s.potential_click_id;
-    let drag = s.potential_drag_id;
-    let dragged = s.dragged;
-    let a = maybe_id_words(click);
-    let b = maybe_id_words(drag);
-    let d = maybe_id_words(dragged);
+    let a = maybe_words(s.potential_click_id);
+    let b = maybe_words(s.potential_drag_id);
+    let d = maybe_words(s.dragged);
     [
         INTERACTION,
         a[0],
@@ -133,9 +129,17 @@ pub fn sums_at(words: &[u32]) -> Sums
 pub fn interaction_at(words: &[u32]) -> Interaction
     ensures { interaction_of result ≡ groups.interaction_of (value_at interaction_code words.now interaction_place) }
 {
-    let potential_click_id = maybe_id_at(words, POTENTIAL_CLICK_ID);
-    let potential_drag_id = maybe_id_at(words, POTENTIAL_DRAG_ID);
-    let dragged = maybe_id_at(words, DRAGGED);
+    let potential_click_id = maybe_at(
+        words,
+        POTENTIAL_CLICK_ID,
+        two_at(words, POTENTIAL_CLICK_ID + 1),
+    );
+    let potential_drag_id = maybe_at(
+        words,
+        POTENTIAL_DRAG_ID,
+        two_at(words, POTENTIAL_DRAG_ID + 1),
+    );
+    let dragged = maybe_at(words, DRAGGED, two_at(words, DRAGGED + 1));
     Interaction {
         potential_click_id,
         potential_drag_id,

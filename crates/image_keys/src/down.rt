@@ -6,7 +6,7 @@ ghost use Rattle.image_words.specs.Leaves.{found};
 ghost use Rattle.key_state.specs.View.{down_of};
 ghost use Rattle.image_keys.specs.Keys.{down_place, down_code, down_el, keys_down_of, last_word};
 
-use image_words::{low, word_at, word_bad};
+use image_words::{high, low, word_at, word_bad};
 use key_state::bits::Set256;
 
 // The places of the five words, and the most of each: the last has 17 keys.
@@ -28,13 +28,6 @@ const HALF: u64 = 0x1_0000_0000;
 
 const LAST: u64 = 0x2_0000;
 
-// Halves by / and %, as the clauses say them.
-fn upper(w: u64) -> u32
-    ensures { (result ≡ w / half) × (result < half) }
-{
-    (w / HALF) as u32
-}
-
 // What stands beyond the last key is left out.
 fn last(w: u64) -> u32
     ensures { result ≡ w % last_word }
@@ -45,11 +38,8 @@ fn last(w: u64) -> u32
 pub fn down_words(s: Set256) -> [u32; 5]
     ensures { (result ≡ write down_code (down_el (down_of s))) × In down_code (down_el (down_of s)) }
 {
-    let words = s.words;
-    let a = words[0];
-    let b = words[1];
-    let c = words[2];
-    [low(a), upper(a), low(b), upper(b), last(c)]
+    let [a, b, c, _] = s.words;
+    [low(a), high(a), low(b), high(b), last(c)]
 }
 
 #[tactic(auto, unfolding(image::specs::Places::bad_at, image::specs::Places::span, image::specs::Places::or_else, image::specs::Codes::size, image_words::specs::Leaves::found))]
@@ -63,16 +53,11 @@ pub fn down_bad(words: &[u32]) -> Result<(), usize>
     word_bad(words, DOWN_4, MAX_LAST)
 }
 
+// Kept (plain): std joins bytes, no words; the low one stands first here.
 fn joined(low: u32, high: u32) -> u64
     ensures { (result ≡ low + high * half) × (low < half) }
 {
     low as u64 + high as u64 * HALF
-}
-
-fn wide(w: u32) -> u64
-    ensures { result ≡ w }
-{
-    w as u64
 }
 
 pub fn down_at(words: &[u32]) -> Set256
@@ -80,7 +65,8 @@ pub fn down_at(words: &[u32]) -> Set256
 {
     let a = joined(word_at(words, DOWN_0), word_at(words, DOWN_1));
     let b = joined(word_at(words, DOWN_2), word_at(words, DOWN_3));
-    let c = wide(word_at(words, DOWN_4));
-    let set = [a, b, c, 0];
-    Set256 { words: set }
+    let c = word_at(words, DOWN_4) as u64;
+    Set256 {
+        words: [a, b, c, 0],
+    }
 }

@@ -31,9 +31,7 @@ const FIVE_BITS: u32 = 31;
 fn head_words(k: Keys) -> [u32; 8]
     ensures { (presses : List ℕ) → (result ≡ keys_head (keys presses k)) × KeysHead (keys presses k) }
 {
-    let down = k.down;
-    let modifiers = k.modifiers;
-    let d = down_words(down);
+    let d = down_words(k.down);
     [
         KEYS,
         d[0],
@@ -41,7 +39,7 @@ fn head_words(k: Keys) -> [u32; 8]
         d[2],
         d[3],
         d[4],
-        modifiers.number(),
+        k.modifiers.number(),
         bit_number(k.feed_empty),
     ]
 }

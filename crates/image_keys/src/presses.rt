@@ -8,15 +8,9 @@ ghost use Rattle.image_words.specs.Leaves.{found};
 ghost use Rattle.image_options.specs.Options.{Near};
 ghost use Rattle.image_keys.specs.Keys.{press_code};
 
-use image_words::{word_at, word_bad};
+use image_words::{rows_bad, word_at, word_bad};
 
 const MAX_PRESSES: u32 = 255;
-
-fn wide(b: u8) -> u32
-    ensures { (result ≡ b) × (result ≤ 255) }
-{
-    b as u32
-}
 
 // Over a slice, whose length its caller knows, and tells.
 pub fn presses_put(presses: &[u8], out: &mut [u32], at: usize)
@@ -24,7 +18,7 @@ pub fn presses_put(presses: &[u8], out: &mut [u32], at: usize)
     ensures { (out.new ≡ sets out.old at presses.now) × Each (In press_code) presses.now × (length presses.now ≡ key_count) }
 {
     for i in 0..presses.len() {
-        out[at + i] = wide(presses[i]);
+        out[at + i] = presses[i] as u32;
     }
 }
 
@@ -32,16 +26,7 @@ pub fn presses_bad(words: &[u32], at: usize, n: usize) -> Result<(), usize>
     requires { Near (at + n) }
     ensures { found result ≡ rows_bad 1 (bad_at press_code) n words.now at }
 {
-    for i in 0..n {
-        word_bad(words, at + i, MAX_PRESSES)?;
-    }
-    Ok(())
-}
-
-fn byte(w: u32) -> u8
-    ensures { result ≡ w % 256 }
-{
-    (w % 256) as u8
+    rows_bad(at, n, 1, |k| word_bad(words, k, MAX_PRESSES))
 }
 
 // Every place is written.
@@ -50,6 +35,6 @@ pub fn presses_at(words: &[u32], at: usize, presses: &mut [u8])
     ensures { presses.new ≡ rows_at 1 (value_at press_code) key_count words.now at }
 {
     for i in 0..presses.len() {
-        presses[i] = byte(word_at(words, at + i));
+        presses[i] = (word_at(words, at + i) % 256) as u8;
     }
 }

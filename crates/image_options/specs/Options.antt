@@ -1,5 +1,6 @@
 -- Fields that several groups share: the code of each, the value that stands for a record, and back.
-use Rattle.std.specs.Prelude.{ℕ, ◌<◌, Bool, eqb, Option, None, Some, Float}
+use Rattle.std.specs.Prelude.{ℕ, ◌<◌, Bool, eqb, Option, Float}
+use Rattle.std.specs.Option.{option_map}
 use Rattle.model.specs.Types.{Pos2, Vec2}
 use Rattle.image.specs.Codes.{Code, word, single, double, id, both, maybe, El}
 use Rattle.image_words.specs.Leaves.{flag, upto, any, any_id}
@@ -43,32 +44,26 @@ abbrev pub maybe_pair : Code
 maybe_pair = maybe pair
 
 unfoldable pub maybe_pos_el : Option Pos2 → El maybe_pair
-maybe_pos_el None = None
-maybe_pos_el (Some p) = Some (pos_el p)
+maybe_pos_el p = option_map pos_el p
 
 unfoldable pub maybe_pos_of : El maybe_pair → Option Pos2
-maybe_pos_of None = None
-maybe_pos_of (Some v) = Some (pos_of v)
+maybe_pos_of v = option_map pos_of v
 
 unfoldable pub maybe_vec_el : Option Vec2 → El maybe_pair
-maybe_vec_el None = None
-maybe_vec_el (Some p) = Some (vec_el p)
+maybe_vec_el p = option_map vec_el p
 
 unfoldable pub maybe_vec_of : El maybe_pair → Option Vec2
-maybe_vec_of None = None
-maybe_vec_of (Some v) = Some (vec_of v)
+maybe_vec_of v = option_map vec_of v
 
 -- a time or none
 abbrev pub maybe_time : Code
 maybe_time = maybe (double any)
 
 unfoldable pub maybe_time_el : Option Float → El maybe_time
-maybe_time_el None = None
-maybe_time_el (Some t) = Some t
+maybe_time_el t = option_map (λ t. t) t
 
 unfoldable pub maybe_time_of : El maybe_time → Option Float
-maybe_time_of None = None
-maybe_time_of (Some t) = Some t
+maybe_time_of t = option_map (λ t. t) t
 
 -- an id or none, which the model keeps as it stands
 abbrev pub maybe_id : Code

@@ -1,17 +1,19 @@
 // Fields that several groups of an image (02 A.6) share: positions and vectors, and values that may be absent.
 #![tactic(auto)]
 
-ghost use Rattle.std.specs.Prelude.{◌≡◌, ◌+◌, ◌<◌, suc};
-ghost use Rattle.image.specs.Codes.{Code, maybe, size, write, In};
+ghost use Rattle.std.specs.Prelude.{◌≡◌, ◌+◌, ◌<◌, suc, length};
+ghost use Rattle.std.specs.Option.{option_map};
+ghost use Rattle.image.specs.Codes.{Code, double, id, maybe, El, size, write, In};
 ghost use Rattle.image.specs.Places.{bad_at, value_at};
-ghost use Rattle.image_words.specs.Leaves.{found};
-ghost use Rattle.image_options.specs.Options.{Near, pair, maybe_pair, maybe_time, maybe_id, pos_of, vec_of, pos_el, vec_el, maybe_pos_el, maybe_pos_of, maybe_vec_el, maybe_vec_of, maybe_time_el, maybe_time_of};
+ghost use Rattle.image_words.specs.Leaves.{found, any, any_id};
+ghost use Rattle.image_options.specs.Options.{Near, pair, maybe_pair, maybe_time, maybe_id, pos_of, vec_of, pos_el, vec_el};
+ghost use Rattle.image_options.specs.Sizes.{pair_size, pair_long, double_size, double_long, id_size, id_long};
 
 use emath::pos2::Pos2;
 use emath::vec2::Vec2;
 use image_words::{
-    double_at, double_bad, double_word, flag_bad, high, id_bad, low, single_at, single_bad,
-    single_word, two_at, word_at, zeros_bad,
+    double_bad, double_word, flag_bad, high, id_bad, low, single_at, single_bad, single_word,
+    word_at, zeros_bad,
 };
 
 // How many words follow the flag.
@@ -23,44 +25,87 @@ const ID_WORDS: usize = 2;
 
 // ---- words
 
-// One for each type: a position, a vector, a time and an id have definitions of their own, and one generic form would need a trait with four laws for these few lines.
+// A value of two words: its description, and what stands for it.
+pub trait TwoWords {
+    ghost code: { Code };
 
-pub fn maybe_pos_words(p: Option<Pos2>) -> [u32; 3]
-    ensures { (result ≡ write maybe_pair (maybe_pos_el p)) × In maybe_pair (maybe_pos_el p) }
-{
-    match p {
-        None => [0, 0, 0],
-        Some(v) => [1, single_word(v.x), single_word(v.y)],
+    ghost el: { Self → El code };
+
+    fn words(self) -> [u32; 2]
+        ensures { (result ≡ write code (el self)) × In code (el self) };
+
+    ghost two: { size code ≡ 2 };
+
+    ghost long: { (v : Self) → length (write code (el v)) ≡ 2 };
+}
+
+impl TwoWords for Pos2 {
+    ghost code = { pair };
+
+    ghost el = { pos_el };
+
+    ghost two = { pair_size };
+
+    ghost long = { λ v. pair_long (pos_el v) };
+
+    fn words(self) -> [u32; 2] {
+        [single_word(self.x), single_word(self.y)]
     }
 }
 
-pub fn maybe_vec_words(p: Option<Vec2>) -> [u32; 3]
-    ensures { (result ≡ write maybe_pair (maybe_vec_el p)) × In maybe_pair (maybe_vec_el p) }
-{
-    match p {
-        None => [0, 0, 0],
-        Some(v) => [1, single_word(v.x), single_word(v.y)],
+impl TwoWords for Vec2 {
+    ghost code = { pair };
+
+    ghost el = { vec_el };
+
+    ghost two = { pair_size };
+
+    ghost long = { λ v. pair_long (vec_el v) };
+
+    fn words(self) -> [u32; 2] {
+        [single_word(self.x), single_word(self.y)]
     }
 }
 
-pub fn maybe_time_words(t: Option<f64>) -> [u32; 3]
-    ensures { (result ≡ write maybe_time (maybe_time_el t)) × In maybe_time (maybe_time_el t) }
+impl TwoWords for f64 {
+    ghost code = { double any };
+
+    ghost el = { λ t. t };
+
+    ghost two = { double_size };
+
+    ghost long = { double_long };
+
+    fn words(self) -> [u32; 2] {
+        let b = double_word(self);
+        [high(b), low(b)]
+    }
+}
+
+impl TwoWords for u64 {
+    ghost code = { id any_id };
+
+    ghost el = { λ d. d };
+
+    ghost two = { id_size };
+
+    ghost long = { id_long };
+
+    fn words(self) -> [u32; 2] {
+        [high(self), low(self)]
+    }
+}
+
+// The flag, and the value's words or zeros.
+pub fn maybe_words<T: TwoWords>(value: Option<T>) -> [u32; 3]
+    ensures { (result ≡ write (maybe T.code) (option_map T.el value)) × In (maybe T.code) (option_map T.el value) }
 {
-    match t {
+    match value {
         None => [0, 0, 0],
-        Some(x) => {
-            let b = double_word(x);
-            [1, high(b), low(b)]
+        Some(v) => {
+            let w = v.words();
+            [1, w[0], w[1]]
         }
-    }
-}
-
-pub fn maybe_id_words(id: Option<u64>) -> [u32; 3]
-    ensures { (result ≡ write maybe_id id) × In maybe_id id }
-{
-    match id {
-        None => [0, 0, 0],
-        Some(d) => [1, high(d), low(d)],
     }
 }
 
@@ -88,6 +133,7 @@ pub fn maybe_bad(words: &[u32], at: usize, n: usize, value: Result<(), usize>) -
     value
 }
 
+// Kept (plain): here and in the next two, `maybe_bad` of one description; the chains of checks that call them then need no proof of their own.
 pub fn maybe_pair_bad(words: &[u32], at: usize) -> Result<(), usize>
     requires { Near at }
     ensures { found result ≡ bad_at maybe_pair words.now at }
@@ -95,6 +141,7 @@ pub fn maybe_pair_bad(words: &[u32], at: usize) -> Result<(), usize>
     maybe_bad(words, at, PAIR_WORDS, pair_bad(words, at + 1))
 }
 
+// Kept (plain): as `maybe_pair_bad`.
 pub fn maybe_time_bad(words: &[u32], at: usize) -> Result<(), usize>
     requires { Near at }
     ensures { found result ≡ bad_at maybe_time words.now at }
@@ -102,6 +149,7 @@ pub fn maybe_time_bad(words: &[u32], at: usize) -> Result<(), usize>
     maybe_bad(words, at, DOUBLE_WORDS, double_bad(words, at + 1))
 }
 
+// Kept (plain): as `maybe_pair_bad`.
 pub fn maybe_id_bad(words: &[u32], at: usize) -> Result<(), usize>
     requires { Near at }
     ensures { found result ≡ bad_at maybe_id words.now at }
@@ -111,6 +159,7 @@ pub fn maybe_id_bad(words: &[u32], at: usize) -> Result<(), usize>
 
 // ---- values
 
+// Kept (plain): two of each. A position and a vector are types of their own, and as methods of a trait these would be the same two bodies.
 pub fn pos_at(words: &[u32], at: usize) -> Pos2
     requires { Near at }
     ensures { result ≡ pos_of (value_at pair words.now at) }
@@ -121,6 +170,7 @@ pub fn pos_at(words: &[u32], at: usize) -> Pos2
     }
 }
 
+// Kept (plain): as `pos_at`.
 pub fn vec_at(words: &[u32], at: usize) -> Vec2
     requires { Near at }
     ensures { result ≡ vec_of (value_at pair words.now at) }
@@ -131,46 +181,9 @@ pub fn vec_at(words: &[u32], at: usize) -> Vec2
     }
 }
 
-pub fn maybe_pos_at(words: &[u32], at: usize) -> Option<Pos2>
-    requires { Near at }
-    ensures { result ≡ maybe_pos_of (value_at maybe_pair words.now at) }
+// None where the flag is 0, or the value that was read behind it: of every description.
+pub fn maybe_at<T: Drop>(words: &[u32], at: usize, value: T) -> Option<T>
+    ensures { (a : Code) (f : El a → T) → value ≡ f (value_at a words.now (suc at)) → result ≡ option_map f (value_at (maybe a) words.now at) }
 {
-    if word_at(words, at) == 0 {
-        return None;
-    }
-    let x = single_at(words, at + 1);
-    let y = single_at(words, at + 2);
-    Some(Pos2 { x, y })
-}
-
-pub fn maybe_vec_at(words: &[u32], at: usize) -> Option<Vec2>
-    requires { Near at }
-    ensures { result ≡ maybe_vec_of (value_at maybe_pair words.now at) }
-{
-    if word_at(words, at) == 0 {
-        return None;
-    }
-    let x = single_at(words, at + 1);
-    let y = single_at(words, at + 2);
-    Some(Vec2 { x, y })
-}
-
-pub fn maybe_time_at(words: &[u32], at: usize) -> Option<f64>
-    requires { Near at }
-    ensures { result ≡ maybe_time_of (value_at maybe_time words.now at) }
-{
-    if word_at(words, at) == 0 {
-        return None;
-    }
-    Some(double_at(words, at + 1))
-}
-
-pub fn maybe_id_at(words: &[u32], at: usize) -> Option<u64>
-    requires { Near at }
-    ensures { result ≡ value_at maybe_id words.now at }
-{
-    if word_at(words, at) == 0 {
-        return None;
-    }
-    Some(two_at(words, at + 1))
+    (word_at(words, at) != 0).then_some(value)
 }

@@ -8,9 +8,7 @@ ghost use Rattle.pointer_place.specs.View.{place};
 ghost use Rattle.image_pointer.specs.Place.{place_place, place_code, place_el, place_of};
 
 use emath_history::history::History;
-use image_options::{
-    maybe_pair_bad, maybe_pos_at, maybe_pos_words, maybe_vec_at, maybe_vec_words, pair_bad, vec_at,
-};
+use image_options::{maybe_at, maybe_pair_bad, maybe_words, pair_bad, pos_at, vec_at};
 use image_words::{header_bad, single_word};
 use pointer_place::Place;
 
@@ -34,15 +32,9 @@ const DIRECTION: usize = 40;
 pub fn place_words(p: Place) -> [u32; 16]
     ensures { (times positions : List Float) → (result ≡ write place_code (place_el (place times positions p))) × In place_code (place_el (place times positions p)) }
 {
-    let latest_pos = p.latest_pos;
-    let interact_pos = p.interact_pos;
-    let motion = p.motion;
-    let delta = p.delta;
-    let velocity = p.velocity;
-    let direction = p.direction;
-    let l = maybe_pos_words(latest_pos);
-    let i = maybe_pos_words(interact_pos);
-    let m = maybe_vec_words(motion);
+    let l = maybe_words(p.latest_pos);
+    let i = maybe_words(p.interact_pos);
+    let m = maybe_words(p.motion);
     [
         PLACE,
         l[0],
@@ -51,15 +43,15 @@ pub fn place_words(p: Place) -> [u32; 16]
         i[0],
         i[1],
         i[2],
-        single_word(delta.x),
-        single_word(delta.y),
+        single_word(p.delta.x),
+        single_word(p.delta.y),
         m[0],
         m[1],
         m[2],
-        single_word(velocity.x),
-        single_word(velocity.y),
-        single_word(direction.x),
-        single_word(direction.y),
+        single_word(p.velocity.x),
+        single_word(p.velocity.y),
+        single_word(p.direction.x),
+        single_word(p.direction.y),
     ]
 }
 
@@ -80,10 +72,10 @@ pub fn place_bad(words: &[u32]) -> Result<(), usize>
 pub fn place_at(words: &[u32], history: History) -> Place
     ensures { (times positions : List Float) → place times positions result ≡ place_of (value_at place_code words.now place_place) (view times positions history) }
 {
-    let latest_pos = maybe_pos_at(words, LATEST_POS);
-    let interact_pos = maybe_pos_at(words, INTERACT_POS);
+    let latest_pos = maybe_at(words, LATEST_POS, pos_at(words, LATEST_POS + 1));
+    let interact_pos = maybe_at(words, INTERACT_POS, pos_at(words, INTERACT_POS + 1));
     let delta = vec_at(words, DELTA);
-    let motion = maybe_vec_at(words, MOTION);
+    let motion = maybe_at(words, MOTION, vec_at(words, MOTION + 1));
     let velocity = vec_at(words, VELOCITY);
     let direction = vec_at(words, DIRECTION);
     Place {

@@ -9,9 +9,7 @@ ghost use Rattle.image_pointer.specs.Press.{press_place, press_code, press_el, p
 
 use data::bits::bit_number;
 use data::pointer::ButtonsDown;
-use image_options::{
-    maybe_pair_bad, maybe_pos_at, maybe_pos_words, maybe_time_at, maybe_time_bad, maybe_time_words,
-};
+use image_options::{maybe_at, maybe_pair_bad, maybe_time_bad, maybe_words, pos_at};
 use image_words::{
     double_at, double_bad, double_word, flag_bad, header_bad, high, low, word_at, word_bad,
 };
@@ -56,6 +54,7 @@ fn buttons_number(d: ButtonsDown) -> u32
 }
 
 // Their number is worked out.
+// Kept (plain): no From for a number. A word may hold any number, of which only the last five bits are buttons, and the type is another crate's.
 fn buttons_of(w: u32) -> ButtonsDown
     ensures { result ≡ buttons_of w }
 {
@@ -70,28 +69,22 @@ fn buttons_of(w: u32) -> ButtonsDown
 pub fn press_words(p: Press, started: bool, moved: Option<f64>) -> [u32; 20]
     ensures { (codes : List ℕ) (places : List Float) → (result ≡ write press_code (press_el (press codes places p) started moved)) × In press_code (press_el (press codes places p) started moved) }
 {
-    let held = p.held;
-    let past = p.past;
-    let down = held.down;
-    let origin = held.press_origin;
-    let start = held.press_start_time;
-    let click = past.last_click_pos;
-    let o = maybe_pos_words(origin);
-    let s = maybe_time_words(start);
-    let c = maybe_pos_words(click);
-    let m = maybe_time_words(moved);
-    let last = double_word(past.last_click_time);
-    let before = double_word(past.last_last_click_time);
+    let o = maybe_words(p.held.press_origin);
+    let s = maybe_words(p.held.press_start_time);
+    let c = maybe_words(p.past.last_click_pos);
+    let m = maybe_words(moved);
+    let last = double_word(p.past.last_click_time);
+    let before = double_word(p.past.last_last_click_time);
     [
         PRESS,
-        buttons_number(down),
+        buttons_number(p.held.down),
         o[0],
         o[1],
         o[2],
         s[0],
         s[1],
         s[2],
-        bit_number(past.has_moved_too_much_for_a_click),
+        bit_number(p.past.has_moved_too_much_for_a_click),
         c[0],
         c[1],
         c[2],
@@ -127,9 +120,13 @@ pub fn press_at(words: &[u32], event_count: usize) -> Press
     ensures { (codes : List ℕ) (places : List Float) → press codes places result ≡ press_of (value_at press_code words.now press_place) (events codes places event_count) }
 {
     let down = buttons_of(word_at(words, DOWN));
-    let press_origin = maybe_pos_at(words, PRESS_ORIGIN);
-    let press_start_time = maybe_time_at(words, PRESS_START_TIME);
-    let last_click_pos = maybe_pos_at(words, LAST_CLICK_POS);
+    let press_origin = maybe_at(words, PRESS_ORIGIN, pos_at(words, PRESS_ORIGIN + 1));
+    let press_start_time = maybe_at(
+        words,
+        PRESS_START_TIME,
+        double_at(words, PRESS_START_TIME + 1),
+    );
+    let last_click_pos = maybe_at(words, LAST_CLICK_POS, pos_at(words, LAST_CLICK_POS + 1));
     let held = Held {
         down,
         press_origin,
@@ -154,5 +151,5 @@ pub fn started_at(words: &[u32]) -> bool
 pub fn last_move_time_at(words: &[u32]) -> Option<f64>
     ensures { result ≡ moved_of (value_at press_code words.now press_place) }
 {
-    maybe_time_at(words, LAST_MOVE_TIME)
+    maybe_at(words, LAST_MOVE_TIME, double_at(words, LAST_MOVE_TIME + 1))
 }

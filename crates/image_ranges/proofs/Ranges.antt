@@ -11,7 +11,7 @@ use Rattle.feed.specs.Decode.{items}
 use Rattle.model.specs.Types.{Rect, PassRefusal, OutsideDomain, TimeBelow, InteractRefusal}
 use Rattle.model.specs.Pass.{Panel, PassInput, fresh, begin_pass, clock_pass, screen_pass, rect_or, rect_given_ok, time_of, own_numbers_ok, own_refusal, or_else, survey, pass, pass_by, pass_refusal}
 use Rattle.model.specs.Interact.{InteractInput, seen, interact, interact_seen, interact_by, input_refusal, tally_refusal, tallied, tallied_by, snapshot, interaction_after, with_interaction}
-use Rattle.model.specs.Calls.{Call, passes, interacts, OfPass, OfInteract, call, after, run}
+use Rattle.model.specs.Calls.{Call, passes, interacts, of_pass, of_interact, call, after, run}
 use Rattle.model.proofs.Ids.{impossible}
 use Rattle.model.proofs.Opened.{opened}
 use Rattle.image_ranges.specs.Ranges.{Ranged, RunsStayInRange, EveryRunIsInRange}
@@ -67,23 +67,23 @@ taken_numbers p i e =
     numbers_taken (own_numbers_ok i t) (lt t p.clock.time) (survey max_events (items i.feed) p.touch_states) e
 
 passed : (p : Panel) (i : PassInput) → Ranged p → Ranged (after p (call p (passes i)))
-unfolding after call OfPass pass pass_by
+unfolding after call of_pass pass pass_by
 passed p i r = go (pass_refusal p i) refl
   where
-    go : (o : Option PassRefusal) → pass_refusal p i ≡ o → Ranged (after p (OfPass (pass_by o p i)))
+    go : (o : Option PassRefusal) → pass_refusal p i ≡ o → Ranged (after p (of_pass (pass_by o p i)))
     go (Some q) e = r
     go None e = begun p i r (taken_numbers p i e)
 
 -- an interact writes interaction and tally alone
 interacted : (p : Panel) (x : InteractInput) → Ranged p → Ranged (after p (call p (interacts x)))
-unfolding after call OfInteract interact interact_seen interact_by tallied tallied_by with_interaction
+unfolding after call of_interact interact interact_seen interact_by tallied tallied_by with_interaction
 interacted p x r = go (input_refusal x)
   where
-    full : (o : Option InteractRefusal) → Ranged (after p (OfInteract (tallied_by o p (snapshot (seen p) x p.interaction) (interaction_after (seen p) x p.interaction))))
+    full : (o : Option InteractRefusal) → Ranged (after p (of_interact (tallied_by o p (snapshot (seen p) x p.interaction) (interaction_after (seen p) x p.interaction))))
     full (Some q) = r
     full None = r
 
-    go : (o : Option InteractRefusal) → Ranged (after p (OfInteract (interact_by o (seen p) p x)))
+    go : (o : Option InteractRefusal) → Ranged (after p (of_interact (interact_by o (seen p) p x)))
     go (Some q) = r
     go None = full (tally_refusal (snapshot (seen p) x p.interaction) p.tally)
 

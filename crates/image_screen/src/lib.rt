@@ -60,22 +60,17 @@ const FIVE_BITS: u32 = 31;
 fn rect_words(r: Rect) -> [u32; 4]
     ensures { (result ≡ write rect_code (rect_el r)) × (T (rect_ok r) → In rect_code (rect_el r)) }
 {
-    let min = r.min;
-    let max = r.max;
     [
-        single_word(min.x),
-        single_word(min.y),
-        single_word(max.x),
-        single_word(max.y),
+        single_word(r.min.x),
+        single_word(r.min.y),
+        single_word(r.max.x),
+        single_word(r.max.y),
     ]
 }
 
 fn options_words(o: InputOptions) -> [u32; 10]
     ensures { (result ≡ write options_code (options_el o)) × (T (options_ok o) → In options_code (options_el o)) }
 {
-    let zoom = o.zoom_modifier;
-    let horizontal = o.horizontal_scroll_modifier;
-    let vertical = o.vertical_scroll_modifier;
     let duration = double_word(o.max_click_duration);
     let delay = double_word(o.max_double_click_delay);
     [
@@ -86,19 +81,17 @@ fn options_words(o: InputOptions) -> [u32; 10]
         low(duration),
         high(delay),
         low(delay),
-        zoom.number(),
-        horizontal.number(),
-        vertical.number(),
+        o.zoom_modifier.number(),
+        o.horizontal_scroll_modifier.number(),
+        o.vertical_scroll_modifier.number(),
     ]
 }
 
 pub fn screen_words(s: Screen) -> [u32; 17]
     ensures { (result ≡ write screen_code (screen_el (screen s))) × (ScreenOk (screen s) → In screen_code (screen_el (screen s))) }
 {
-    let rect = s.viewport_rect;
-    let options = s.options;
-    let r = rect_words(rect);
-    let o = options_words(options);
+    let r = rect_words(s.viewport_rect);
+    let o = options_words(s.options);
     [
         SCREEN,
         r[0],
@@ -124,31 +117,31 @@ pub fn screen_words(s: Screen) -> [u32; 17]
 fn coordinate_bad(words: &[u32], at: usize) -> Result<(), usize>
     ensures { found result ≡ places.word_bad (single_ok coordinate_ok) words.now at }
 {
-    single_in_bad(words, at, coordinate_ok(single_at(words, at)))
+    single_in_bad(words, at, coordinate_ok)
 }
 
 fn scale_bad(words: &[u32], at: usize) -> Result<(), usize>
     ensures { found result ≡ places.word_bad (single_ok scale_ok) words.now at }
 {
-    single_in_bad(words, at, scale_ok(single_at(words, at)))
+    single_in_bad(words, at, scale_ok)
 }
 
 fn length_bad(words: &[u32], at: usize) -> Result<(), usize>
     ensures { found result ≡ places.word_bad (single_ok length_ok) words.now at }
 {
-    single_in_bad(words, at, length_ok(single_at(words, at)))
+    single_in_bad(words, at, length_ok)
 }
 
 fn unit_interval_bad(words: &[u32], at: usize) -> Result<(), usize>
     ensures { found result ≡ places.word_bad (single_ok unit_interval_ok) words.now at }
 {
-    single_in_bad(words, at, unit_interval_ok(single_at(words, at)))
+    single_in_bad(words, at, unit_interval_ok)
 }
 
 fn duration_bad(words: &[u32], at: usize) -> Result<(), usize>
     ensures { found result ≡ places.two_bad (double_ok duration_ok) words.now at }
 {
-    double_in_bad(words, at, duration_ok(double_at(words, at)))
+    double_in_bad(words, at, duration_ok)
 }
 
 #[tactic(auto, unfolding(image::specs::Places::bad_at, image::specs::Places::span, image::specs::Places::or_else, image::specs::Codes::size, image_words::specs::Leaves::found))]

@@ -64,15 +64,6 @@ put_all l at n c a e t =
     let f : at + 1 ≡ suc at = omega arith in
     rw (m, t, f) (sets_at (set l at n) (suc at) (suc at + n * 6) (all (entry_words (write touch_code)) (map touch_el (take c a))) (zeros ((10 - n) * 6)) (ap (λ (z : ℕ). suc at + z) (sym k)))
 
--- ---- checking
--- of the ids before only the last is looked at
-module _ (f : List ℕ → ℕ → Option ℕ) (ws : List ℕ) where
-  pub keys_last : (n : ℕ) (d : ℕ) (xs ys : List ℕ) (i : ℕ) → keys_bad 4 ascending f n (d ∷ xs) ws i ≡ keys_bad 4 ascending f n (d ∷ ys) ws i
-  unfolding keys_bad ascending
-  keys_last zero d xs ys i = refl
-  keys_last (suc n) d xs ys i =
-      ap (λ (z : Option ℕ). or_else (two_bad (ascending (d ∷ xs)) ws i) (or_else (f ws (i + 2)) z)) (keys_last n (two_at ws i) (d ∷ xs) (d ∷ ys) (i + 6))
-
 -- ---- reading
 pub read_none : (ws : List ℕ) (at : ℕ) (a : List ActiveTouch) → take 0 a ≡ touches_of (rows_at 6 (key_at (value_at touch_code)) 0 ws at)
 unfolding touches_of rows_at

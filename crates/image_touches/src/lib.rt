@@ -1,11 +1,11 @@
 // The touches of a device in an image (02 A.6): a count, so many by ascending id, zeros up to the most.
 #![tactic(auto)]
 
-ghost use Rattle.std.specs.Prelude.{◌≡◌, [], ◌+◌, ◌*◌, ◌-◌, ◌<◌, ◌≤◌, length, take, None};
+ghost use Rattle.std.specs.Prelude.{◌≡◌, ◌+◌, ◌*◌, ◌-◌, ◌<◌, ◌≤◌, length, take, None};
 ghost use Rattle.std.proofs.lemmas.List.Edits.{sets};
 ghost use Rattle.data.specs.Limits.{max_touches};
 ghost use Rattle.image.specs.Codes.{write, entry_words, In, Each, all};
-ghost use Rattle.image.specs.Places.{or_else, two_bad, bad_at, value_at, keys_bad, key_at};
+ghost use Rattle.image.specs.Places.{or_else, two_bad, bad_at, value_at, key_at};
 ghost use Rattle.image_words.specs.Leaves.{found};
 ghost use Rattle.touches.specs.Touches.{list};
 ghost use Rattle.image_touches.specs.Touches.{ascending, force_code, touch_code, touches_code, touch_el, touch_of, touches_el, touches_of, seen_of};
@@ -13,15 +13,18 @@ ghost use Rattle.image_touches.specs.Touches.{ascending, force_code, touch_code,
 use data::limits::MAX_TOUCHES;
 use data::touch::ActiveTouch;
 use emath::pos2::Pos2;
-use image_options::maybe_bad;
+use image_options::{maybe_at, maybe_bad};
 use image_words::{
-    copy, count_at, flag_bad, high, key_bad, low, single_at, single_bad, single_word, two_at,
-    word_at, word_bad, zeros_bad, zeros_put,
+    copy, count_at, high, key_bad, keys_bad, low, single_at, single_bad, single_word, two_at,
+    word_bad, zeros_bad, zeros_put,
 };
 use touches::Touches;
 
 // An id of two words, a position of two, a force or none of two.
 pub const TOUCH_WORDS: usize = 6;
+
+// Of a touch, after its id.
+const AFTER_ID: usize = 4;
 
 // Of a force, after its flag.
 const FORCE_WORDS: usize = 1;
@@ -31,11 +34,9 @@ pub fn touch_words(t: ActiveTouch) -> [u32; 6]
 {
     let h = high(t.id);
     let l = low(t.id);
-    let pos = t.pos;
-    let x = single_word(pos.x);
-    let y = single_word(pos.y);
-    let force = t.force;
-    match force {
+    let x = single_word(t.pos.x);
+    let y = single_word(t.pos.y);
+    match t.force {
         None => [h, l, x, y, 0, 0],
         Some(f) => [h, l, x, y, 1, single_word(f)],
     }
@@ -47,8 +48,7 @@ fn places_put(places: [ActiveTouch; MAX_TOUCHES], n: usize, out: &mut [u32], at:
     ensures { (out.new ≡ sets out.old at (all (entry_words (write touch_code)) (touches_el (take n places)))) × Each (λ v. In touch_code v.1) (touches_el (take n places)) }
 {
     for i in 0..n {
-        let t = places[i];
-        let part = touch_words(t);
+        let part = touch_words(places[i]);
         copy(out, at + i * TOUCH_WORDS, &part);
     }
 }
@@ -58,9 +58,8 @@ pub fn touches_put(ts: Touches, out: &mut [u32], at: usize)
     ensures { (out.new ≡ sets out.old at (write (touches_code max_touches) (touches_el (list ts)))) × Each (λ v. In touch_code v.1) (touches_el (list ts)) × (length (list ts) ≤ max_touches) }
 {
     let n = touches::len(ts);
-    let places = ts.places;
     out[at] = n as u32;
-    places_put(places, n, out, at + 1);
+    places_put(ts.places, n, out, at + 1);
     zeros_put(
         out,
         at + 1 + n * TOUCH_WORDS,
@@ -68,6 +67,7 @@ pub fn touches_put(ts: Touches, out: &mut [u32], at: usize)
     );
 }
 
+// Kept (plain): `maybe_bad` of a force; the chain of checks that calls it then needs no proof of its own.
 fn force_bad(words: &[u32], at: usize) -> Result<(), usize>
     requires { at < 0x1_0000_0000 }
     ensures { found result ≡ bad_at force_code words.now at }
@@ -86,19 +86,6 @@ fn touch_bad(words: &[u32], at: usize, before: Option<u64>) -> Result<(), usize>
     force_bad(words, at + 4)
 }
 
-fn keys_bad(words: &[u32], at: usize, n: usize) -> Result<(), usize>
-    requires { at + n * 6 + 6 < 0x1_0000_0000 }
-    ensures { found result ≡ keys_bad 4 ascending (bad_at touch_code) n [] words.now at }
-{
-    let mut before = None;
-    for i in 0..n {
-        let k = at + i * TOUCH_WORDS;
-        touch_bad(words, k, before)?;
-        before = Some(two_at(words, k));
-    }
-    Ok(())
-}
-
 // A form holds at most `most` touches.
 #[tactic(auto, unfolding(image::specs::Places::bad_at, image::specs::Places::span, image::specs::Places::or_else, image::specs::Codes::size, image_words::specs::Leaves::found))]
 pub fn touches_bad(words: &[u32], at: usize, most: u32) -> Result<(), usize>
@@ -107,19 +94,15 @@ pub fn touches_bad(words: &[u32], at: usize, most: u32) -> Result<(), usize>
 {
     word_bad(words, at, most)?;
     let n = count_at(words, at, most);
-    keys_bad(words, at + 1, n)?;
+    keys_bad(
+        words,
+        at + 1,
+        n,
+        AFTER_ID,
+        |k, before| touch_bad(words, k, before),
+    )?;
     let unused = (most as usize - n) * TOUCH_WORDS;
     zeros_bad(words, at + 1 + n * TOUCH_WORDS, unused)
-}
-
-fn force_at(words: &[u32], at: usize) -> Option<f32>
-    requires { at < 0x1_0000_0000 }
-    ensures { result ≡ (value_at force_code words.now at) }
-{
-    if word_at(words, at) == 0 {
-        return None;
-    }
-    Some(single_at(words, at + 1))
 }
 
 fn touch_at(words: &[u32], at: usize) -> ActiveTouch
@@ -129,7 +112,7 @@ fn touch_at(words: &[u32], at: usize) -> ActiveTouch
     let id = two_at(words, at);
     let x = single_at(words, at + 2);
     let y = single_at(words, at + 3);
-    let force = force_at(words, at + 4);
+    let force = maybe_at(words, at + 4, single_at(words, at + 5));
     let pos = Pos2 { x, y };
     ActiveTouch { id, pos, force }
 }

@@ -41,23 +41,18 @@ const FIVE_BITS: u32 = 31;
 pub fn wheel_words(w: WheelState) -> [u32; 10]
     ensures { (result ≡ write wheel_code (wheel_el w)) × In wheel_code (wheel_el w) }
 {
-    let status = w.status;
-    let source = w.source;
-    let modifiers = w.modifiers;
-    let unprocessed = w.unprocessed_wheel_delta;
-    let smooth = w.smooth_wheel_delta;
     let last = double_word(w.last_wheel_event);
     [
         WHEEL,
-        status.number(),
-        source.number(),
-        modifiers.number(),
+        w.status.number(),
+        w.source.number(),
+        w.modifiers.number(),
         high(last),
         low(last),
-        single_word(unprocessed.x),
-        single_word(unprocessed.y),
-        single_word(smooth.x),
-        single_word(smooth.y),
+        single_word(w.unprocessed_wheel_delta.x),
+        single_word(w.unprocessed_wheel_delta.y),
+        single_word(w.smooth_wheel_delta.x),
+        single_word(w.smooth_wheel_delta.y),
     ]
 }
 
@@ -75,16 +70,15 @@ pub fn wheel_bad(words: &[u32]) -> Result<(), usize>
 }
 
 // By its place in the enum.
+// Kept (plain): no From for a number. A word may hold any number, which the check has kept below 3, and the type is another crate's.
 fn status_of(n: u32) -> Status
     ensures { result ≡ status_of n }
 {
-    if n == 0 {
-        return Status::Static;
+    match n {
+        0 => Status::Static,
+        1 => Status::Smoothing,
+        _ => Status::InTouch,
     }
-    if n == 1 {
-        return Status::Smoothing;
-    }
-    Status::InTouch
 }
 
 pub fn wheel_at(words: &[u32]) -> WheelState

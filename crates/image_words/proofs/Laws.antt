@@ -1,13 +1,13 @@
 -- Laws of the leaves. Assumes nothing.
-use Rattle.std.specs.Prelude.{None, Some}
+use Rattle.std.specs.Prelude.{Option, None, Some}
 use Prim.Native.Nat.{ℕ, zero, suc, ◌+◌, ◌*◌, ◌/◌, ◌≤◌, ◌<◌, ◌-◌}
 use native.Mathlib.Omega.{arith}
-use native.Mathlib.Nat.{div-mul-le_self, zero-div}
+use native.Mathlib.Nat.{div-mul-le_self}
 use mathlib.Core.Path.{◌≡◌, refl, sym, ap, ◌∙◌}
 use mathlib.Core.Bool.{Bool, true, false, ◌&&◌, cond}
 use mathlib.Core.List.{List, [], ◌∷◌, append_assoc}
 use lib.Dec.{eqb, ltb, leb}
-use lib.ListN.{length, get_or, set, take, drop, length-take, get_or-eq_default}
+use lib.ListN.{length, get_or, set, take, drop, replicate, length-take, get_or-eq_default}
 use lib.Seq.{sets, sets-eq, take-suc, drop-drop}
 use Rattle.image.proofs.Lists.{sets_append}
 use borrow.Rule.Slice.PartMut.{put_mid}
@@ -15,9 +15,9 @@ use mir.Val.{Fits}
 use mir.Syntax.{w64}
 use borrow.Author.Tests.{lt-ltb, le-ltb, leb-true}
 use lib.Ieee.{Float, binary32, binary64, of_bits, to_bits}
-use Rattle.image_words.specs.Leaves.{any}
-use Rattle.image.specs.Codes.{header, single_ok, double_ok, count_of, table_ok}
-use Rattle.image.specs.Places.{or_else, word_bad, two_at, two_bad, zeros_bad}
+use Rattle.image_words.specs.Leaves.{any, ascending}
+use Rattle.image.specs.Codes.{header, zeros, single_ok, double_ok, count_of, table_ok}
+use Rattle.image.specs.Places.{or_else, word_bad, two_at, two_bad, zeros_bad, keys_bad}
 
 pub and-true : (b : Bool) → b && true ≡ b
 and-true true = refl
@@ -122,6 +122,15 @@ sets_more l i n xs z h =
 pub put_part : {A : Type 0} (l : List A) (i k : ℕ) (xs ys : List A) → ys ≡ xs → k ≡ length xs → i + length xs ≤ length l → put_mid i k l ys ≡ sets l i xs
 put_part l i k xs ys e n h = let d = drop-drop (length xs) i l in rw (e, n, d, sets-eq xs l i h) (sym (append_assoc (take i l) xs (drop (i + length xs) l)))
 
+-- a part filled with zeros
+pub filled : (n m : ℕ) → m ≡ n → replicate m 0 ≡ zeros n
+unfolding zeros
+filled n m e = rw e (go n)
+  where
+    go : (k : ℕ) → replicate k 0 ≡ zeros k
+    go zero = refl
+    go (suc k) = ap (λ (z : List ℕ). 0 ∷ z) (go k)
+
 -- a word that is not wrong passed its test
 pub passed : (p : ℕ → Bool) (ws : List ℕ) (i : ℕ) → word_bad p ws i ≡ None → p (get_or ws i 0) ≡ true
 unfolding word_bad
@@ -134,10 +143,6 @@ passed p ws i h = go (ltb i (length ws)) (p (get_or ws i 0)) h
 
 -- ---- a list's header
 module _ (name s w : ℕ) where
-  pub count_over : w < name * 0x1000_0000 → 0 ≡ count_of name s w
-  unfolding count_of
-  count_over h = let e : w - header name 0 ≡ 0 = omega arith in rw (e, zero-div)
-
   pub count_is : (w - name * 0x1000_0000) / s ≡ count_of name s w
   unfolding count_of
   count_is = let e : w - name * 0x1000_0000 ≡ w - header name 0 = omega arith in rw e
@@ -156,3 +161,11 @@ module _ (name s w : ℕ) where
 
 pub fits_le : (a b : ℕ) → a ≤ b → Fits w64 b → Fits w64 a
 fits_le a b h k = omega arith
+
+-- ---- of the ids before only the last is looked at
+module _ (s : ℕ) (f : List ℕ → ℕ → Option ℕ) (ws : List ℕ) where
+  pub keys_last : (n : ℕ) (d : ℕ) (xs ys : List ℕ) (i : ℕ) → keys_bad s ascending f n (d ∷ xs) ws i ≡ keys_bad s ascending f n (d ∷ ys) ws i
+  unfolding keys_bad ascending
+  keys_last zero d xs ys i = refl
+  keys_last (suc n) d xs ys i =
+      ap (λ (z : Option ℕ). or_else (two_bad (ascending (d ∷ xs)) ws i) (or_else (f ws (i + 2)) z)) (keys_last n (two_at ws i) (d ∷ xs) (d ∷ ys) (i + (2 + s)))

@@ -1,13 +1,13 @@
 // One field of an image (02 A.6) checked or read, words written. A field is named by the place of its first word.
-// Checking and reading ask nothing of the place, and a word that is missing reads as 0.
+// Checking and reading one field asks nothing of the place, and a word that is missing reads as 0. A list asks for room, a test that is handed in that it may be called.
 #![tactic(auto)]
 
-ghost use Rattle.std.specs.Prelude.{◌≡◌, Bool, ℕ, ◌+◌, ◌*◌, ◌/◌, ◌%◌, ◌≤◌, ◌<◌, T, eqb, Float, length, get_or, None};
+ghost use Rattle.std.specs.Prelude.{◌≡◌, Bool, ℕ, ◌+◌, ◌*◌, ◌/◌, ◌%◌, ◌≤◌, ◌<◌, T, eqb, Float, List, [], Option, length, get_or, None};
 ghost use Rattle.std.specs.Float.{binary32, binary64};
 ghost use Rattle.std.specs.Float.Ieee.{of_bits, to_bits, fits};
 ghost use Rattle.std.proofs.lemmas.List.Edits.{sets};
 ghost use Rattle.image.specs.Codes.{zeros, single_ok, double_ok, count_of, table_ok};
-ghost use Rattle.image.specs.Places.{or_else, word_bad, two_at, two_bad, zeros_bad};
+ghost use Rattle.image.specs.Places.{or_else, word_bad, two_at, two_bad, zeros_bad, rows_bad, keys_bad};
 ghost use Rattle.image_words.specs.Leaves.{found, flag, upto, any, any_id, ascending, seen_of};
 
 use ieee::bits::{from_bits32, from_bits64, to_bits32, to_bits64};
@@ -18,12 +18,14 @@ const HALF: u64 = 0x1_0000_0000;
 // The weight of a name: the top 4 bits of a word.
 const NAME: u64 = 0x1000_0000;
 
+// Kept (plain): std has no method for the half of a number; the clauses of all groups say the halves in these words.
 pub fn high(b: u64) -> u32
     ensures { result ≡ b / 0x1_0000_0000 }
 {
     (b / HALF) as u32
 }
 
+// Kept (plain): as `high`.
 pub fn low(b: u64) -> u32
     ensures { result ≡ b % 0x1_0000_0000 }
 {
@@ -46,14 +48,10 @@ pub fn double_word(x: f64) -> u64
 
 // ---- values
 
-// Two of each for f32 and f64: a float's words are of its own format and number, and a generic one would need a trait with laws for two short bodies.
 pub fn word_at(words: &[u32], at: usize) -> u32
     ensures { result ≡ get_or words.now at 0 }
 {
-    if at < words.len() {
-        return words[at];
-    }
-    0
+    words.get(at).copied().unwrap_or(0)
 }
 
 // Two words, the high one first.
@@ -66,6 +64,7 @@ pub fn two_at(words: &[u32], at: usize) -> u64
     0
 }
 
+// Kept (plain): two of each for f32 and f64. A float's words are of its own format and number, and a generic one would need a trait with laws for bodies of one line.
 pub fn single_at(words: &[u32], at: usize) -> f32
     ensures { result ≡ of_bits binary32 (get_or words.now at 0) }
 {
@@ -91,25 +90,27 @@ fn double_one_form(b: u64) -> bool
     to_bits64(from_bits64(b)) == b
 }
 
-// The answer for a field of one word whose test, whichever it is, gave `ok`.
-fn one(words: &[u32], at: usize, ok: bool) -> Result<(), usize>
-    ensures { (p : ℕ → Bool) → ok ≡ p (get_or words.now at 0) → found result ≡ word_bad p words.now at }
+// A field of one word that is to pass `test`.
+fn one<F: FnOnce(u32) -> bool>(words: &[u32], at: usize, test: F) -> Result<(), usize>
+    requires { (w : ℕ) → F.pre test w }
+    ensures { (p : ℕ → Bool) → ((w : ℕ) (r : _) → F.post test w r → r ≡ p w) → found result ≡ word_bad p words.now at }
 {
     if at < words.len() {
-        if ok {
+        if test(words[at]) {
             return Ok(());
         }
     }
     Err(at)
 }
 
-// And for one of two words.
-fn two(words: &[u32], at: usize, ok: bool) -> Result<(), usize>
-    ensures { (p : ℕ → Bool) → ok ≡ p (two_at words.now at) → found result ≡ two_bad p words.now at }
+// And one of two words.
+fn two<F: FnOnce(u64) -> bool>(words: &[u32], at: usize, test: F) -> Result<(), usize>
+    requires { (b : ℕ) → F.pre test b }
+    ensures { (p : ℕ → Bool) → ((b : ℕ) (r : _) → F.post test b r → r ≡ p b) → found result ≡ two_bad p words.now at }
 {
     if at < words.len() {
         if at + 1 < words.len() {
-            if ok {
+            if test(two_at(words, at)) {
                 return Ok(());
             }
             return Err(at);
@@ -123,52 +124,55 @@ fn two(words: &[u32], at: usize, ok: bool) -> Result<(), usize>
 pub fn header_bad(words: &[u32], at: usize, header: u32) -> Result<(), usize>
     ensures { found result ≡ word_bad (eqb header) words.now at }
 {
-    one(words, at, header == word_at(words, at))
+    one(words, at, |w| header == w)
 }
 
 // A word up to the most.
 pub fn word_bad(words: &[u32], at: usize, most: u32) -> Result<(), usize>
     ensures { found result ≡ word_bad (upto most) words.now at }
 {
-    one(words, at, word_at(words, at) <= most)
+    one(words, at, |w| w <= most)
 }
 
 pub fn flag_bad(words: &[u32], at: usize) -> Result<(), usize>
     ensures { found result ≡ word_bad flag words.now at }
 {
-    one(words, at, word_at(words, at) < 2)
+    one(words, at, |w| w < 2)
 }
 
 pub fn single_bad(words: &[u32], at: usize) -> Result<(), usize>
     ensures { found result ≡ word_bad (single_ok any) words.now at }
 {
-    one(words, at, single_one_form(word_at(words, at)))
+    one(words, at, single_one_form)
 }
 
-// In its one form, and in the range whose test gave `ok` for the value there.
-// The test's answer and no closure: the clause then needs no law of the closure's calls.
-pub fn single_in_bad(words: &[u32], at: usize, ok: bool) -> Result<(), usize>
-    ensures { (p : Float → Bool) → ok ≡ p (of_bits binary32 (get_or words.now at 0)) → found result ≡ word_bad (single_ok p) words.now at }
+// In its one form, and in the range that `ok` tests.
+// Kept (plain): two of each, as `single_at`.
+pub fn single_in_bad<F: Fn(f32) -> bool>(words: &[u32], at: usize, ok: F) -> Result<(), usize>
+    requires { (x : Float) → F.pre ok x }
+    ensures { (p : Float → Bool) → ((x : Float) (r : _) → F.post ok x r → r ≡ p x) → found result ≡ word_bad (single_ok p) words.now at }
 {
-    one(words, at, single_one_form(word_at(words, at)) & ok)
+    one(words, at, |w| single_one_form(w) & ok(from_bits32(w)))
 }
 
 pub fn double_bad(words: &[u32], at: usize) -> Result<(), usize>
     ensures { found result ≡ two_bad (double_ok any) words.now at }
 {
-    two(words, at, double_one_form(two_at(words, at)))
+    two(words, at, double_one_form)
 }
 
-pub fn double_in_bad(words: &[u32], at: usize, ok: bool) -> Result<(), usize>
-    ensures { (p : Float → Bool) → ok ≡ p (of_bits binary64 (two_at words.now at)) → found result ≡ two_bad (double_ok p) words.now at }
+// Kept (plain): two of each, as `single_at`.
+pub fn double_in_bad<F: Fn(f64) -> bool>(words: &[u32], at: usize, ok: F) -> Result<(), usize>
+    requires { (x : Float) → F.pre ok x }
+    ensures { (p : Float → Bool) → ((x : Float) (r : _) → F.post ok x r → r ≡ p x) → found result ≡ two_bad (double_ok p) words.now at }
 {
-    two(words, at, double_one_form(two_at(words, at)) & ok)
+    two(words, at, |b| double_one_form(b) & ok(from_bits64(b)))
 }
 
 pub fn id_bad(words: &[u32], at: usize) -> Result<(), usize>
     ensures { found result ≡ two_bad any_id words.now at }
 {
-    two(words, at, true)
+    two(words, at, |_| true)
 }
 
 // An id of a list by ascending id: after the one before it, if it is not the first.
@@ -176,8 +180,8 @@ pub fn key_bad(words: &[u32], at: usize, before: Option<u64>) -> Result<(), usiz
     ensures { found result ≡ two_bad (ascending (seen_of before)) words.now at }
 {
     match before {
-        None => two(words, at, true),
-        Some(b) => two(words, at, b < two_at(words, at)),
+        None => two(words, at, |_| true),
+        Some(b) => two(words, at, |d| b < d),
     }
 }
 
@@ -198,48 +202,49 @@ pub fn zeros_bad(words: &[u32], at: usize, n: usize) -> Result<(), usize>
 
 // ---- lists
 
-// A list's name, most and size are three arguments: four functions take them, and a struct with their bound would be longer than the bound.
+// A list as its leading word has it: the name in the top 4 bits; and the most entries, and the words of each.
+#[derive(Clone, Copy)]
+pub struct Listing {
+    pub name: u32,
+    pub most: u32,
+    pub size: usize,
+    pub ghost named: { name < 16 },
+    pub ghost sized: { 0 < size },
+}
 
-// How many entries of `size` words a header announces.
-fn count_of(w: u32, name: u32, size: u32) -> u64
-    requires { (name < 16) × (0 < size) }
-    ensures { result ≡ count_of name size w }
-{
-    let base = name as u64 * NAME;
-    let v = w as u64;
-    if v < base {
-        return 0;
+impl Listing {
+    // How many entries a leading word announces.
+    fn announced(self, w: u32) -> u64
+        ensures { result ≡ count_of self.name self.size w }
+    {
+        (w as u64).saturating_sub(self.name as u64 * NAME) / self.size as u64
     }
-    (v - base) / size as u64
-}
 
-// A whole number of entries, up to the most.
-fn table_ok(w: u32, name: u32, most: u32, size: u32) -> bool
-    requires { (name < 16) × (0 < size) }
-    ensures { result ≡ table_ok name most size w }
-{
-    let n = count_of(w, name, size);
-    (name as u64 * NAME + n * size as u64 == w as u64) & (n <= most as u64)
-}
-
-// The leading word of a list.
-pub fn table_bad(words: &[u32], at: usize, name: u32, most: u32, size: u32) -> Result<(), usize>
-    requires { (name < 16) × (0 < size) }
-    ensures { found result ≡ word_bad (table_ok name most size) words.now at }
-{
-    one(words, at, table_ok(word_at(words, at), name, most, size))
-}
-
-// How many entries follow, where the leading word is right; at most the most in any case, so that places behind it don't wrap.
-pub fn table_count(words: &[u32], at: usize, name: u32, most: u32, size: u32) -> usize
-    requires { (name < 16) × (0 < size) }
-    ensures { (result ≤ most) × (word_bad (table_ok name most size) words.now at ≡ None → result ≡ count_of name size (get_or words.now at 0)) }
-{
-    let n = count_of(word_at(words, at), name, size);
-    if n <= most as u64 {
-        return n as usize;
+    // A whole number of entries, up to the most.
+    fn ok(self, w: u32) -> bool
+        ensures { result ≡ table_ok self.name self.most self.size w }
+    {
+        let n = self.announced(w);
+        (self.name as u64 * NAME + n * self.size as u64 == w as u64) & (n <= self.most as u64)
     }
-    0
+
+    // What is wrong with the leading word.
+    pub fn bad(self, words: &[u32], at: usize) -> Result<(), usize>
+        ensures { found result ≡ word_bad (table_ok self.name self.most self.size) words.now at }
+    {
+        one(words, at, |w| self.ok(w))
+    }
+
+    // How many entries follow, where the leading word is right; at most the most in any case, so that places behind it don't wrap.
+    pub fn count(self, words: &[u32], at: usize) -> usize
+        ensures { (result ≤ self.most) × (word_bad (table_ok self.name self.most self.size) words.now at ≡ None → result ≡ count_of self.name self.size (get_or words.now at 0)) }
+    {
+        let n = self.announced(word_at(words, at));
+        if n <= self.most as u64 {
+            return n as usize;
+        }
+        0
+    }
 }
 
 // The count, where it is right; at most the most in any case.
@@ -251,6 +256,49 @@ pub fn count_at(words: &[u32], at: usize, most: u32) -> usize
         return n as usize;
     }
     0
+}
+
+// The first wrong word of n entries of `size` words each; `row` tells what is wrong with the entry at a place.
+pub fn rows_bad<F: Fn(usize) -> Result<(), usize>>(
+    at: usize,
+    n: usize,
+    size: usize,
+    row: F,
+) -> Result<(), usize>
+    requires fits { at + n * size < 0x1_0000_0000_0000_0000 }
+    requires asked { (i : ℕ) → i < n → F.pre row (at + i * size) }
+    ensures { (f : List ℕ → ℕ → Option ℕ) (ws : List ℕ) → ((i : ℕ) (r : _) → F.post row i r → found r ≡ f ws i) → found result ≡ rows_bad size f n ws at }
+{
+    for i in 0..n {
+        row(at + i * size)?;
+    }
+    Ok(())
+}
+
+// The words of an entry's id.
+const ID_WORDS: usize = 2;
+
+// The first wrong word of n entries by ascending id, each with `after` words after its id; `entry` tells what is wrong with the entry at a place, whose id is to be above the one before.
+pub fn keys_bad<F: Fn(usize, Option<u64>) -> Result<(), usize>>(
+    words: &[u32],
+    at: usize,
+    n: usize,
+    after: usize,
+    entry: F,
+) -> Result<(), usize>
+    requires fits { at + n * (2 + after) < 0x1_0000_0000_0000_0000 }
+    requires asked { (i : ℕ) (before : Option ℕ) → i < n → F.pre entry (at + i * (2 + after)) before }
+    ensures { (f : List ℕ → ℕ → Option ℕ)
+        → ((i : ℕ) (before : Option ℕ) (r : _) → F.post entry i before r → found r ≡ or_else (two_bad (ascending (seen_of before)) words.now i) (f words.now (i + 2)))
+        → found result ≡ keys_bad after ascending f n [] words.now at }
+{
+    let mut before = None;
+    for i in 0..n {
+        let k = at + i * (ID_WORDS + after);
+        entry(k, before)?;
+        before = Some(two_at(words, k));
+    }
+    Ok(())
 }
 
 // ---- writing
@@ -267,7 +315,5 @@ pub fn zeros_put(out: &mut [u32], at: usize, n: usize)
     requires { at + n ≤ length out.old }
     ensures { out.new ≡ sets out.old at (zeros n) }
 {
-    for i in 0..n {
-        out[at + i] = 0;
-    }
+    out[at..at + n].fill(0);
 }

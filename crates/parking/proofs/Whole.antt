@@ -1,11 +1,13 @@
 -- An image checked and read group by group. Assumes nothing.
-use Rattle.std.specs.Prelude.{Option, None, Result, Ok, Err, ⊤}
+use Rattle.std.specs.Prelude.{Option, None, Result, Ok, Err, ⊤, MatchResult, IsErrAnd}
 use Prim.Native.Nat.{ℕ, ◌+◌, ◌*◌, ◌≤◌}
 use native.Mathlib.Omega.{arith}
 use mathlib.Core.Path.{◌≡◌, refl, sym, ap, ap₂, ◌∙◌, subst}
+use mathlib.Core.Bool.{true}
 use mathlib.Core.List.{List, []}
 use Rattle.data.specs.Limits.{max_events, max_devices, max_touches}
-use lib.ListN.{length, drop}
+use lib.Dec.{eqb}
+use lib.ListN.{length, drop, get_or}
 use lib.Seq.{sets}
 use Rattle.emath.specs.History.{Sample, max_len}
 use Rattle.emath_history.specs.declared.history.History.{History}
@@ -39,11 +41,13 @@ use Rattle.image_history.proofs.Fill.{is_count}
 use Rattle.image_events.specs.Events.{events_code, events_of_el, Stored}
 use Rattle.image_devices.specs.Devices.{devices_code, devices_of}
 use Rattle.model.specs.Pass as Model
-use Rattle.image_form.specs.Form.{panel_code, panel_of, taken, no_image, wrong, read_image}
+use Rattle.image_form.specs.Form.{first_word, panel_code, panel_of, taken, no_image, wrong, read_image}
 use Rattle.image_form.specs.Placed.{groups_place, lists_place, events_place, devices_place, end_place, end_bad, image_bad, answer}
 use Rattle.image_form.proofs.Whole.{reads_image}
+use Rattle.image_words.specs.Leaves.{found}
+use Rattle.parking.specs.declared.check.ImageRefusal.{ImageRefusal}
 use Rattle.parking.specs.declared.check.ImageRefusal.TheVariants.{FirstWord, Word}
-use Rattle.parking.specs.Restored.{Checked, Written, PointerHeld, InputHeld, Held}
+use Rattle.parking.specs.Restored.{Checked, Written, PointerHeld, InputHeld, Held, RestoredAs}
 
 -- ---- what stands behind a list is asked at the place that its length gives; where the length is wrong, that is told before
 behind : (x y : ℕ → Option ℕ) (s : ℕ → ℕ) (i j : ℕ) → (x i ≡ None → j ≡ i + s i) → or_else (x i) (y j) ≡ or_else (x i) (y (i + s i))
@@ -286,3 +290,15 @@ module _ (ws : List ℕ) where
   pub is_wrong : (i : ℕ) → Checked (Err (Word i)) ws → read_image ws ≡ wrong i
   unfolding answer
   is_wrong i h = reads_image ws ∙ rw (h.0, h.1)
+
+  pub is_refused : (l : Lent) (why : ImageRefusal) → Checked (Err why) ws → RestoredAs ws l (Err why) l
+  is_refused l FirstWord h = record { answered = is_no_image h; lent = refl }
+  is_refused l (Word i) h = record { answered = is_wrong i h; lent = refl }
+
+-- a wrong word, told with its place
+pub is_checked : (P : ℕ → ImageRefusal → Type 0) (r : Result ⊤ ℕ) (s : Result ⊤ ImageRefusal) (ws : List ℕ) → ((i : ℕ) (why : ImageRefusal) → P i why → why ≡ Word i)
+    → eqb first_word (get_or ws 0 0) ≡ true → found r ≡ image_bad ws → MatchResult r (λ u. s ≡ Ok u) (λ i. IsErrAnd s (P i)) → Checked s ws
+unfolding found
+is_checked P (Ok tt) s ws p f h m = subst (λ (q : Result ⊤ ImageRefusal). Checked q ws) (sym m) (f, sym h)
+is_checked P (Err i) (Ok u) ws p f h m = absurd m
+is_checked P (Err i) (Err why) ws p f h m = subst (λ (q : ImageRefusal). Checked (Err q) ws) (sym (p i why m)) (f, sym h)

@@ -29,7 +29,6 @@ use Rattle.image_form.specs.Form.{first_word, panel_code, panel_of, Answer, take
 use Rattle.image_form.specs.Placed.{groups_place, lists_place, events_place, image_bad}
 use Rattle.parking.specs.declared.check.ImageRefusal.{ImageRefusal}
 use Rattle.parking.specs.declared.check.ImageRefusal.TheVariants.{FirstWord, Word}
-use Rattle.parking.specs.declared.restore.Restored.{Restored}
 
 -- the refusal of the words
 abbrev pub Checked : Result ⊤ ImageRefusal → List ℕ → Type 0
@@ -69,19 +68,18 @@ pub record Taken (ws : List ℕ) (l : Lent) (p : Panel) (l' : Lent) : Type 0 whe
   pub answered : read_image ws ≡ taken (shown_by l' p)
   pub written : Written (shown_by l' p).place.pos_history (shown_by l' p).press.held.pointer_events l l'
 
--- refused: the panel and every lent place as before
-pub record Kept (a : Answer) (ws : List ℕ) (p : Panel) (l : Lent) (r : Panel) (l' : Lent) : Type 0 where
+-- refused: every lent place as before
+pub record Kept (a : Answer) (ws : List ℕ) (l l' : Lent) : Type 0 where
   pub answered : read_image ws ≡ a
-  pub panel : r ≡ p
   pub lent : l' ≡ l
 
-abbrev pub RestoredAs : List ℕ → Panel → Lent → Restored → Lent → Result ⊤ ImageRefusal → Type 0
-RestoredAs ws p l r l' (Ok tt) = Taken ws l r.panel l'
-RestoredAs ws p l r l' (Err FirstWord) = Kept no_image ws p l r.panel l'
-RestoredAs ws p l r l' (Err (Word i)) = Kept (wrong i) ws p l r.panel l'
+abbrev pub RestoredAs : List ℕ → Lent → Result Panel ImageRefusal → Lent → Type 0
+RestoredAs ws l (Ok p) l' = Taken ws l p l'
+RestoredAs ws l (Err FirstWord) l' = Kept no_image ws l l'
+RestoredAs ws l (Err (Word i)) l' = Kept (wrong i) ws l l'
 
 -- the row of what it answers
-abbrev pub restored_row : Result ⊤ ImageRefusal → Option Row
-restored_row (Ok tt) = None
+abbrev pub restored_row : Result Panel ImageRefusal → Option Row
+restored_row (Ok p) = None
 restored_row (Err FirstWord) = image_row no_image
 restored_row (Err (Word i)) = image_row (wrong i)

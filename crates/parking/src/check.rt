@@ -9,12 +9,12 @@ ghost use Rattle.image_devices.specs.Devices.{devices_code};
 ghost use Rattle.image_form.specs.Placed.{lists_place, events_place, end_bad, image_bad};
 ghost use Rattle.parking.specs.Restored.{Checked};
 
-use crate::park::{DEVICE_WORDS, EVENT_WORDS, FIRST_WORD, HISTORY, SAMPLE_WORDS};
+use crate::park::{FIRST_WORD, HISTORY};
 use data::limits::MAX_EVENTS;
-use image_devices::{devices_bad, devices_count};
-use image_events::{events_bad, events_count};
+use image_devices::{DEVICE_WORDS, devices_bad, devices_count};
+use image_events::{EVENT_WORDS, events_bad, events_count};
 use image_fixed::fixed_bad;
-use image_history::{history_bad, history_count};
+use image_history::{SAMPLE_WORDS, history_bad, history_count};
 use image_words::word_at;
 
 #[derive(Clone, Copy)]
@@ -78,9 +78,5 @@ pub fn check(words: &[u32]) -> Result<(), ImageRefusal>
     if FIRST_WORD != word_at(words, 0) {
         return Err(ImageRefusal::FirstWord);
     }
-    let bad = groups_bad(words);
-    match bad {
-        Ok(()) => Ok(()),
-        Err(i) => Err(ImageRefusal::Word(i)),
-    }
+    groups_bad(words).map_err(ImageRefusal::Word)
 }

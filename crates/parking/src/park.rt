@@ -11,9 +11,9 @@ ghost use Rattle.parking.specs.Parked.{lists_code, lists_el, words_of, FixedIn, 
 
 use emath_history::history::{MAX_LEN, PARTS};
 use image_devices::{devices_put, devices_words};
-use image_events::events_put;
+use image_events::{EVENT_WORDS, Entries, events_put};
 use image_fixed::{pointer_put, screen_put, sums_put, wheel_put};
-use image_history::history_put;
+use image_history::{Ring, SAMPLE_WORDS, history_put};
 use key_state::keys::PRESSES;
 use panel::state::Panel;
 use pointer_events::{CODES, PLACES, counted};
@@ -27,14 +27,8 @@ pub enum ParkRefusal {
 // 13 in the top bits, form 1 below
 pub const FIRST_WORD: u32 = 0xD000_0001;
 
-// The place of the history's leading word, and the words of a sample, an event and a device.
+// The place of the history's leading word.
 pub const HISTORY: usize = 243;
-
-pub const SAMPLE_WORDS: usize = 4;
-
-pub const EVENT_WORDS: usize = 6;
-
-pub const DEVICE_WORDS: usize = 86;
 
 // The words up to the history's entries: the first word, groups 1 to 9, a leading word; and the events' leading word.
 const LEAST_WORDS: usize = 245;
@@ -43,11 +37,9 @@ const LEAST_WORDS: usize = 245;
 fn words_of(panel: Panel) -> usize
     ensures { (result ≡ words_of panel) × ((l : Lent) → result ≡ length (image (shown_by l panel))) }
 {
-    let history = panel.input.pointer.place.history;
-    let devices = panel.devices;
-    let samples = history.len();
+    let samples = panel.input.pointer.place.history.len();
     let events = counted(panel.input.pointer.press.held.event_count);
-    LEAST_WORDS + samples * SAMPLE_WORDS + events * EVENT_WORDS + devices_words(devices)
+    LEAST_WORDS + samples * SAMPLE_WORDS + events * EVENT_WORDS + devices_words(panel.devices)
 }
 
 // Groups 1 to 9.
@@ -57,64 +49,51 @@ fn fixed_put(panel: Panel, presses: &[u8; PRESSES], out: &mut [u32])
         × FixedIn (shown_by (lent [] [] [] [] presses.now) panel) }
 {
     let input = panel.input;
-    let clock = input.clock;
-    let screen = input.screen;
     let pointer = input.pointer;
-    let place = pointer.place;
-    let press = pointer.press;
-    let moved = pointer.last_move_time;
-    let wheel = input.wheel;
-    let keys = input.keys;
-    let sums = input.sums;
-    let interaction = panel.interaction;
-    screen_put(clock, screen, out);
-    pointer_put(place, press, pointer.started_decidedly_dragging, moved, out);
-    wheel_put(wheel, keys, presses, out);
-    sums_put(sums, interaction, panel.tally, out);
+    let dragging = pointer.started_decidedly_dragging;
+    screen_put(input.clock, input.screen, out);
+    pointer_put(
+        pointer.place,
+        pointer.press,
+        dragging,
+        pointer.last_move_time,
+        out,
+    );
+    wheel_put(input.wheel, input.keys, presses, out);
+    sums_put(input.sums, panel.interaction, panel.tally, out);
 }
 
 // Groups 10 to 12.
-fn lists_put(
-    panel: Panel,
-    times: &[f64; MAX_LEN],
-    positions: &[f32; PARTS],
-    codes: &[u32; CODES],
-    places: &[f32; PLACES],
-    out: &mut [u32],
-)
+fn lists_put(panel: Panel, ring: Ring, stored: Entries, out: &mut [u32])
     requires { words_of panel ≤ length out.old }
-    ensures { Puts lists_place (write lists_code (lists_el (shown_by (lent times.now positions.now codes.now places.now []) panel))) out.old out.new
-        × ListsIn (shown_by (lent times.now positions.now codes.now places.now []) panel) }
+    ensures { Puts lists_place (write lists_code (lists_el (shown_by (lent ring.entry.times.now ring.entry.positions.now stored.entry.codes.now stored.entry.positions.now []) panel))) out.old out.new
+        × ListsIn (shown_by (lent ring.entry.times.now ring.entry.positions.now stored.entry.codes.now stored.entry.positions.now []) panel) }
 {
     let history = panel.input.pointer.place.history;
     let count = panel.input.pointer.press.held.event_count;
-    let devices = panel.devices;
     let events = HISTORY + 1 + history.len() * SAMPLE_WORDS;
-    history_put(history, times, positions, out, HISTORY);
-    events_put(codes, places, count, out, events);
-    devices_put(devices, out, events + 1 + counted(count) * EVENT_WORDS);
+    history_put(history, ring, out, HISTORY);
+    events_put(stored, count, out, events);
+    devices_put(
+        panel.devices,
+        out,
+        events + 1 + counted(count) * EVENT_WORDS,
+    );
 }
 
 // The panel's image, in a buffer that is long enough.
-fn image_put(
-    panel: Panel,
-    times: &[f64; MAX_LEN],
-    positions: &[f32; PARTS],
-    codes: &[u32; CODES],
-    places: &[f32; PLACES],
-    presses: &[u8; PRESSES],
-    out: &mut [u32],
-)
+fn image_put(panel: Panel, ring: Ring, stored: Entries, presses: &[u8; PRESSES], out: &mut [u32])
     requires { words_of panel ≤ length out.old }
-    ensures { Puts 0 (image (shown_by (lent times.now positions.now codes.now places.now presses.now) panel)) out.old out.new
-        × PanelIn (shown_by (lent times.now positions.now codes.now places.now presses.now) panel) }
+    ensures { Puts 0 (image (shown_by (lent ring.entry.times.now ring.entry.positions.now stored.entry.codes.now stored.entry.positions.now presses.now) panel)) out.old out.new
+        × PanelIn (shown_by (lent ring.entry.times.now ring.entry.positions.now stored.entry.codes.now stored.entry.positions.now presses.now) panel) }
 {
     out[0] = FIRST_WORD;
     fixed_put(panel, presses, out);
-    lists_put(panel, times, positions, codes, places, out);
+    lists_put(panel, ring, stored, out);
 }
 
 // The whole state, as words from place 0 on. Refused, with the buffer as before, where it is shorter than this state's image.
+// Kept (plain): one by one, as `restore` takes the same arrays, which it writes.
 pub fn park(
     panel: Panel,
     times: &[f64; MAX_LEN],
@@ -132,6 +111,11 @@ pub fn park(
     if out.len() < n {
         return Err(ParkRefusal::ShortBuffer);
     }
-    image_put(panel, times, positions, codes, places, presses, out);
+    let ring = Ring { times, positions };
+    let stored = Entries {
+        codes,
+        positions: places,
+    };
+    image_put(panel, ring, stored, presses, out);
     Ok(n)
 }

@@ -26,14 +26,7 @@ use key_state::keys::PRESSES;
 use panel::state::Panel;
 use pointer_events::{CODES, PLACES};
 
-// Both, and no Result of a panel: refused, the panel that was given is handed back, and the clause tells that it is that one.
-#[derive(Clone, Copy)]
-pub struct Restored {
-    pub refusal: Result<(), ImageRefusal>,
-    // refused, the panel that was given
-    pub panel: Panel,
-}
-
+// Kept (plain): lent one by one: of a struct that holds a `&mut` each clause would have to say what stands behind it afterwards.
 fn pointer_at(
     times: &mut [f64; MAX_LEN],
     positions: &mut [f32; PARTS],
@@ -59,6 +52,7 @@ fn pointer_at(
     }
 }
 
+// Kept (plain): lent one by one: of a struct that holds a `&mut` each clause would have to say what stands behind it afterwards.
 fn input_at(
     times: &mut [f64; MAX_LEN],
     positions: &mut [f32; PARTS],
@@ -88,6 +82,7 @@ fn input_at(
     }
 }
 
+// Kept (plain): lent one by one: of a struct that holds a `&mut` each clause would have to say what stands behind it afterwards.
 fn panel_at(
     times: &mut [f64; MAX_LEN],
     positions: &mut [f32; PARTS],
@@ -112,36 +107,20 @@ fn panel_at(
     }
 }
 
-// The state that an image holds. All words are checked first: refused, the panel and every lent place are as before.
+// The state that an image holds. All words are checked first: refused, every lent place is as before.
+// Kept (plain): lent one by one: of a struct that holds a `&mut` each clause would have to say what stands behind it afterwards.
 pub fn restore(
-    panel: Panel,
     times: &mut [f64; MAX_LEN],
     positions: &mut [f32; PARTS],
     codes: &mut [u32; CODES],
     places: &mut [f32; PLACES],
     presses: &mut [u8; PRESSES],
     words: &[u32],
-) -> Restored
-    ensures { RestoredAs words.now panel
+) -> Result<Panel, ImageRefusal>
+    ensures { RestoredAs words.now
         (lent times.old positions.old codes.old places.old presses.old) result
-        (lent times.new positions.new codes.new places.new presses.new) result.refusal }
+        (lent times.new positions.new codes.new places.new presses.new) }
 {
-    let refusal = check(words);
-    match refusal {
-        Ok(()) => {
-            let read = panel_at(times, positions, codes, places, presses, words);
-            Restored {
-                refusal: Ok(()),
-                panel: read,
-            }
-        }
-        Err(ImageRefusal::FirstWord) => Restored {
-            refusal: Err(ImageRefusal::FirstWord),
-            panel: panel,
-        },
-        Err(ImageRefusal::Word(i)) => Restored {
-            refusal: Err(ImageRefusal::Word(i)),
-            panel: panel,
-        },
-    }
+    check(words)?;
+    Ok(panel_at(times, positions, codes, places, presses, words))
 }

@@ -1,5 +1,6 @@
+use borrow.Author.Rules.{of_calls}
 use Rattle.data.specs.Limits.{unit_interval_ok}
 use Rattle.image_clock.proofs.predicted_bad.Goals as goal
 
 pub returns : goal.returns
-returns c = c.single_in_bad.ensures unit_interval_ok (rw (c.unit_interval_ok-ok.ensures, c.single_at.ensures))
+returns c = c.single_in_bad.ensures unit_interval_ok (λ x r p. search of_calls)

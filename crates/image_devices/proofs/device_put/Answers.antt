@@ -1,21 +1,6 @@
-use native.Mathlib.Omega.{arith}
-use lib.ListN.{length-set}
-use lib.Seq.{length-sets}
 use Rattle.touch_device.specs.View.{device_view}
 use Rattle.image_devices.proofs.Rows.{entry_length, put_device}
 use Rattle.image_devices.proofs.device_put.Goals as goal
-
-pub bounds-out-at-2 : goal.bounds-out-at-2
-bounds-out-at-2 c = rw length-set (omega arith)
-
-pub touches_put-requires : goal.touches_put-requires
-touches_put-requires c = rw (length-set, length-set) (omega arith)
-
-pub gesture_put-requires : goal.gesture_put-requires
-gesture_put-requires c = rw (c.touches_put.ensures.0, length-sets, length-set, length-set) (omega arith)
-
-pub shape_of-out : goal.shape_of-out
-shape_of-out c = rw (c.gesture_put.ensures.0, length-sets, c.touches_put.ensures.0, length-sets, length-set, length-set)
 
 pub returns : goal.returns
 returns c =

@@ -18,7 +18,7 @@ loop-i-init c =
 pub device_at-d-requires : goal.device_at-d-requires
 device_at-d-requires c =
     let l = c.loop-i in
-    (omega arith, sound_touches c.args.words.now c.args.at _ l.i c.requires.1 c.table_count-n.ensures.1 c.loop-i-test.true)
+    (omega arith, sound_touches c.args.words.now c.args.at _ l.i c.requires.1 c.count-n.ensures.1 c.loop-i-test.true)
 
 pub loop-i-preserved : goal.loop-i-preserved
 loop-i-preserved c =
@@ -30,7 +30,7 @@ pub returns : goal.returns
 unfolding bad_at value_at size
 returns c =
     let l = c.loop-i in
-    let k = c.table_count-n.ensures in
-    let e : l.i ≡ c.table_count-n.result = omega arith in
+    let k = c.count-n.ensures in
+    let e : l.i ≡ c.count-n.result = omega arith in
     let n = k.1 (or_else_none _ _ c.requires.1).0 in
     (rw e at l.invariant.2) ∙ rw (n, add-one)

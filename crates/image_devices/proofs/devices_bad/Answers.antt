@@ -1,3 +1,6 @@
+use borrow.Author.Rules.{of_calls}
+use Rattle.data.specs.Limits.{max_touches}
+use Rattle.image_devices.specs.Devices.{device_code}
 use Rattle.image_words.specs.Leaves.{found}
 use Rattle.image.specs.Places.{bad_at, or_else}
 use Rattle.image.specs.Codes.{size}
@@ -7,4 +10,4 @@ use Rattle.image_devices.proofs.devices_bad.Goals as goal
 
 pub returns : goal.returns
 unfolding bad_at size or_else found
-returns c = let t = sym c.table_bad.ensures ∙ ap found c.in_ok-table_bad.was in rw (c.rows_bad.ensures, t, c.table_count-n.ensures.1 t, add-one)
+returns c = let t = sym c.bad.ensures ∙ ap found c.in_ok-bad.was in rw (c.keys_bad.ensures (bad_at (device_code max_touches)) (λ i before r p. search of_calls), t, c.count-n.ensures.1 t, add-one)

@@ -7,9 +7,9 @@ use Rattle.image_devices.proofs.devices_count.Goals as goal
 pub returns : goal.returns
 unfolding bad_at span size
 returns c = (
-  c.table_count.ensures.0,
+  c.count.ensures.0,
   λ e.
       let h = (or_else_none _ _ e).0 in
-      let n = c.table_count.ensures.1 h in
+      let n = c.count.ensures.1 h in
       omega (arith, n),
 )

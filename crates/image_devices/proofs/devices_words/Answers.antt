@@ -1,13 +1,7 @@
 use native.Mathlib.Omega.{arith}
 use Rattle.touches.proofs.Places.{first_of}
-use Rattle.image_devices.proofs.Rows.{count_le, group_length}
+use Rattle.image_devices.proofs.Rows.{group_length}
 use Rattle.image_devices.proofs.devices_words.Goals as goal
-
-pub rows_words-requires : goal.rows_words-requires
-rows_words-requires c = count_le _ c.args.ds.count c.args.ds.places (c.well_formed.0.1.1.1.0.1.0.1) c.len-n.ensures
-
-pub overflow_add-result : goal.overflow_add-result
-overflow_add-result c = let n = count_le _ c.args.ds.count c.args.ds.places (c.well_formed.0.1.1.1.0.1.0.1) c.len-n.ensures in omega (arith, n, c.rows_words.ensures.0)
 
 pub returns : goal.returns
 returns c =

@@ -1,8 +1,7 @@
-use Prim.Native.Nat.{ℕ}
-use mathlib.Core.Path.{◌≡◌, sym, ap, ◌∙◌}
+use mathlib.Core.Path.{◌≡◌, sym, ◌∙◌}
 use native.Mathlib.Omega.{arith}
 use lib.ListN.{length}
-use Rattle.image_devices.proofs.Rows.{written, none_length, more_length}
+use Rattle.image_devices.proofs.Rows.{none_length, more_length}
 use borrow.Author.Rules.{rules}
 use Rattle.image_devices.proofs.rows_words.Goals as goal
 
@@ -16,9 +15,3 @@ loop-i-preserved c =
     let a = c.args in
     let t : length a.places ≡ 4 = search rules in
     (omega arith, omega (arith, w.0), more_length a.places l.i _ (omega arith) l.invariant.2 (sym w.1 ∙ w.0))
-
-pub returns : goal.returns
-returns c =
-    let l = c.loop-i in
-    let e : l.i ≡ c.args.n = omega arith in
-    (omega (arith, l.invariant.1, e), l.invariant.1 ∙ sym l.invariant.2 ∙ ap (λ (k : ℕ). length (written c.args.places k)) e)

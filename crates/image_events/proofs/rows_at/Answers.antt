@@ -16,10 +16,3 @@ loop-i-preserved c =
     let es = events_of_el (rows_at 6 (value_at event_code) l.i a.words.now a.at) in
     let k : length es ≡ l.i = rows_count a.words.now l.i a.at in
     (omega arith, rw (rows_more a.words.now l.i a.at, ← c.event_at-e.ensures) (store_more es a.codes.now a.positions.now l.invariant.1 c.push-count.ensures (omega arith)))
-
-pub returns : goal.returns
-returns c =
-    let l = c.loop-i in
-    let a = c.args in
-    let e : l.i ≡ a.n = omega arith in
-    rw e at l.invariant.1

@@ -5,4 +5,4 @@ use mathlib.Core.Path.{◌≡◌}
 use Rattle.image_events.proofs.rows_put.Given as goal
 
 abbrev pub invariant-loop-i : goal.invariant-loop-i
-invariant-loop-i l = (l.i ≤ l.n) × (l.out ≡ sets l.initial.out l.at (written l.codes l.positions l.i)) × EachIn l.codes l.positions l.i
+invariant-loop-i l = (l.i ≤ l.n) × (l.out ≡ sets l.initial.out l.at (written l.from.codes.now l.from.positions.now l.i)) × EachIn l.from.codes.now l.from.positions.now l.i

@@ -8,4 +8,4 @@ use mathlib.Core.Path.{◌≡◌}
 use Rattle.image_history.proofs.samples_put.Given as goal
 
 abbrev pub invariant-loop-i : goal.invariant-loop-i
-invariant-loop-i l = (l.i ≤ l.n) × (l.out ≡ sets l.initial.out l.at (written l.times l.positions l.start l.i)) × Each (In sample_code) (history_el (samples l.times l.positions l.start l.i))
+invariant-loop-i l = (l.i ≤ l.n) × (l.out ≡ sets l.initial.out l.at (written l.ring.times.now l.ring.positions.now l.start l.i)) × Each (In sample_code) (history_el (samples l.ring.times.now l.ring.positions.now l.start l.i))

@@ -1,5 +1,6 @@
+use borrow.Author.Rules.{of_calls}
 use Rattle.data.specs.Limits.{scale_ok}
 use Rattle.image_screen.proofs.scale_bad.Goals as goal
 
 pub returns : goal.returns
-returns c = c.single_in_bad.ensures scale_ok (rw (c.scale_ok.ensures, c.single_at.ensures))
+returns c = c.single_in_bad.ensures scale_ok (λ x r p. search of_calls)

@@ -1,15 +1,15 @@
+use borrow.Author.Tests.{ne_eqb}
 use Rattle.image_wheel.specs.Wheel.{status_of}
-use borrow.Author.Tests.{eq-eqb, ne_eqb}
 use Rattle.image_wheel.proofs.status_of.Goals as goal
 
-pub returns-then-n-eq0 : goal.returns-then-n-eq0
+pub returns-in-0 : goal.returns-in-0
 unfolding status_of
-returns-then-n-eq0 c = rw (eq-eqb _ _ c.if-n-eq0.true)
+returns-in-0 c = rw c.in-0.is
 
-pub returns-then-n-eq1 : goal.returns-then-n-eq1
+pub returns-in-1 : goal.returns-in-1
 unfolding status_of
-returns-then-n-eq1 c = rw (ne_eqb _ _ c.if-n-eq0.false, eq-eqb _ _ c.if-n-eq1.true)
+returns-in-1 c = rw c.in-1.is
 
-pub returns : goal.returns
+pub returns-in_default : goal.returns-in_default
 unfolding status_of
-returns c = rw (ne_eqb _ _ c.if-n-eq0.false, ne_eqb _ _ c.if-n-eq1.false)
+returns-in_default c = rw (ne_eqb _ _ c.in_default.in_default-own.rest.0.1, ne_eqb _ _ c.in_default.in_default-own.rest.1)

@@ -1,5 +1,6 @@
+use borrow.Author.Rules.{of_calls}
 use lib.Dec.{eqb}
 use Rattle.image_words.proofs.header_bad.Goals as goal
 
 pub returns : goal.returns
-returns c = c.one.ensures (eqb _) (rw c.word_at.ensures)
+returns c = c.one.ensures (eqb _) (λ w r p. search of_calls)

@@ -1,6 +1,6 @@
+use borrow.Author.Rules.{of_calls}
 use Rattle.image_words.specs.Leaves.{any_id}
-use mathlib.Core.Path.{refl}
 use Rattle.image_words.proofs.id_bad.Goals as goal
 
 pub returns : goal.returns
-returns c = c.two.ensures any_id refl
+returns c = c.two.ensures any_id (λ w r p. search of_calls)

@@ -3,14 +3,14 @@ use Rattle.image_words.proofs.Laws.{one_good, one_wrong, one_missing}
 use mathlib.Core.Path.{sym, ◌∙◌}
 use Rattle.image_words.proofs.one.Goals as goal
 
-pub returns-then-ok : goal.returns-then-ok
+pub returns-then-test : goal.returns-then-test
 unfolding found
-returns-then-ok c = λ p e. one_good p _ _ c.if-at-words.true (sym c.if-ok.true ∙ e)
+returns-then-test g c = λ p law. one_good p _ _ c.if-at-words.true (sym c.if-test.true ∙ law _ _ c.test.ensures)
 
-pub returns-else-ok : goal.returns-else-ok
+pub returns-else-test : goal.returns-else-test
 unfolding found
-returns-else-ok c = λ p e. one_wrong p _ _ (sym c.if-ok.false ∙ e)
+returns-else-test g c = λ p law. one_wrong p _ _ (sym c.if-test.false ∙ law _ _ c.test.ensures)
 
 pub returns-else-at-words : goal.returns-else-at-words
 unfolding found
-returns-else-at-words c = λ p e. one_missing p _ _ c.if-at-words.false
+returns-else-at-words g c = λ p law. one_missing p _ _ c.if-at-words.false

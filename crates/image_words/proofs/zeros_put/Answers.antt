@@ -1,8 +1,14 @@
-use Rattle.image.proofs.Lists.{put_zero, put_no_zero}
+use Rattle.image.specs.Codes.{zeros}
+use Rattle.image.proofs.Lists.{zeros_length}
+use Rattle.image_words.proofs.Laws.{filled, put_part}
+use mathlib.Core.Path.{◌≡◌, ◌∙◌}
+use native.Mathlib.Omega.{arith}
+use borrow.Author.Rules.{rules}
 use Rattle.image_words.proofs.zeros_put.Goals as goal
 
-pub loop-i-init : goal.loop-i-init
-loop-i-init c = put_no_zero _ _
-
-pub loop-i-preserved : goal.loop-i-preserved
-loop-i-preserved c = rw c.loop-i.invariant (put_zero _ _ _)
+pub returns : goal.returns
+returns c =
+    let n = c.args.n in
+    let l = zeros_length n in
+    let z : c.fill.new.self ≡ zeros n = c.fill.ensures.after (λ y h. h) ∙ filled n _ (search rules) in
+    put_part _ _ _ (zeros n) _ z (omega (arith, l)) (omega (arith, l, c.requires))

@@ -30,8 +30,8 @@ loop-i-preserved c =
     let ws = a.words.now in
     let i = l.i in
     let small : i < key_count = omega (arith, c.requires.0, l.invariant.1) in
-    let w = c.byte.ensures ∙ ap (λ (z : ℕ). z % 256) c.word_at.ensures ∙ byte_of ws key_count a.at c.requires.2 i small in
-    (simp length-set (omega arith), simp length-set l.invariant.1, read_more l.presses ws a.at i c.byte.result h w l.invariant.2)
+    let w = ap (λ (z : ℕ). z % 256) c.word_at.ensures ∙ byte_of ws key_count a.at c.requires.2 i small in
+    (simp length-set (omega arith), simp length-set l.invariant.1, read_more l.presses ws a.at i (c.word_at.result % 256) h w l.invariant.2)
 
 pub shape_of-presses : goal.shape_of-presses
 shape_of-presses c = c.loop-i.invariant.1

@@ -3,7 +3,8 @@ use Rattle.image_keys.proofs.Rows.{each_take}
 use Rattle.image_keys.specs.Keys.{press_code}
 use Rattle.image.specs.Codes.{In, Each}
 use lib.Seq.{sets, length-sets, take_all}
-use lib.ListN.{take}
+use lib.ListN.{take, get_or}
+use Prim.Native.Nat.{◌≤◌}
 use mathlib.Core.Path.{◌≡◌, refl, ap, subst, ◌∙◌}
 use native.Mathlib.Omega.{arith}
 use Rattle.image_keys.proofs.presses.presses_put.Goals as goal
@@ -30,8 +31,9 @@ pub loop-i-preserved : goal.loop-i-preserved
 loop-i-preserved c =
     let l = c.loop-i in
     let h = c.loop-i-test.true in
-    let w = c.wide.ensures in
-    (omega arith, rw (w.0, l.invariant.1) (sets_more _ _ _ _ 0 h), each_take _ l.i c.wide.result h w.0 w.1 l.invariant.2)
+    let p = c.args.presses.now in
+    let w : get_or p l.i 0 ≤ 255 = omega (arith, c.type_inv.presses l.i) in
+    (omega arith, rw l.invariant.1 (sets_more _ _ _ _ 0 h), each_take _ l.i (get_or p l.i 0) h refl w l.invariant.2)
 
 pub shape_of-out : goal.shape_of-out
 shape_of-out c = rw (c.loop-i.invariant.1, length-sets)

@@ -46,16 +46,16 @@ unfolding write
 returns c =
     let a = c.args in
     let h = a.panel.input.pointer.place.history in
-    let n = c.len.ensures a.times.now a.positions.now in
-    let es = events a.codes.now a.places.now a.panel.input.pointer.press.held.event_count in
+    let n = c.len.ensures a.ring.times.now a.ring.positions.now in
+    let es = events a.stored.codes.now a.stored.positions.now a.panel.input.pointer.press.held.event_count in
     let v = c.counted.ensures in
     let x = c.history_put.ensures in
     let y = c.events_put.ensures in
     let z = c.devices_put.ensures in
-    let j = history_length (view a.times.now a.positions.now h) in
+    let j = history_length (view a.ring.times.now a.ring.positions.now h) in
     let k = events_length max_events es in
-    let w : length es ≡ c.counted.result = events_count a.codes.now a.places.now a.panel.input.pointer.press.held.event_count ∙ sym v in (
-      three_lists a.out.now _ _ _ (write history_code (history_el (view a.times.now a.positions.now h))) (write (events_code max_events) (events_el es)) (write (devices_code max_devices max_touches) (devices_el (devices.view a.panel.devices))) _ _ x.0 y.0 z.0
+    let w : length es ≡ c.counted.result = events_count a.stored.codes.now a.stored.positions.now a.panel.input.pointer.press.held.event_count ∙ sym v in (
+      three_lists a.out.now _ _ _ (write history_code (history_el (view a.ring.times.now a.ring.positions.now h))) (write (events_code max_events) (events_el es)) (write (devices_code max_devices max_touches) (devices_el (devices.view a.panel.devices))) _ _ x.0 y.0 z.0
           (omega (arith, n, j)) (omega (arith, w, k)),
       λ o. (x.1, (y.1, in_order_devices (devices.view a.panel.devices) o z.1)),
     )

@@ -1,5 +1,4 @@
-use native.Mathlib.Omega.{arith}
-use mathlib.Core.Path.{◌≡◌, refl, ap, ◌∙◌}
+use mathlib.Core.Path.{◌≡◌, ap, ◌∙◌}
 use lib.ListN.{length}
 use Rattle.input_state.specs.View.{lent}
 use Rattle.panel.specs.View.{shown_by}
@@ -7,15 +6,6 @@ use Rattle.image_form.specs.Form.{image, read_image}
 use Rattle.image_form.proofs.Whole.{image_reads_back}
 use Rattle.parking.proofs.Writes.{no_key_beyond, front, behind}
 use Rattle.parking.proofs.park.park.Goals as goal
-
-pub returns-then-out-n : goal.returns-then-out-n
-returns-then-out-n c =
-    let a = c.args in
-    let n = c.words_of-n.ensures.1 (lent a.times.now a.positions.now a.codes.now a.places.now a.presses.now) in
-    (omega (arith, n, c.if-out-n.true), refl)
-
-pub image_put-requires : goal.image_put-requires
-image_put-requires c = let w = c.words_of-n.ensures.0 in omega (arith, w, c.if-out-n.false)
 
 pub returns : goal.returns
 returns c =

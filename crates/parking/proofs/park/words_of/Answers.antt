@@ -14,9 +14,6 @@ overflow_mul-result c = let e = is_count _ c.args.panel.input.pointer.place.hist
 pub overflow_add-result : goal.overflow_add-result
 overflow_add-result c = let e = is_count _ c.args.panel.input.pointer.place.history [] [] (c.len-samples.ensures [] []) in omega arith
 
-pub overflow_mul-result-2 : goal.overflow_mul-result-2
-overflow_mul-result-2 c = let v = c.counted-events.ensures in omega arith
-
 pub overflow_add-result-2 : goal.overflow_add-result-2
 overflow_add-result-2 c = let e = is_count _ c.args.panel.input.pointer.place.history [] [] (c.len-samples.ensures [] []) in let v = c.counted-events.ensures in omega arith
 

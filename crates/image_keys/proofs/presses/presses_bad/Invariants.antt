@@ -1,8 +1,0 @@
-use Rattle.image_keys.specs.Keys.{press_code}
-use Rattle.image.specs.Places.{bad_at, rows_bad}
-use mathlib.Core.Path.{◌≡◌}
-use Prim.Native.Nat.{◌+◌, ◌*◌, ◌-◌}
-use Rattle.image_keys.proofs.presses.presses_bad.Given as goal
-
-abbrev pub invariant-loop-i : goal.invariant-loop-i
-invariant-loop-i l = rows_bad 1 (bad_at press_code) l.n l.words l.at ≡ rows_bad 1 (bad_at press_code) (l.n - l.i) l.words (l.at + l.i * 1)
