@@ -110,7 +110,7 @@ typedef struct {
     size_t contains_pointer;
 } FivvarulSnapshot;
 
-/* A tracking id, the kernel's -1 for no finger, and the last position. `repr(C)` here and below, and no Option: a host keeps the slots from call to call, and C reads them. */
+/* A tracking id, the kernel's -1 for no finger, and the last position. Kept (C): `repr(C)` here and below, and no Option: a host keeps the slots from call to call, and C reads them. */
 typedef struct {
     int32_t id;
     int32_t x;
@@ -313,7 +313,7 @@ FivvarulSnapshot fivvarul_interact(const double seconds[FIVVARUL_SECONDS], const
 FivvarulRefusal fivvarul_pass(double seconds[FIVVARUL_SECONDS], float floats[FIVVARUL_FLOATS], size_t counts[FIVVARUL_COUNTS], bool flags[FIVVARUL_FLAGS], uint64_t keys_down[FIVVARUL_KEYS], uint64_t ids0[FIVVARUL_IDS], float floats0[FIVVARUL_DEVICE_FLOATS], bool flags0[FIVVARUL_DEVICE_FLAGS], uint64_t ids1[FIVVARUL_IDS], float floats1[FIVVARUL_DEVICE_FLOATS], bool flags1[FIVVARUL_DEVICE_FLAGS], uint64_t ids2[FIVVARUL_IDS], float floats2[FIVVARUL_DEVICE_FLOATS], bool flags2[FIVVARUL_DEVICE_FLAGS], uint64_t ids3[FIVVARUL_IDS], float floats3[FIVVARUL_DEVICE_FLOATS], bool flags3[FIVVARUL_DEVICE_FLAGS], double starts[FIVVARUL_MAX_DEVICES], double times[FIVVARUL_MAX_LEN], float positions[FIVVARUL_PARTS], uint32_t codes[FIVVARUL_CODES], float places[FIVVARUL_PLACES], uint8_t presses[FIVVARUL_PRESSES], FivvarulPass given, const uint32_t *feed, size_t feed_len);
 FivvarulFactor fivvarul_zoom_factor(float exponent);
 FivvarulKernelTouches fivvarul_kernel_fresh(void);
-FivvarulKernelRead fivvarul_read_records(FivvarulKernelTouches kernel, uint64_t device, const uint8_t *bytes, size_t bytes_len, uint32_t *feed, size_t feed_len);
+FivvarulKernelRead fivvarul_read_records(FivvarulKernelTouches mut kernel, uint64_t device, const uint8_t *bytes, size_t bytes_len, uint32_t *feed, size_t feed_len);
 FivvarulPosition fivvarul_press_origin(const double seconds[FIVVARUL_SECONDS], const float floats[FIVVARUL_FLOATS], const size_t counts[FIVVARUL_COUNTS], const bool flags[FIVVARUL_FLAGS]);
 FivvarulSeconds fivvarul_press_start_time(const double seconds[FIVVARUL_SECONDS], const float floats[FIVVARUL_FLOATS], const size_t counts[FIVVARUL_COUNTS], const bool flags[FIVVARUL_FLAGS]);
 bool fivvarul_any_down(const double seconds[FIVVARUL_SECONDS], const float floats[FIVVARUL_FLOATS], const size_t counts[FIVVARUL_COUNTS], const bool flags[FIVVARUL_FLAGS]);

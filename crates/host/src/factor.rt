@@ -1,4 +1,5 @@
 // The factor of a zoom exponent (02 A.5).
+// Kept (C): C reads the number of a refusal beside the factor.
 ghost use Rattle.host.specs.Factor.{Factors};
 
 use zoom_factor::zoom_factor;
@@ -16,8 +17,7 @@ pub struct HostFactor {
 pub extern "C" fn fivvarul_zoom_factor(exponent: f32) -> HostFactor
     ensures { Factors exponent result }
 {
-    let answer = zoom_factor(exponent);
-    match answer {
+    match zoom_factor(exponent) {
         Ok(factor) => HostFactor { factor, number: 0 },
         Err(q) => HostFactor {
             factor: 0.0,

@@ -1,4 +1,5 @@
 // A fresh panel.
+// Kept (C): a parameter for each array that C lends.
 ghost use Rattle.std.specs.Prelude.{get_or};
 ghost use Rattle.interaction_state.specs.View.{interaction_of};
 ghost use Rattle.host_interact.specs.Held.{interaction_at};
@@ -26,13 +27,12 @@ pub extern "C" fn fivvarul_fresh(
 {
     let p = panel::state::fresh(presses);
     let state = p.input;
-    let interaction = p.interaction;
     *seconds = host_input::kept::seconds(state);
     *floats = host_input::kept::floats(state);
     *counts = host_input::kept::counts(state, 0);
     *flags = host_input::kept::flags(state);
     *keys_down = host_input::kept::keys_down(state);
-    *held_ids = host_interact::ids(interaction);
-    *held_flags = host_interact::flags(interaction);
+    *held_ids = host_interact::ids(p.interaction);
+    *held_flags = host_interact::flags(p.interaction);
     *tally = [p.tally];
 }

@@ -1,4 +1,5 @@
 // An insertion.
+// Kept (C): a parameter for each of the set's arrays, as C lends them.
 ghost use Rattle.host_widgets.specs.Insert.{Inserts};
 
 use data::widget::WidgetRect;

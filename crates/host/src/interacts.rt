@@ -1,4 +1,5 @@
 // An interact.
+// Kept (C): a parameter for each array, number and flag that C lends, so the signature alone is long; the body reads them and makes one call.
 ghost use Rattle.std.specs.Prelude.{get_or};
 ghost use Rattle.host_touch.specs.All.{known_of};
 ghost use Rattle.host_input.specs.Places as at;
@@ -8,7 +9,7 @@ ghost use Rattle.host_interact.specs.Interact.{Interacts, set_of, holding};
 
 use data::limits::MAX_DEVICES;
 use host_input::places::{COUNTS, DEVICES, FLAGS, FLOATS, SECONDS};
-use host_interact::{HELD, HostSnapshot, answered, hit, refused};
+use host_interact::{HELD, HostSnapshot, hit};
 use host_touch::{FLAGS as DEVICE_FLAGS, FLOATS as DEVICE_FLOATS, IDS};
 use key_state::keys::PRESSES;
 use pointer_events::CODES;
@@ -90,7 +91,7 @@ pub extern "C" fn fivvarul_interact(
     let set = WidgetRects { widgets, layers };
     let click = hit(click_given, click_id, click_sense);
     let drag = hit(drag_given, drag_id, drag_sense);
-    let a = panel::interact::interact(
+    match panel::interact::interact(
         clock,
         screen,
         pointer,
@@ -108,16 +109,13 @@ pub extern "C" fn fivvarul_interact(
         drag,
         top,
         all,
-    );
-    match a {
-        Err(q) => refused(q),
+    ) {
+        Err(q) => q.into(),
         Ok(answer) => {
-            let after = answer.interaction;
-            let snapshot = answer.snapshot;
-            *held_ids = host_interact::ids(after);
-            *held_flags = host_interact::flags(after);
+            *held_ids = host_interact::ids(answer.interaction);
+            *held_flags = host_interact::flags(answer.interaction);
             *tally = [answer.tally];
-            answered(snapshot)
+            answer.snapshot.into()
         }
     }
 }

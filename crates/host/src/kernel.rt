@@ -18,13 +18,13 @@ pub extern "C" fn fivvarul_kernel_fresh() -> KernelTouches
 // The bytes of a call become events of `device` in the feed buffer. Refused, every place of the buffer is as before.
 #[unsafe(no_mangle)]
 pub extern "C" fn fivvarul_read_records(
-    kernel: KernelTouches,
+    mut kernel: KernelTouches,
     device: u64,
     bytes: &[u8],
     feed: &mut [u32],
 ) -> HostKernelRead
     ensures { HostReads kernel device bytes.now feed.old result feed.new }
 {
-    let read = read_records(kernel, device, bytes, feed);
-    crossing(read)
+    let answer = read_records(&mut kernel, device, bytes, feed);
+    crossing(kernel, answer)
 }

@@ -1,9 +1,9 @@
 // A pass.
+// Kept (C): a parameter for each array that C lends, so the signature alone is long; the body reads them, makes one call and writes them.
 ghost use Rattle.input_state.specs.View.{lent};
 ghost use Rattle.host_pass.specs.Memory.{memory, Passes};
 
 use data::limits::MAX_DEVICES;
-use data::refusal::PassRefusal;
 use emath_history::history::{MAX_LEN, PARTS};
 use host_input::places::{COUNTS, DEVICES, FLAGS, FLOATS, KEYS, SECONDS};
 use host_pass::{HostPass, HostRefusal, pass_input, refused, taken};
@@ -66,13 +66,11 @@ pub extern "C" fn fivvarul_pass(
         starts,
     );
     let i = pass_input(given);
-    let begun = panel::pass::pass(
+    match panel::pass::pass(
         input, devices, times, positions, codes, places, presses, i, feed,
-    );
-    let refusal = begun.refusal;
-    match refusal {
+    ) {
         Err(q) => refused(q),
-        Ok(()) => {
+        Ok(begun) => {
             let state = begun.state;
             let after = begun.devices;
             let n = host_touch::all::keep_all(

@@ -1,9 +1,9 @@
 -- What an answer says that crossed to the host as a record of plain numbers. A number past an enum's last case is that case.
-use Rattle.std.specs.Prelude.{cond, Option, None, Some, Float, ℕ}
+use Rattle.std.specs.Prelude.{cond, Option, Float, ℕ}
+use Rattle.std.specs.Bool.{then_some}
 use Rattle.model.specs.Types.{Vec2, Pos2, MouseWheelSource}
 use Rattle.model.specs.Types.{Rotation, Radians, Headings, MultiTouchInfo}
 use Rattle.feed.specs.Shape as Feed
-use Rattle.host_values.specs.Values.{pos_of, vec_of, time_of}
 use Rattle.pointer_events.specs.Events as Events
 use Rattle.data.specs.declared.pointer.PointerEvent.{PointerEvent}
 use Rattle.scroll_questions.specs.declared.zoom.Zoom.{Zoom}
@@ -30,22 +30,22 @@ abbrev pub vector_of : HostVector → Vec2
 vector_of r = record { x = r.x; y = r.y }
 
 abbrev pub maybe_vector_of : HostMaybeVector → Option Vec2
-maybe_vector_of r = vec_of r.given r.x r.y
+maybe_vector_of r = then_some r.given (record { x = r.x; y = r.y })
 
 abbrev pub position_of : HostPosition → Option Pos2
-position_of r = pos_of r.given r.x r.y
+position_of r = then_some r.given (record { x = r.x; y = r.y })
 
 abbrev pub seconds_of : HostSeconds → Option Float
-seconds_of r = time_of r.given r.value
+seconds_of r = then_some r.given r.value
 
 abbrev pub number_of : HostNumber → Option Float
-number_of r = cond r.given (Some r.value) None
+number_of r = then_some r.given r.value
 
 abbrev pub id_of : HostId → Option ℕ
-id_of r = cond r.given (Some r.id) None
+id_of r = then_some r.given r.id
 
 abbrev pub source_of : HostSource → Option MouseWheelSource
-source_of r = cond r.given (Some (Feed.source_of r.number)) None
+source_of r = then_some r.given (Feed.source_of r.number)
 
 abbrev pub zoom_of : HostZoom → Zoom
 zoom_of r = record { factor = r.factor; exponent = r.exponent }
@@ -59,8 +59,7 @@ rotation_of r =
 
 abbrev pub gesture_of : HostGesture → Option MultiTouchInfo
 gesture_of r =
-    cond r.given
-    (Some
+    then_some r.given
     (record {
       start_time = r.start_time;
       start_pos = r.start_pos;
@@ -72,20 +71,17 @@ gesture_of r =
       heading = vector_of r.heading;
       translation_delta = vector_of r.translation_delta;
       force = r.force;
-    }))
-    None
+    })
 
 abbrev pub event_of : HostPointerEvent → Option PointerEvent
 event_of r =
-    cond r.given
-    (Some (Events.event_of (record { kind = r.kind; button = r.button; count = r.count; flags = r.modifiers; pos = r.pos })))
-    None
+    then_some r.given (Events.event_of (record { kind = r.kind; button = r.button; count = r.count; flags = r.modifiers; pos = r.pos }))
 
 abbrev pub widget_of : HostWidget → Option WidgetRect
-widget_of r = cond r.given (Some r.widget) None
+widget_of r = then_some r.given r.widget
 
 abbrev pub order_of : HostOrder → Option (LayerId × ℕ)
-order_of r = cond r.given (Some (r.layer, r.position)) None
+order_of r = then_some r.given (r.layer, r.position)
 
 abbrev pub layer_of : HostLayer → Option LayerId
-layer_of r = cond r.given (Some r.layer) None
+layer_of r = then_some r.given r.layer

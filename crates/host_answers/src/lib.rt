@@ -1,4 +1,5 @@
 // An answer as it crosses to the host: a record of plain numbers. Where `given` is false there is none, and the other fields are 0.
+// Kept (C): a flag beside each value, numbers for kinds, and a record for each type of answer: C reads them, and has no generic type.
 #![tactic(auto)]
 
 ghost use Rattle.std.specs.Prelude.{◌≡◌, None, Some};
@@ -157,152 +158,148 @@ pub struct HostLayer {
     pub given: bool,
 }
 
-pub fn vector(v: Vec2) -> HostVector
-    ensures { vector_of result ≡ v }
-{
-    HostVector { x: v.x, y: v.y }
-}
+impl From<Vec2> for HostVector {
+    ghost from_gives = { λ v r. vector_of r ≡ v };
 
-pub fn maybe_vector(v: Option<Vec2>) -> HostMaybeVector
-    ensures { maybe_vector_of result ≡ v }
-{
-    match v {
-        None => HostMaybeVector {
-            x: 0.0,
-            y: 0.0,
-            given: false,
-        },
-        Some(w) => HostMaybeVector {
-            x: w.x,
-            y: w.y,
-            given: true,
-        },
+    fn from(v: Vec2) -> HostVector {
+        HostVector { x: v.x, y: v.y }
     }
 }
 
-pub fn position(p: Option<Pos2>) -> HostPosition
-    ensures { position_of result ≡ p }
-{
-    match p {
-        None => HostPosition {
-            x: 0.0,
-            y: 0.0,
-            given: false,
-        },
-        Some(q) => HostPosition {
-            x: q.x,
-            y: q.y,
-            given: true,
-        },
+impl From<Option<Vec2>> for HostMaybeVector {
+    ghost from_gives = { λ v r. maybe_vector_of r ≡ v };
+
+    #[tactic(auto, using(host_values::proofs::Back::given_back))]
+    fn from(v: Option<Vec2>) -> HostMaybeVector {
+        let Vec2 { x, y } = v.unwrap_or(Vec2::zero());
+        HostMaybeVector {
+            x,
+            y,
+            given: v.is_some(),
+        }
     }
 }
 
-pub fn seconds(t: Option<f64>) -> HostSeconds
-    ensures { seconds_of result ≡ t }
-{
-    match t {
-        None => HostSeconds {
-            value: 0.0,
-            given: false,
-        },
-        Some(value) => HostSeconds { value, given: true },
+impl From<Option<Pos2>> for HostPosition {
+    ghost from_gives = { λ p r. position_of r ≡ p };
+
+    #[tactic(auto, using(host_values::proofs::Back::given_back))]
+    fn from(p: Option<Pos2>) -> HostPosition {
+        let Pos2 { x, y } = p.unwrap_or(Pos2::zero());
+        HostPosition {
+            x,
+            y,
+            given: p.is_some(),
+        }
     }
 }
 
-pub fn number(x: Option<f32>) -> HostNumber
-    ensures { number_of result ≡ x }
-{
-    match x {
-        None => HostNumber {
-            value: 0.0,
-            given: false,
-        },
-        Some(value) => HostNumber { value, given: true },
+impl From<Option<f64>> for HostSeconds {
+    ghost from_gives = { λ t r. seconds_of r ≡ t };
+
+    #[tactic(auto, using(host_values::proofs::Back::given_back))]
+    fn from(t: Option<f64>) -> HostSeconds {
+        HostSeconds {
+            value: t.unwrap_or(0.0),
+            given: t.is_some(),
+        }
     }
 }
 
-pub fn id(d: Option<u64>) -> HostId
-    ensures { id_of result ≡ d }
-{
-    match d {
-        None => HostId {
-            id: 0,
-            given: false,
-        },
-        Some(id) => HostId { id, given: true },
+impl From<Option<f32>> for HostNumber {
+    ghost from_gives = { λ x r. number_of r ≡ x };
+
+    #[tactic(auto, using(host_values::proofs::Back::given_back))]
+    fn from(x: Option<f32>) -> HostNumber {
+        HostNumber {
+            value: x.unwrap_or(0.0),
+            given: x.is_some(),
+        }
     }
 }
 
-pub fn source(s: Option<MouseWheelSource>) -> HostSource
-    ensures { source_of result ≡ s }
-{
-    match s {
-        None => HostSource {
-            number: 0,
-            given: false,
-        },
-        Some(x) => HostSource {
-            number: x.number(),
-            given: true,
-        },
+impl From<Option<u64>> for HostId {
+    ghost from_gives = { λ d r. id_of r ≡ d };
+
+    #[tactic(auto, using(host_values::proofs::Back::given_back))]
+    fn from(d: Option<u64>) -> HostId {
+        HostId {
+            id: d.unwrap_or(0),
+            given: d.is_some(),
+        }
     }
 }
 
-pub fn zoom(z: Zoom) -> HostZoom
-    ensures { zoom_of result ≡ z }
-{
-    HostZoom {
-        factor: z.factor,
-        exponent: z.exponent,
+impl From<Option<MouseWheelSource>> for HostSource {
+    ghost from_gives = { λ s r. source_of r ≡ s };
+
+    #[tactic(auto, using(host_values::proofs::Back::given_back, crate::proofs::Back::source_back))]
+    fn from(s: Option<MouseWheelSource>) -> HostSource {
+        HostSource {
+            number: s.unwrap_or(MouseWheelSource::Unknown).number(),
+            given: s.is_some(),
+        }
     }
 }
 
-pub fn zoom_2d(z: Zoom2d) -> HostZoom2d
-    ensures { zoom_2d_of result ≡ z }
-{
-    let factor = z.factor;
-    let exponent = z.exponent;
-    HostZoom2d {
-        factor_x: factor.x,
-        factor_y: factor.y,
-        exponent_x: exponent.x,
-        exponent_y: exponent.y,
+impl From<Zoom> for HostZoom {
+    ghost from_gives = { λ z r. zoom_of r ≡ z };
+
+    fn from(z: Zoom) -> HostZoom {
+        HostZoom {
+            factor: z.factor,
+            exponent: z.exponent,
+        }
     }
 }
 
-pub fn rotation(a: Rotation) -> HostRotation
-    ensures { rotation_of result ≡ a }
-{
-    match a {
-        Rotation::Radians(radians) => HostRotation {
-            by_headings: false,
-            radians,
-            previous_x: 0.0,
-            previous_y: 0.0,
-            x: 0.0,
-            y: 0.0,
-        },
-        Rotation::Headings(previous, current) => HostRotation {
-            by_headings: true,
-            radians: 0.0,
-            previous_x: previous.x,
-            previous_y: previous.y,
-            x: current.x,
-            y: current.y,
-        },
+impl From<Zoom2d> for HostZoom2d {
+    ghost from_gives = { λ z r. zoom_2d_of r ≡ z };
+
+    fn from(z: Zoom2d) -> HostZoom2d {
+        HostZoom2d {
+            factor_x: z.factor.x,
+            factor_y: z.factor.y,
+            exponent_x: z.exponent.x,
+            exponent_y: z.exponent.y,
+        }
+    }
+}
+
+impl From<Rotation> for HostRotation {
+    ghost from_gives = { λ a r. rotation_of r ≡ a };
+
+    fn from(a: Rotation) -> HostRotation {
+        match a {
+            Rotation::Radians(radians) => HostRotation {
+                by_headings: false,
+                radians,
+                previous_x: 0.0,
+                previous_y: 0.0,
+                x: 0.0,
+                y: 0.0,
+            },
+            Rotation::Headings(previous, current) => HostRotation {
+                by_headings: true,
+                radians: 0.0,
+                previous_x: previous.x,
+                previous_y: previous.y,
+                x: current.x,
+                y: current.y,
+            },
+        }
     }
 }
 
 fn no_gesture() -> HostGesture
     ensures { gesture_of result ≡ None }
 {
-    let pos = Pos2::zero();
     let none = HostVector { x: 0.0, y: 0.0 };
     HostGesture {
         start_time: 0.0,
         num_touches: 0,
-        start_pos: pos,
-        center_pos: pos,
+        start_pos: Pos2::zero(),
+        center_pos: Pos2::zero(),
         zoom_delta: 0.0,
         zoom_delta_2d: none,
         previous_heading: none,
@@ -316,81 +313,71 @@ fn no_gesture() -> HostGesture
 fn some_gesture(g: MultiTouchInfo) -> HostGesture
     ensures { gesture_of result ≡ Some g }
 {
-    let start_pos = g.start_pos;
-    let center_pos = g.center_pos;
-    let by_axis = g.zoom_delta_2d;
-    let before = g.previous_heading;
-    let now = g.heading;
-    let moved = g.translation_delta;
-    let zoom_delta_2d = vector(by_axis);
-    let previous_heading = vector(before);
-    let heading = vector(now);
-    let translation_delta = vector(moved);
     HostGesture {
         start_time: g.start_time,
         num_touches: g.num_touches,
-        start_pos,
-        center_pos,
+        start_pos: g.start_pos,
+        center_pos: g.center_pos,
         zoom_delta: g.zoom_delta,
-        zoom_delta_2d,
-        previous_heading,
-        heading,
-        translation_delta,
+        zoom_delta_2d: g.zoom_delta_2d.into(),
+        previous_heading: g.previous_heading.into(),
+        heading: g.heading.into(),
+        translation_delta: g.translation_delta.into(),
         force: g.force,
         given: true,
     }
 }
 
-pub fn gesture(a: Option<MultiTouchInfo>) -> HostGesture
-    ensures { gesture_of result ≡ a }
-{
-    match a {
-        None => no_gesture(),
-        Some(g) => some_gesture(g),
+impl From<Option<MultiTouchInfo>> for HostGesture {
+    ghost from_gives = { λ g r. gesture_of r ≡ g };
+
+    fn from(g: Option<MultiTouchInfo>) -> HostGesture {
+        match g {
+            None => no_gesture(),
+            Some(x) => some_gesture(x),
+        }
     }
 }
 
-pub fn event(e: Option<PointerEvent>) -> HostPointerEvent
-    ensures { event_of result ≡ e }
-{
-    match e {
-        None => {
-            let pos = Pos2::zero();
-            HostPointerEvent {
+impl From<Option<PointerEvent>> for HostPointerEvent {
+    ghost from_gives = { λ e r. event_of r ≡ e };
+
+    fn from(e: Option<PointerEvent>) -> HostPointerEvent {
+        match e {
+            None => HostPointerEvent {
                 kind: 0,
                 button: 0,
                 count: 0,
                 modifiers: 0,
-                pos,
+                pos: Pos2::zero(),
                 given: false,
-            }
-        }
-        Some(x) => {
-            let entry = entry_of(x);
-            let pos = entry.pos;
-            HostPointerEvent {
-                kind: entry.kind,
-                button: entry.button,
-                count: entry.count,
-                modifiers: entry.flags,
-                pos,
-                given: true,
+            },
+            Some(x) => {
+                let entry = entry_of(x);
+                HostPointerEvent {
+                    kind: entry.kind,
+                    button: entry.button,
+                    count: entry.count,
+                    modifiers: entry.flags,
+                    pos: entry.pos,
+                    given: true,
+                }
             }
         }
     }
 }
 
+const NO_LAYER: LayerId = LayerId { order: 0, id: 0 };
+
 fn no_widget() -> WidgetRect {
-    let zero = Pos2::zero();
     let rect = Rect {
-        min: zero,
-        max: zero,
+        min: Pos2::zero(),
+        max: Pos2::zero(),
     };
-    let layer_id = LayerId { order: 0, id: 0 };
     WidgetRect {
         id: 0,
         parent_id: 0,
-        layer_id,
+        layer_id: NO_LAYER,
         rect,
         interact_rect: rect,
         sense: 0,
@@ -399,55 +386,40 @@ fn no_widget() -> WidgetRect {
     }
 }
 
-pub fn widget(w: Option<WidgetRect>) -> HostWidget
-    ensures { widget_of result ≡ w }
-{
-    match w {
-        None => {
-            let widget = no_widget();
-            HostWidget {
-                widget,
-                given: false,
-            }
+impl From<Option<WidgetRect>> for HostWidget {
+    ghost from_gives = { λ w r. widget_of r ≡ w };
+
+    #[tactic(auto, using(host_values::proofs::Back::given_back))]
+    fn from(w: Option<WidgetRect>) -> HostWidget {
+        HostWidget {
+            widget: w.unwrap_or(no_widget()),
+            given: w.is_some(),
         }
-        Some(widget) => HostWidget {
-            widget,
-            given: true,
-        },
     }
 }
 
-pub fn order(o: Option<(LayerId, usize)>) -> HostOrder
-    ensures { order_of result ≡ o }
-{
-    match o {
-        None => {
-            let layer = LayerId { order: 0, id: 0 };
-            HostOrder {
-                layer,
-                position: 0,
-                given: false,
-            }
-        }
-        Some((layer, position)) => HostOrder {
+impl From<Option<(LayerId, usize)>> for HostOrder {
+    ghost from_gives = { λ o r. order_of r ≡ o };
+
+    #[tactic(auto, using(host_values::proofs::Back::given_back))]
+    fn from(o: Option<(LayerId, usize)>) -> HostOrder {
+        let (layer, position) = o.unwrap_or((NO_LAYER, 0));
+        HostOrder {
             layer,
             position,
-            given: true,
-        },
+            given: o.is_some(),
+        }
     }
 }
 
-pub fn layer(l: Option<LayerId>) -> HostLayer
-    ensures { layer_of result ≡ l }
-{
-    match l {
-        None => {
-            let layer = LayerId { order: 0, id: 0 };
-            HostLayer {
-                layer,
-                given: false,
-            }
+impl From<Option<LayerId>> for HostLayer {
+    ghost from_gives = { λ l r. layer_of r ≡ l };
+
+    #[tactic(auto, using(host_values::proofs::Back::given_back))]
+    fn from(l: Option<LayerId>) -> HostLayer {
+        HostLayer {
+            layer: l.unwrap_or(NO_LAYER),
+            given: l.is_some(),
         }
-        Some(layer) => HostLayer { layer, given: true },
     }
 }

@@ -1,6 +1,7 @@
 -- The input state that the host's arrays hold: `ts` are seconds, `fs` floats, `ns` counts, `bs` flags, `ks` the keys that are down.
 -- Any contents mean some state.
 use Rattle.std.specs.Prelude.{ℕ, ◌+◌, Bool, false, List, get_or, Float, Option}
+use Rattle.std.specs.Bool.{then_some}
 use Rattle.std.specs.Float.{nan}
 use Rattle.model.specs.Types.{Pos2, Vec2, Modifiers, InputOptions, ButtonsDown, WheelState}
 use Rattle.model.specs.Pointer.{buttons}
@@ -14,7 +15,7 @@ use Rattle.input_state.specs.declared.screen.Screen.{Screen}
 use Rattle.input_state.specs.declared.pointer.Pointer.{Pointer}
 use Rattle.input_state.specs.declared.sums.Sums.{Sums}
 use Rattle.input_state.specs.declared.state.InputState.{InputState}
-use Rattle.host_values.specs.Values.{pos_of, vec_of, time_of, status_of, source_of}
+use Rattle.host_values.specs.Values.{status_of, source_of}
 use Rattle.host_input.specs.Places as at
 
 -- ---- values of several places
@@ -25,7 +26,7 @@ abbrev pub vec_at : List Float → ℕ → Vec2
 vec_at fs i = record { x = get_or fs i nan; y = get_or fs (i + 1) nan }
 
 abbrev pub maybe_pos_at : Bool → List Float → ℕ → Option Pos2
-maybe_pos_at given fs i = pos_of given (get_or fs i nan) (get_or fs (i + 1) nan)
+maybe_pos_at given fs i = then_some given (pos_at fs i)
 
 -- 01's order of the bits
 abbrev pub modifiers_at : List Bool → ℕ → Modifiers
@@ -81,7 +82,7 @@ place_of fs ns bs =
       latest_pos = maybe_pos_at (get_or bs at.has_latest_pos false) fs at.latest_pos;
       interact_pos = maybe_pos_at (get_or bs at.has_interact_pos false) fs at.interact_pos;
       delta = vec_at fs at.delta;
-      motion = vec_of (get_or bs at.has_motion false) (get_or fs at.motion nan) (get_or fs (at.motion + 1) nan);
+      motion = then_some (get_or bs at.has_motion false) (vec_at fs at.motion);
       velocity = vec_at fs at.velocity;
       direction = vec_at fs at.direction;
       history = record { start = get_or ns at.history_start 0; len = get_or ns at.history_len 0 };
@@ -92,7 +93,7 @@ held_of ts fs ns bs =
     record {
       down = buttons_at bs at.down;
       press_origin = maybe_pos_at (get_or bs at.has_press_origin false) fs at.press_origin;
-      press_start_time = time_of (get_or bs at.has_press_start_time false) (get_or ts at.press_start_time nan);
+      press_start_time = then_some (get_or bs at.has_press_start_time false) (get_or ts at.press_start_time nan);
       event_count = get_or ns at.event_count 0;
     }
 
@@ -114,7 +115,7 @@ pointer_of ts fs ns bs =
       place = place_of fs ns bs;
       press = press_of ts fs ns bs;
       started_decidedly_dragging = get_or bs at.started_decidedly_dragging false;
-      last_move_time = time_of (get_or bs at.has_last_move_time false) (get_or ts at.last_move_time nan);
+      last_move_time = then_some (get_or bs at.has_last_move_time false) (get_or ts at.last_move_time nan);
     }
 
 abbrev pub wheel_of : List Float → List Float → List Bool → WheelState

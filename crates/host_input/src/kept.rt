@@ -1,205 +1,199 @@
-// The records written to the memory: each place of places.rt in turn.
-ghost use Rattle.std.specs.Prelude.{◌≡◌};
+// The records written to the memory, each field at its place of places.rt.
+ghost use Rattle.std.specs.Prelude.{◌≡◌, ◌+◌, ◌<◌};
+ghost use Rattle.host_input.specs.Places.{float_count, flag_count};
 ghost use Rattle.host_input.specs.Kept.{seconds_of, floats_of, counts_of, flags_of, keys_of};
+ghost use Rattle.host_input.specs.Kept.{with_pair, with_pos, with_screen, with_place, with_wheel, with_sums, with_modifiers, with_buttons, with_options, with_status};
 
+use crate::places;
 use crate::places::{COUNTS, FLAGS, FLOATS, KEYS, SECONDS};
-use host_values::{
-    is_in_touch, is_momentum, is_smoothing, is_trackpad, is_wheel, pos_given, pos_or_zero,
-    time_given, time_or, vec_given, vec_or_zero,
-};
+use data::modifiers::Modifiers;
+use data::mouse_wheel::{MouseWheelSource, Status, WheelState};
+use data::options::InputOptions;
+use data::pointer::ButtonsDown;
+use emath::pos2::Pos2;
+use emath::vec2::Vec2;
+use input_state::screen::Screen;
 use input_state::state::InputState;
+use input_state::sums::Sums;
+use pointer_place::Place;
 
 pub fn seconds(s: InputState) -> [f64; SECONDS]
     ensures { result ≡ seconds_of s }
 {
-    let clock = s.clock;
-    let screen = s.screen;
-    let options = screen.options;
-    let pointer = s.pointer;
-    let press = pointer.press;
-    let held = press.held;
-    let past = press.past;
-    let wheel = s.wheel;
-    let start = held.press_start_time;
-    let moved = pointer.last_move_time;
+    let time = s.clock.time;
     [
-        clock.time,
-        clock.pointer_time,
-        options.max_click_duration,
-        options.max_double_click_delay,
-        time_or(start, clock.time),
-        past.last_click_time,
-        past.last_last_click_time,
-        time_or(moved, clock.time),
-        wheel.last_wheel_event,
+        time,
+        s.clock.pointer_time,
+        s.screen.options.max_click_duration,
+        s.screen.options.max_double_click_delay,
+        s.pointer.press.held.press_start_time.unwrap_or(time),
+        s.pointer.press.past.last_click_time,
+        s.pointer.press.past.last_last_click_time,
+        s.pointer.last_move_time.unwrap_or(time),
+        s.wheel.last_wheel_event,
     ]
+}
+
+// The coordinates of a position or a vector.
+fn put(floats: &mut [f32; FLOATS], at: usize, x: f32, y: f32)
+    requires { at + 1 < float_count }
+    ensures { floats.new ≡ with_pair at x y floats.old }
+{
+    floats[at] = x;
+    floats[at + 1] = y;
+}
+
+fn put_pos(floats: &mut [f32; FLOATS], at: usize, p: Option<Pos2>)
+    requires { at + 1 < float_count }
+    ensures { floats.new ≡ with_pos at p floats.old }
+{
+    let q = p.unwrap_or(Pos2::zero());
+    put(floats, at, q.x, q.y);
+}
+
+fn put_screen(floats: &mut [f32; FLOATS], s: Screen)
+    ensures { floats.new ≡ with_screen s floats.old }
+{
+    let min = s.viewport_rect.min;
+    let max = s.viewport_rect.max;
+    put(floats, places::VIEWPORT_MIN, min.x, min.y);
+    put(floats, places::VIEWPORT_MAX, max.x, max.y);
+    floats[places::PIXELS_PER_POINT] = s.pixels_per_point;
+    floats[places::LINE_SCROLL_SPEED] = s.options.line_scroll_speed;
+    floats[places::SCROLL_ZOOM_SPEED] = s.options.scroll_zoom_speed;
+    floats[places::MAX_CLICK_DIST] = s.options.max_click_dist;
+}
+
+fn put_place(floats: &mut [f32; FLOATS], p: Place)
+    ensures { floats.new ≡ with_place p floats.old }
+{
+    let motion = p.motion.unwrap_or(Vec2::zero());
+    put_pos(floats, places::LATEST_POS, p.latest_pos);
+    put_pos(floats, places::INTERACT_POS, p.interact_pos);
+    put(floats, places::DELTA, p.delta.x, p.delta.y);
+    put(floats, places::MOTION, motion.x, motion.y);
+    put(floats, places::VELOCITY, p.velocity.x, p.velocity.y);
+    put(floats, places::DIRECTION, p.direction.x, p.direction.y);
+}
+
+fn put_wheel(floats: &mut [f32; FLOATS], w: WheelState)
+    ensures { floats.new ≡ with_wheel w floats.old }
+{
+    let left = w.unprocessed_wheel_delta;
+    let smooth = w.smooth_wheel_delta;
+    put(floats, places::UNPROCESSED_WHEEL_DELTA, left.x, left.y);
+    put(floats, places::SMOOTH_WHEEL_DELTA, smooth.x, smooth.y);
+}
+
+fn put_sums(floats: &mut [f32; FLOATS], s: Sums)
+    ensures { floats.new ≡ with_sums s floats.old }
+{
+    let scroll = s.smooth_scroll_delta;
+    floats[places::ZOOM_FACTOR] = s.zoom_factor;
+    floats[places::ZOOM_EXPONENT] = s.zoom_exponent;
+    floats[places::ROTATION_RADIANS] = s.rotation_radians;
+    put(floats, places::SMOOTH_SCROLL_DELTA, scroll.x, scroll.y);
 }
 
 pub fn floats(s: InputState) -> [f32; FLOATS]
     ensures { result ≡ floats_of s }
 {
-    let clock = s.clock;
-    let screen = s.screen;
-    let options = screen.options;
-    let rect = screen.viewport_rect;
-    let min = rect.min;
-    let max = rect.max;
-    let pointer = s.pointer;
-    let place = pointer.place;
-    let maybe_latest = place.latest_pos;
-    let latest = pos_or_zero(maybe_latest);
-    let maybe_interact = place.interact_pos;
-    let interact = pos_or_zero(maybe_interact);
-    let delta = place.delta;
-    let maybe_motion = place.motion;
-    let motion = vec_or_zero(maybe_motion);
-    let velocity = place.velocity;
-    let direction = place.direction;
-    let press = pointer.press;
-    let held = press.held;
-    let maybe_origin = held.press_origin;
-    let origin = pos_or_zero(maybe_origin);
-    let past = press.past;
-    let maybe_click = past.last_click_pos;
-    let click = pos_or_zero(maybe_click);
-    let wheel = s.wheel;
-    let unprocessed = wheel.unprocessed_wheel_delta;
-    let smooth = wheel.smooth_wheel_delta;
-    let sums = s.sums;
-    let scroll = sums.smooth_scroll_delta;
-    [
-        clock.unstable_dt,
-        clock.stable_dt,
-        clock.predicted_dt,
-        min.x,
-        min.y,
-        max.x,
-        max.y,
-        screen.pixels_per_point,
-        options.line_scroll_speed,
-        options.scroll_zoom_speed,
-        options.max_click_dist,
-        latest.x,
-        latest.y,
-        interact.x,
-        interact.y,
-        delta.x,
-        delta.y,
-        motion.x,
-        motion.y,
-        velocity.x,
-        velocity.y,
-        direction.x,
-        direction.y,
-        origin.x,
-        origin.y,
-        click.x,
-        click.y,
-        unprocessed.x,
-        unprocessed.y,
-        smooth.x,
-        smooth.y,
-        sums.zoom_factor,
-        sums.zoom_exponent,
-        sums.rotation_radians,
-        scroll.x,
-        scroll.y,
-    ]
+    let press = s.pointer.press;
+    let mut to = [0.0; FLOATS];
+    to[places::UNSTABLE_DT] = s.clock.unstable_dt;
+    to[places::STABLE_DT] = s.clock.stable_dt;
+    to[places::PREDICTED_DT] = s.clock.predicted_dt;
+    put_screen(&mut to, s.screen);
+    put_place(&mut to, s.pointer.place);
+    put_pos(&mut to, places::PRESS_ORIGIN, press.held.press_origin);
+    put_pos(&mut to, places::LAST_CLICK_POS, press.past.last_click_pos);
+    put_wheel(&mut to, s.wheel);
+    put_sums(&mut to, s.sums);
+    to
 }
 
 // How many devices are known stands last.
 pub fn counts(s: InputState, devices: usize) -> [usize; COUNTS]
     ensures { result ≡ counts_of s devices }
 {
-    let pointer = s.pointer;
-    let place = pointer.place;
-    let history = place.history;
-    let press = pointer.press;
-    let held = press.held;
+    let history = s.pointer.place.history;
+    let held = s.pointer.press.held;
     [history.start, history.len, held.event_count, devices]
+}
+
+// Five flags, in 01's order of the bits.
+// Kept (plain): like `put_buttons`, of a record with other fields; one function for both would be given five flags by each call.
+fn put_modifiers(flags: &mut [bool; FLAGS], at: usize, m: Modifiers)
+    requires { at + 4 < flag_count }
+    ensures { flags.new ≡ with_modifiers m at flags.old }
+{
+    flags[at] = m.alt;
+    flags[at + 1] = m.ctrl;
+    flags[at + 2] = m.shift;
+    flags[at + 3] = m.mac_cmd;
+    flags[at + 4] = m.command;
+}
+
+// Kept (plain): like `put_modifiers`, as is said there.
+fn put_buttons(flags: &mut [bool; FLAGS], at: usize, d: ButtonsDown)
+    requires { at + 4 < flag_count }
+    ensures { flags.new ≡ with_buttons d at flags.old }
+{
+    flags[at] = d.primary;
+    flags[at + 1] = d.secondary;
+    flags[at + 2] = d.middle;
+    flags[at + 3] = d.extra1;
+    flags[at + 4] = d.extra2;
+}
+
+fn put_options(flags: &mut [bool; FLAGS], o: InputOptions)
+    ensures { flags.new ≡ with_options o flags.old }
+{
+    let horizontal = o.horizontal_scroll_modifier;
+    let vertical = o.vertical_scroll_modifier;
+    put_modifiers(flags, places::ZOOM_MODIFIER, o.zoom_modifier);
+    put_modifiers(flags, places::HORIZONTAL_SCROLL_MODIFIER, horizontal);
+    put_modifiers(flags, places::VERTICAL_SCROLL_MODIFIER, vertical);
+}
+
+fn put_status(flags: &mut [bool; FLAGS], w: WheelState)
+    ensures { flags.new ≡ with_status w flags.old }
+{
+    put_modifiers(flags, places::WHEEL_MODIFIERS, w.modifiers);
+    flags[places::IS_SMOOTHING] = w.status == Status::Smoothing;
+    flags[places::IS_IN_TOUCH] = w.status == Status::InTouch;
+    flags[places::IS_WHEEL] = w.source == MouseWheelSource::Wheel;
+    flags[places::IS_TRACKPAD] = w.source == MouseWheelSource::Trackpad;
+    flags[places::IS_MOMENTUM] = w.source == MouseWheelSource::Momentum;
 }
 
 pub fn flags(s: InputState) -> [bool; FLAGS]
     ensures { result ≡ flags_of s }
 {
-    let screen = s.screen;
-    let options = screen.options;
-    let zoom = options.zoom_modifier;
-    let horizontal = options.horizontal_scroll_modifier;
-    let vertical = options.vertical_scroll_modifier;
-    let pointer = s.pointer;
-    let place = pointer.place;
-    let latest = place.latest_pos;
-    let interact = place.interact_pos;
-    let motion = place.motion;
-    let press = pointer.press;
-    let held = press.held;
-    let down = held.down;
-    let origin = held.press_origin;
-    let start = held.press_start_time;
-    let past = press.past;
-    let click = past.last_click_pos;
-    let moved = pointer.last_move_time;
-    let wheel = s.wheel;
-    let status = wheel.status;
-    let source = wheel.source;
-    let latched = wheel.modifiers;
-    let keys = s.keys;
-    let modifiers = keys.modifiers;
-    [
-        screen.focused,
-        zoom.alt,
-        zoom.ctrl,
-        zoom.shift,
-        zoom.mac_cmd,
-        zoom.command,
-        horizontal.alt,
-        horizontal.ctrl,
-        horizontal.shift,
-        horizontal.mac_cmd,
-        horizontal.command,
-        vertical.alt,
-        vertical.ctrl,
-        vertical.shift,
-        vertical.mac_cmd,
-        vertical.command,
-        pos_given(latest),
-        pos_given(interact),
-        vec_given(motion),
-        down.primary,
-        down.secondary,
-        down.middle,
-        down.extra1,
-        down.extra2,
-        pos_given(origin),
-        time_given(start),
-        past.has_moved_too_much_for_a_click,
-        pos_given(click),
-        pointer.started_decidedly_dragging,
-        time_given(moved),
-        latched.alt,
-        latched.ctrl,
-        latched.shift,
-        latched.mac_cmd,
-        latched.command,
-        is_smoothing(status),
-        is_in_touch(status),
-        is_wheel(source),
-        is_trackpad(source),
-        is_momentum(source),
-        modifiers.alt,
-        modifiers.ctrl,
-        modifiers.shift,
-        modifiers.mac_cmd,
-        modifiers.command,
-        keys.feed_empty,
-    ]
+    let place = s.pointer.place;
+    let held = s.pointer.press.held;
+    let past = s.pointer.press.past;
+    let mut to = [false; FLAGS];
+    to[places::FOCUSED] = s.screen.focused;
+    put_options(&mut to, s.screen.options);
+    to[places::HAS_LATEST_POS] = place.latest_pos.is_some();
+    to[places::HAS_INTERACT_POS] = place.interact_pos.is_some();
+    to[places::HAS_MOTION] = place.motion.is_some();
+    put_buttons(&mut to, places::DOWN, held.down);
+    to[places::HAS_PRESS_ORIGIN] = held.press_origin.is_some();
+    to[places::HAS_PRESS_START_TIME] = held.press_start_time.is_some();
+    to[places::HAS_MOVED_TOO_MUCH_FOR_A_CLICK] = past.has_moved_too_much_for_a_click;
+    to[places::HAS_LAST_CLICK_POS] = past.last_click_pos.is_some();
+    to[places::STARTED_DECIDEDLY_DRAGGING] = s.pointer.started_decidedly_dragging;
+    to[places::HAS_LAST_MOVE_TIME] = s.pointer.last_move_time.is_some();
+    put_status(&mut to, s.wheel);
+    put_modifiers(&mut to, places::MODIFIERS, s.keys.modifiers);
+    to[places::FEED_EMPTY] = s.keys.feed_empty;
+    to
 }
 
 pub fn keys_down(s: InputState) -> [u64; KEYS]
     ensures { result ≡ keys_of s }
 {
-    let keys = s.keys;
-    let down = keys.down;
-    down.words
+    s.keys.down.words
 }

@@ -13,7 +13,7 @@ use emath::pos2::Pos2;
 use emath::rect::Rect;
 use emath::vec2::Vec2;
 use emath_history::history::History;
-use host_values::{pos, source, status, time, vec};
+use host_values::{source, status};
 use input_state::clock::Clock;
 use input_state::pointer::Pointer;
 use input_state::screen::Screen;
@@ -27,6 +27,7 @@ use pointer_state::press::Press;
 
 // ---- values of several places
 
+// Kept (plain): like `vec_at`; egui's positions and vectors are two types, and one function for both would give a pair that each call takes apart.
 fn pos_at(floats: &[f32; FLOATS], at: usize) -> Pos2
     requires { at + 1 < float_count }
     ensures { result ≡ pos_at floats.now at }
@@ -37,6 +38,7 @@ fn pos_at(floats: &[f32; FLOATS], at: usize) -> Pos2
     }
 }
 
+// Kept (plain): like `pos_at`, as is said there.
 fn vec_at(floats: &[f32; FLOATS], at: usize) -> Vec2
     requires { at + 1 < float_count }
     ensures { result ≡ vec_at floats.now at }
@@ -51,7 +53,7 @@ fn maybe_pos_at(given: bool, floats: &[f32; FLOATS], at: usize) -> Option<Pos2>
     requires { at + 1 < float_count }
     ensures { result ≡ maybe_pos_at given floats.now at }
 {
-    pos(given, floats[at], floats[at + 1])
+    given.then_some(pos_at(floats, at))
 }
 
 fn modifiers_at(flags: &[bool; FLAGS], at: usize) -> Modifiers
@@ -97,62 +99,50 @@ pub fn clock(seconds: &[f64; SECONDS], floats: &[f32; FLOATS]) -> Clock
 fn options(seconds: &[f64; SECONDS], floats: &[f32; FLOATS], flags: &[bool; FLAGS]) -> InputOptions
     ensures { result ≡ options_of seconds.now floats.now flags.now }
 {
-    let zoom_modifier = modifiers_at(flags, places::ZOOM_MODIFIER);
-    let horizontal_scroll_modifier = modifiers_at(flags, places::HORIZONTAL_SCROLL_MODIFIER);
-    let vertical_scroll_modifier = modifiers_at(flags, places::VERTICAL_SCROLL_MODIFIER);
     InputOptions {
         line_scroll_speed: floats[places::LINE_SCROLL_SPEED],
         scroll_zoom_speed: floats[places::SCROLL_ZOOM_SPEED],
         max_click_dist: floats[places::MAX_CLICK_DIST],
         max_click_duration: seconds[places::MAX_CLICK_DURATION],
         max_double_click_delay: seconds[places::MAX_DOUBLE_CLICK_DELAY],
-        zoom_modifier,
-        horizontal_scroll_modifier,
-        vertical_scroll_modifier,
+        zoom_modifier: modifiers_at(flags, places::ZOOM_MODIFIER),
+        horizontal_scroll_modifier: modifiers_at(flags, places::HORIZONTAL_SCROLL_MODIFIER),
+        vertical_scroll_modifier: modifiers_at(flags, places::VERTICAL_SCROLL_MODIFIER),
     }
 }
 
 pub fn screen(seconds: &[f64; SECONDS], floats: &[f32; FLOATS], flags: &[bool; FLAGS]) -> Screen
     ensures { result ≡ screen_of seconds.now floats.now flags.now }
 {
-    let min = pos_at(floats, places::VIEWPORT_MIN);
-    let max = pos_at(floats, places::VIEWPORT_MAX);
-    let viewport_rect = Rect { min, max };
-    let options = options(seconds, floats, flags);
     Screen {
-        viewport_rect,
+        viewport_rect: Rect {
+            min: pos_at(floats, places::VIEWPORT_MIN),
+            max: pos_at(floats, places::VIEWPORT_MAX),
+        },
         pixels_per_point: floats[places::PIXELS_PER_POINT],
         focused: flags[places::FOCUSED],
-        options,
+        options: options(seconds, floats, flags),
     }
 }
 
 pub fn place(floats: &[f32; FLOATS], counts: &[usize; COUNTS], flags: &[bool; FLAGS]) -> Place
     ensures { result ≡ place_of floats.now counts.now flags.now }
 {
-    let latest_pos = maybe_pos_at(flags[places::HAS_LATEST_POS], floats, places::LATEST_POS);
-    let interact_pos = maybe_pos_at(
-        flags[places::HAS_INTERACT_POS],
-        floats,
-        places::INTERACT_POS,
-    );
-    let delta = vec_at(floats, places::DELTA);
-    let moved = vec_at(floats, places::MOTION);
-    let motion = vec(flags[places::HAS_MOTION], moved.x, moved.y);
-    let velocity = vec_at(floats, places::VELOCITY);
-    let direction = vec_at(floats, places::DIRECTION);
-    let history = History {
-        start: counts[places::HISTORY_START],
-        len: counts[places::HISTORY_LEN],
-    };
     Place {
-        latest_pos,
-        interact_pos,
-        delta,
-        motion,
-        velocity,
-        direction,
-        history,
+        latest_pos: maybe_pos_at(flags[places::HAS_LATEST_POS], floats, places::LATEST_POS),
+        interact_pos: maybe_pos_at(
+            flags[places::HAS_INTERACT_POS],
+            floats,
+            places::INTERACT_POS,
+        ),
+        delta: vec_at(floats, places::DELTA),
+        motion: flags[places::HAS_MOTION].then_some(vec_at(floats, places::MOTION)),
+        velocity: vec_at(floats, places::VELOCITY),
+        direction: vec_at(floats, places::DIRECTION),
+        history: History {
+            start: counts[places::HISTORY_START],
+            len: counts[places::HISTORY_LEN],
+        },
     }
 }
 
@@ -164,20 +154,16 @@ fn held(
 ) -> Held
     ensures { result ≡ held_of seconds.now floats.now counts.now flags.now }
 {
-    let down = buttons_at(flags, places::DOWN);
-    let press_origin = maybe_pos_at(
-        flags[places::HAS_PRESS_ORIGIN],
-        floats,
-        places::PRESS_ORIGIN,
-    );
-    let press_start_time = time(
-        flags[places::HAS_PRESS_START_TIME],
-        seconds[places::PRESS_START_TIME],
-    );
     Held {
-        down,
-        press_origin,
-        press_start_time,
+        down: buttons_at(flags, places::DOWN),
+        press_origin: maybe_pos_at(
+            flags[places::HAS_PRESS_ORIGIN],
+            floats,
+            places::PRESS_ORIGIN,
+        ),
+        press_start_time: flags[places::HAS_PRESS_START_TIME].then_some(
+            seconds[places::PRESS_START_TIME],
+        ),
         event_count: counts[places::EVENT_COUNT],
     }
 }
@@ -185,14 +171,13 @@ fn held(
 fn past(seconds: &[f64; SECONDS], floats: &[f32; FLOATS], flags: &[bool; FLAGS]) -> ClickPast
     ensures { result ≡ past_of seconds.now floats.now flags.now }
 {
-    let last_click_pos = maybe_pos_at(
-        flags[places::HAS_LAST_CLICK_POS],
-        floats,
-        places::LAST_CLICK_POS,
-    );
     ClickPast {
         has_moved_too_much_for_a_click: flags[places::HAS_MOVED_TOO_MUCH_FOR_A_CLICK],
-        last_click_pos,
+        last_click_pos: maybe_pos_at(
+            flags[places::HAS_LAST_CLICK_POS],
+            floats,
+            places::LAST_CLICK_POS,
+        ),
         last_click_time: seconds[places::LAST_CLICK_TIME],
         last_last_click_time: seconds[places::LAST_LAST_CLICK_TIME],
     }
@@ -206,9 +191,10 @@ pub fn press(
 ) -> Press
     ensures { result ≡ press_of seconds.now floats.now counts.now flags.now }
 {
-    let held = held(seconds, floats, counts, flags);
-    let past = past(seconds, floats, flags);
-    Press { held, past }
+    Press {
+        held: held(seconds, floats, counts, flags),
+        past: past(seconds, floats, flags),
+    }
 }
 
 pub fn pointer(
@@ -219,51 +205,39 @@ pub fn pointer(
 ) -> Pointer
     ensures { result ≡ pointer_of seconds.now floats.now counts.now flags.now }
 {
-    let place = place(floats, counts, flags);
-    let press = press(seconds, floats, counts, flags);
-    let last_move_time = time(
-        flags[places::HAS_LAST_MOVE_TIME],
-        seconds[places::LAST_MOVE_TIME],
-    );
     Pointer {
-        place,
-        press,
+        place: place(floats, counts, flags),
+        press: press(seconds, floats, counts, flags),
         started_decidedly_dragging: flags[places::STARTED_DECIDEDLY_DRAGGING],
-        last_move_time,
+        last_move_time: flags[places::HAS_LAST_MOVE_TIME].then_some(
+            seconds[places::LAST_MOVE_TIME],
+        ),
     }
 }
 
 pub fn wheel(seconds: &[f64; SECONDS], floats: &[f32; FLOATS], flags: &[bool; FLAGS]) -> WheelState
     ensures { result ≡ wheel_of seconds.now floats.now flags.now }
 {
-    let status = status(flags[places::IS_SMOOTHING], flags[places::IS_IN_TOUCH]);
-    let source = source(
-        flags[places::IS_WHEEL],
-        flags[places::IS_TRACKPAD],
-        flags[places::IS_MOMENTUM],
-    );
-    let modifiers = modifiers_at(flags, places::WHEEL_MODIFIERS);
-    let unprocessed_wheel_delta = vec_at(floats, places::UNPROCESSED_WHEEL_DELTA);
-    let smooth_wheel_delta = vec_at(floats, places::SMOOTH_WHEEL_DELTA);
     WheelState {
-        status,
-        source,
-        modifiers,
+        status: status(flags[places::IS_SMOOTHING], flags[places::IS_IN_TOUCH]),
+        source: source(
+            flags[places::IS_WHEEL],
+            flags[places::IS_TRACKPAD],
+            flags[places::IS_MOMENTUM],
+        ),
+        modifiers: modifiers_at(flags, places::WHEEL_MODIFIERS),
         last_wheel_event: seconds[places::LAST_WHEEL_EVENT],
-        unprocessed_wheel_delta,
-        smooth_wheel_delta,
+        unprocessed_wheel_delta: vec_at(floats, places::UNPROCESSED_WHEEL_DELTA),
+        smooth_wheel_delta: vec_at(floats, places::SMOOTH_WHEEL_DELTA),
     }
 }
 
 pub fn keys(flags: &[bool; FLAGS], keys_down: &[u64; KEYS]) -> Keys
     ensures { result ≡ keys_of flags.now keys_down.now }
 {
-    let words = *keys_down;
-    let down = Set256 { words };
-    let modifiers = modifiers_at(flags, places::MODIFIERS);
     Keys {
-        down,
-        modifiers,
+        down: Set256 { words: *keys_down },
+        modifiers: modifiers_at(flags, places::MODIFIERS),
         feed_empty: flags[places::FEED_EMPTY],
     }
 }
@@ -271,12 +245,11 @@ pub fn keys(flags: &[bool; FLAGS], keys_down: &[u64; KEYS]) -> Keys
 pub fn sums(floats: &[f32; FLOATS]) -> Sums
     ensures { result ≡ sums_of floats.now }
 {
-    let smooth_scroll_delta = vec_at(floats, places::SMOOTH_SCROLL_DELTA);
     Sums {
         zoom_factor: floats[places::ZOOM_FACTOR],
         zoom_exponent: floats[places::ZOOM_EXPONENT],
         rotation_radians: floats[places::ROTATION_RADIANS],
-        smooth_scroll_delta,
+        smooth_scroll_delta: vec_at(floats, places::SMOOTH_SCROLL_DELTA),
     }
 }
 
@@ -289,18 +262,12 @@ pub fn input(
 ) -> InputState
     ensures { result ≡ input_of seconds.now floats.now counts.now flags.now keys_down.now }
 {
-    let clock = clock(seconds, floats);
-    let screen = screen(seconds, floats, flags);
-    let pointer = pointer(seconds, floats, counts, flags);
-    let wheel = wheel(seconds, floats, flags);
-    let keys = keys(flags, keys_down);
-    let sums = sums(floats);
     InputState {
-        clock,
-        screen,
-        pointer,
-        wheel,
-        keys,
-        sums,
+        clock: clock(seconds, floats),
+        screen: screen(seconds, floats, flags),
+        pointer: pointer(seconds, floats, counts, flags),
+        wheel: wheel(seconds, floats, flags),
+        keys: keys(flags, keys_down),
+        sums: sums(floats),
     }
 }

@@ -2,9 +2,8 @@
 use Rattle.std.specs.Prelude.{ℕ, ◌≡◌, List, Result, Ok, Err}
 use Rattle.kernel_touch.specs.declared.answer.KernelRefusal.{KernelRefusal}
 use Rattle.kernel_touch.specs.declared.answer.Taken.{Taken}
-use Rattle.kernel_touch.specs.declared.answer.KernelRead.{KernelRead}
 use Rattle.kernel_touch.specs.declared.slots.KernelTouches.{KernelTouches}
-use Rattle.kernel_read.specs.Read.{kernel_row, Reads}
+use Rattle.kernel_read.specs.Read.{KernelRead, kernel_row, Reads}
 use Rattle.host_kernel.specs.declared.HostKernelRead.{HostKernelRead}
 
 abbrev pub Answers : Result Taken KernelRefusal → HostKernelRead → Type 0

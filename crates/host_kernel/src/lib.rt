@@ -1,11 +1,12 @@
 // What the reading of kernel touch records (02 A.1) answers, as it crosses to the host.
+// Kept (C): a number for a refusal, a count and a flag beside it: C reads the record.
 #![tactic(auto)]
 
 ghost use Rattle.std.specs.Prelude.{◌≡◌};
 ghost use Rattle.kernel_read.specs.Read.{kernel_row};
 ghost use Rattle.host_kernel.specs.Kernel.{Crosses};
 
-use kernel_touch::answer::{KernelRead, KernelRefusal, Taken};
+use kernel_touch::answer::{KernelRefusal, Taken};
 use kernel_touch::slots::KernelTouches;
 
 // `number` 0: the words written to the feed, and whether the records held a 'dropped'. Else 02's number of the refusal; `kernel` is as before then. C reads the number and the values beside it.
@@ -30,11 +31,10 @@ fn number(q: KernelRefusal) -> u32
     }
 }
 
-pub fn crossing(read: KernelRead) -> HostKernelRead
-    ensures { Crosses read result }
+pub fn crossing(kernel: KernelTouches, answer: Result<Taken, KernelRefusal>) -> HostKernelRead
+    ensures { Crosses (record { kernel = kernel; answer = answer }) result }
 {
-    let kernel = read.kernel;
-    match read.answer {
+    match answer {
         Ok(Taken { words, dropped }) => HostKernelRead {
             kernel,
             number: 0,

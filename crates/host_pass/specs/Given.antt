@@ -1,21 +1,21 @@
 -- What a pass is given by the host, and what it answers the host.
-use Rattle.std.specs.Prelude.{ℕ, Bool, cond, Float, Option, None, Some}
+use Rattle.std.specs.Prelude.{ℕ, Bool, Float, Option, None, Some}
+use Rattle.std.specs.Bool.{then_some}
 use Rattle.data.specs.Numbers.{pass_refusal_number}
 use Rattle.data.specs.Modifiers.{modifiers_of}
 use Rattle.model.specs.Types.{PassRefusal, Malformed, OutsideDomain, TimeBelow, TooManyEvents, NoPlace}
 use Rattle.emath.specs.declared.rect.Rect.{Rect}
 use Rattle.input_state.specs.declared.input.PassInput.{PassInput}
-use Rattle.host_values.specs.Values.{time_of}
 use Rattle.host_pass.specs.declared.HostPass.{HostPass}
 use Rattle.host_pass.specs.declared.HostRefusal.{HostRefusal}
 
 abbrev pub rect_of : Bool → Float → Float → Float → Float → Option Rect
-rect_of given a b c d = cond given (Some (record { min = record { x = a; y = b }; max = record { x = c; y = d } })) None
+rect_of given a b c d = then_some given (record { min = record { x = a; y = b }; max = record { x = c; y = d } })
 
 abbrev pub given_of : HostPass → PassInput
 given_of g =
     record {
-      time = time_of g.time_given g.time;
+      time = then_some g.time_given g.time;
       screen_rect = rect_of g.screen_rect_given g.min_x g.min_y g.max_x g.max_y;
       predicted_dt = g.predicted_dt;
       smoothing_factor = g.smoothing_factor;

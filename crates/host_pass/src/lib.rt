@@ -1,5 +1,5 @@
 // What a pass is given beside its feed, and the answer that it gives, as they cross to and from the host.
-// Flags beside values, modifiers as bits, and the number of a refusal: C writes the one record and reads the other.
+// Kept (C): flags beside values, modifiers as bits, and the number of a refusal: C writes the one record and reads the other.
 #![tactic(auto)]
 
 ghost use Rattle.std.specs.Prelude.{◌≡◌, None};
@@ -10,7 +10,6 @@ use data::options::InputOptions;
 use data::refusal::PassRefusal;
 use emath::pos2::Pos2;
 use emath::rect::Rect;
-use host_values::time;
 use input_state::input::PassInput;
 
 // RawInput and the options. A time and a rectangle count where they are given. Modifiers are 01's five bits: alt, ctrl, shift, mac_cmd, command.
@@ -50,36 +49,27 @@ pub struct HostRefusal {
 fn rect(given: bool, min_x: f32, min_y: f32, max_x: f32, max_y: f32) -> Option<Rect>
     ensures { result ≡ rect_of given min_x min_y max_x max_y }
 {
-    if given {
-        let min = Pos2 { x: min_x, y: min_y };
-        let max = Pos2 { x: max_x, y: max_y };
-        let r = Rect { min, max };
-        return Some(r);
-    }
-    None
+    let min = Pos2 { x: min_x, y: min_y };
+    let max = Pos2 { x: max_x, y: max_y };
+    given.then_some(Rect { min, max })
 }
 
 pub fn pass_input(g: HostPass) -> PassInput
     ensures { result ≡ given_of g }
 {
-    let time = time(g.time_given, g.time);
-    let screen_rect = rect(g.screen_rect_given, g.min_x, g.min_y, g.max_x, g.max_y);
-    let zoom_modifier = Modifiers::of(g.zoom_modifier);
-    let horizontal_scroll_modifier = Modifiers::of(g.horizontal_scroll_modifier);
-    let vertical_scroll_modifier = Modifiers::of(g.vertical_scroll_modifier);
     let options = InputOptions {
         line_scroll_speed: g.line_scroll_speed,
         scroll_zoom_speed: g.scroll_zoom_speed,
         max_click_dist: g.max_click_dist,
         max_click_duration: g.max_click_duration,
         max_double_click_delay: g.max_double_click_delay,
-        zoom_modifier,
-        horizontal_scroll_modifier,
-        vertical_scroll_modifier,
+        zoom_modifier: Modifiers::of(g.zoom_modifier),
+        horizontal_scroll_modifier: Modifiers::of(g.horizontal_scroll_modifier),
+        vertical_scroll_modifier: Modifiers::of(g.vertical_scroll_modifier),
     };
     PassInput {
-        time,
-        screen_rect,
+        time: g.time_given.then_some(g.time),
+        screen_rect: rect(g.screen_rect_given, g.min_x, g.min_y, g.max_x, g.max_y),
         predicted_dt: g.predicted_dt,
         smoothing_factor: g.smoothing_factor,
         pixels_per_point: g.pixels_per_point,
@@ -93,11 +83,11 @@ fn index(q: PassRefusal) -> usize
     ensures { result ≡ index_of q }
 {
     match q {
-        PassRefusal::Malformed(i) => i,
-        PassRefusal::OutsideDomain(i) => i,
+        PassRefusal::Malformed(i)
+        | PassRefusal::OutsideDomain(i)
+        | PassRefusal::TooManyEvents(i)
+        | PassRefusal::NoPlace(i) => i,
         PassRefusal::TimeBelow => 0,
-        PassRefusal::TooManyEvents(i) => i,
-        PassRefusal::NoPlace(i) => i,
     }
 }
 

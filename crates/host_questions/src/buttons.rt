@@ -1,4 +1,5 @@
 // Buttons, presses, clicks. `button` is its number in the feed; over 4 it is Extra2.
+// Kept (C): C calls each question by its own name and lends the arrays one by one: questions alike in their steps stand apart.
 ghost use Rattle.feed.specs.Shape.{button_of};
 ghost use Rattle.host_answers.specs.Answers.{position_of, seconds_of};
 ghost use Rattle.host_input.specs.Held.{clock_of, pointer_of, press_of, screen_of};
@@ -7,7 +8,7 @@ ghost use Rattle.model.specs.Questions.{bool, maybe_position, maybe_seconds, num
 ghost use Rattle.panel.specs.Answers.{OfClickPast, OfEvents, OfLongPress, OfPress, OfPressing};
 
 use feed::fields::button_of;
-use host_answers::{HostPosition, HostSeconds, position};
+use host_answers::{HostPosition, HostSeconds};
 use host_input::places::{COUNTS, FLAGS, FLOATS, SECONDS};
 use pointer_events::CODES;
 
@@ -21,8 +22,7 @@ pub extern "C" fn fivvarul_press_origin(
     ensures { OfPress (settled ask.press_origin) (press_of seconds.now floats.now counts.now flags.now) (maybe_position (position_of result)) }
 {
     let press = host_input::read::press(seconds, floats, counts, flags);
-    let answer = panel::buttons::press_origin(press);
-    position(answer)
+    panel::buttons::press_origin(press).into()
 }
 
 #[unsafe(no_mangle)]
@@ -35,8 +35,7 @@ pub extern "C" fn fivvarul_press_start_time(
     ensures { OfPress (settled ask.press_start_time) (press_of seconds.now floats.now counts.now flags.now) (maybe_seconds (seconds_of result)) }
 {
     let press = host_input::read::press(seconds, floats, counts, flags);
-    let answer = panel::buttons::press_start_time(press);
-    host_answers::seconds(answer)
+    panel::buttons::press_start_time(press).into()
 }
 
 #[unsafe(no_mangle)]

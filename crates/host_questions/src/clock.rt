@@ -1,4 +1,5 @@
 // Times and the screen.
+// Kept (C): C calls each question by its own name and lends the arrays one by one: questions alike in their steps stand apart.
 ghost use Rattle.host_input.specs.Held.{clock_of, screen_of};
 ghost use Rattle.model.specs.Questions as ask;
 ghost use Rattle.model.specs.Questions.{bool, number, rectangle, settled};

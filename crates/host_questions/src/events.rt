@@ -1,9 +1,10 @@
 // The pass's pointer events.
+// Kept (C): C calls each question by its own name and lends the arrays one by one: questions alike in their steps stand apart.
 ghost use Rattle.panel.specs.Answers.{OfEventAt, OfEventCount};
 ghost use Rattle.host_answers.specs.Answers.{event_of};
 ghost use Rattle.host_input.specs.Held.{press_of};
 
-use host_answers::{HostPointerEvent, event};
+use host_answers::HostPointerEvent;
 use host_input::places::{COUNTS, FLAGS, FLOATS, SECONDS};
 use pointer_events::{CODES, PLACES};
 
@@ -35,6 +36,5 @@ pub extern "C" fn fivvarul_pointer_event(
     ensures { OfEventAt (press_of seconds.now floats.now counts.now flags.now) codes.now places.now i (event_of result) }
 {
     let press = host_input::read::press(seconds, floats, counts, flags);
-    let answer = panel::buttons::pointer_event(press, codes, places, i);
-    event(answer)
+    panel::buttons::pointer_event(press, codes, places, i).into()
 }

@@ -1,4 +1,5 @@
 // Keys. `key` is its place in egui's Key; over 144 it is not down and has 0 presses.
+// Kept (C): C calls each question by its own name and lends the arrays one by one: questions alike in their steps stand apart.
 ghost use Rattle.host_input.specs.Held.{keys_of};
 ghost use Rattle.data.specs.Modifiers.{modifiers_of};
 ghost use Rattle.model.specs.Questions as ask;
@@ -48,6 +49,5 @@ pub extern "C" fn fivvarul_modifiers(flags: &[bool; FLAGS], keys_down: &[u64; KE
     ensures { OfKeys (ask.settled ask.modifiers) (keys_of flags.now keys_down.now) (ask.flags (modifiers_of result)) }
 {
     let keys = host_input::read::keys(flags, keys_down);
-    let answer = panel::keys::modifiers(keys);
-    answer.number()
+    panel::keys::modifiers(keys).number()
 }

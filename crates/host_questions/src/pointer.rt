@@ -1,13 +1,12 @@
 // Where the pointer is and how it moves.
+// Kept (C): C calls each question by its own name and lends the arrays one by one: questions alike in their steps stand apart.
 ghost use Rattle.host_answers.specs.Answers.{maybe_vector_of, number_of, position_of, vector_of};
 ghost use Rattle.host_input.specs.Held.{clock_of, place_of, pointer_of};
 ghost use Rattle.model.specs.Questions as ask;
 ghost use Rattle.model.specs.Questions.{bool, maybe_number, maybe_position, maybe_vector, settled, vector};
 ghost use Rattle.panel.specs.Answers.{OfLastMove, OfPlace, OfPlaceAndPress};
 
-use host_answers::{
-    HostMaybeVector, HostNumber, HostPosition, HostVector, maybe_vector, number, position, vector,
-};
+use host_answers::{HostMaybeVector, HostNumber, HostPosition, HostVector};
 use host_input::places::{COUNTS, FLAGS, FLOATS, SECONDS};
 
 #[unsafe(no_mangle)]
@@ -19,8 +18,7 @@ pub extern "C" fn fivvarul_delta(
     ensures { OfPlace (settled ask.delta) (place_of floats.now counts.now flags.now) (vector (vector_of result)) }
 {
     let place = host_input::read::place(floats, counts, flags);
-    let answer = panel::pointer::delta(place);
-    vector(answer)
+    panel::pointer::delta(place).into()
 }
 
 #[unsafe(no_mangle)]
@@ -32,8 +30,7 @@ pub extern "C" fn fivvarul_motion(
     ensures { OfPlace (settled ask.motion) (place_of floats.now counts.now flags.now) (maybe_vector (maybe_vector_of result)) }
 {
     let place = host_input::read::place(floats, counts, flags);
-    let answer = panel::pointer::motion(place);
-    maybe_vector(answer)
+    panel::pointer::motion(place).into()
 }
 
 #[unsafe(no_mangle)]
@@ -45,8 +42,7 @@ pub extern "C" fn fivvarul_velocity(
     ensures { OfPlace (settled ask.velocity) (place_of floats.now counts.now flags.now) (vector (vector_of result)) }
 {
     let place = host_input::read::place(floats, counts, flags);
-    let answer = panel::pointer::velocity(place);
-    vector(answer)
+    panel::pointer::velocity(place).into()
 }
 
 #[unsafe(no_mangle)]
@@ -58,8 +54,7 @@ pub extern "C" fn fivvarul_direction(
     ensures { OfPlace (settled ask.direction) (place_of floats.now counts.now flags.now) (vector (vector_of result)) }
 {
     let place = host_input::read::place(floats, counts, flags);
-    let answer = panel::pointer::direction(place);
-    vector(answer)
+    panel::pointer::direction(place).into()
 }
 
 #[unsafe(no_mangle)]
@@ -71,8 +66,7 @@ pub extern "C" fn fivvarul_latest_pos(
     ensures { OfPlace (settled ask.latest_pos) (place_of floats.now counts.now flags.now) (maybe_position (position_of result)) }
 {
     let place = host_input::read::place(floats, counts, flags);
-    let answer = panel::pointer::latest_pos(place);
-    position(answer)
+    panel::pointer::latest_pos(place).into()
 }
 
 #[unsafe(no_mangle)]
@@ -84,8 +78,7 @@ pub extern "C" fn fivvarul_hover_pos(
     ensures { OfPlace (settled ask.hover_pos) (place_of floats.now counts.now flags.now) (maybe_position (position_of result)) }
 {
     let place = host_input::read::place(floats, counts, flags);
-    let answer = panel::pointer::hover_pos(place);
-    position(answer)
+    panel::pointer::hover_pos(place).into()
 }
 
 #[unsafe(no_mangle)]
@@ -97,8 +90,7 @@ pub extern "C" fn fivvarul_interact_pos(
     ensures { OfPlace (settled ask.interact_pos) (place_of floats.now counts.now flags.now) (maybe_position (position_of result)) }
 {
     let place = host_input::read::place(floats, counts, flags);
-    let answer = panel::pointer::interact_pos(place);
-    position(answer)
+    panel::pointer::interact_pos(place).into()
 }
 
 #[unsafe(no_mangle)]
@@ -148,8 +140,7 @@ pub extern "C" fn fivvarul_time_since_last_movement(
 {
     let pointer = host_input::read::pointer(seconds, floats, counts, flags);
     let clock = host_input::read::clock(seconds, floats);
-    let answer = panel::pointer::time_since_last_movement(pointer, clock);
-    number(answer)
+    panel::pointer::time_since_last_movement(pointer, clock).into()
 }
 
 #[unsafe(no_mangle)]
@@ -162,6 +153,5 @@ pub extern "C" fn fivvarul_total_drag_delta(
     ensures { OfPlaceAndPress (settled ask.total_drag_delta) (pointer_of seconds.now floats.now counts.now flags.now) (maybe_vector (maybe_vector_of result)) }
 {
     let pointer = host_input::read::pointer(seconds, floats, counts, flags);
-    let answer = panel::pointer::total_drag_delta(pointer);
-    maybe_vector(answer)
+    panel::pointer::total_drag_delta(pointer).into()
 }

@@ -1,4 +1,5 @@
 // How long to wait for a repaint.
+// Kept (C): C calls each question by its own name and lends the arrays one by one: questions alike in their steps stand apart.
 ghost use Rattle.host_answers.specs.Answers.{seconds_of};
 ghost use Rattle.host_input.specs.Held.{clock_of, keys_of, pointer_of, screen_of, wheel_of};
 ghost use Rattle.host_input.specs.Places as at;
@@ -60,8 +61,5 @@ pub extern "C" fn fivvarul_wants_repaint_after(
         flags3,
         starts,
     );
-    let answer = panel::repaint::wants_repaint_after(
-        clock, screen, pointer, codes, wheel, keys, devices,
-    );
-    host_answers::seconds(answer)
+    panel::repaint::wants_repaint_after(clock, screen, pointer, codes, wheel, keys, devices).into()
 }

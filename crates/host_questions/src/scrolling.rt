@@ -1,11 +1,12 @@
 // The wheel.
+// Kept (C): C calls each question by its own name and lends the arrays one by one: questions alike in their steps stand apart.
 ghost use Rattle.host_answers.specs.Answers.{source_of, vector_of};
 ghost use Rattle.host_input.specs.Held.{clock_of, sums_of, wheel_of};
 ghost use Rattle.model.specs.Questions as ask;
 ghost use Rattle.model.specs.Questions.{bool, number, settled, source, vector};
 ghost use Rattle.panel.specs.Answers.{OfSums, OfWheel, OfWheelAt};
 
-use host_answers::{HostSource, HostVector, source, vector};
+use host_answers::{HostSource, HostVector};
 use host_input::places::{FLAGS, FLOATS, SECONDS};
 
 #[unsafe(no_mangle)]
@@ -13,8 +14,7 @@ pub extern "C" fn fivvarul_smooth_scroll_delta(floats: &[f32; FLOATS]) -> HostVe
     ensures { OfSums (settled ask.smooth_scroll_delta) (sums_of floats.now) (vector (vector_of result)) }
 {
     let sums = host_input::read::sums(floats);
-    let answer = panel::scrolling::smooth_scroll_delta(sums);
-    vector(answer)
+    panel::scrolling::smooth_scroll_delta(sums).into()
 }
 
 #[unsafe(no_mangle)]
@@ -38,8 +38,7 @@ pub extern "C" fn fivvarul_scroll_source(
     ensures { OfWheel (settled ask.scroll_source) (wheel_of seconds.now floats.now flags.now) (source (source_of result)) }
 {
     let wheel = host_input::read::wheel(seconds, floats, flags);
-    let answer = panel::scrolling::scroll_source(wheel);
-    source(answer)
+    panel::scrolling::scroll_source(wheel).into()
 }
 
 #[unsafe(no_mangle)]

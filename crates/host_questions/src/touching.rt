@@ -1,4 +1,5 @@
 // Touches and gestures.
+// Kept (C): C calls each question by its own name and lends the arrays one by one: questions alike in their steps stand apart.
 ghost use Rattle.host_answers.specs.Answers.{gesture_of};
 ghost use Rattle.host_input.specs.Held.{clock_of, pointer_of, screen_of};
 ghost use Rattle.host_input.specs.Places as at;
@@ -10,7 +11,7 @@ ghost use Rattle.panel.specs.Answers.{OfDevices, OfLongTouch};
 ghost use Rattle.std.specs.Prelude.{get_or};
 
 use data::limits::MAX_DEVICES;
-use host_answers::{HostGesture, gesture};
+use host_answers::HostGesture;
 use host_input::places::{COUNTS, DEVICES, FLAGS, FLOATS, SECONDS};
 use host_touch::{FLAGS as DEVICE_FLAGS, FLOATS as DEVICE_FLOATS, IDS};
 
@@ -125,8 +126,7 @@ pub extern "C" fn fivvarul_multi_touch(
         flags3,
         starts,
     );
-    let answer = panel::touching::multi_touch(devices);
-    gesture(answer)
+    panel::touching::multi_touch(devices).into()
 }
 
 #[unsafe(no_mangle)]
@@ -165,8 +165,7 @@ pub extern "C" fn fivvarul_info(
         flags3,
         starts,
     );
-    let answer = panel::touching::info(devices, device_id);
-    gesture(answer)
+    panel::touching::info(devices, device_id).into()
 }
 
 #[unsafe(no_mangle)]

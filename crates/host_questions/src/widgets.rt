@@ -1,11 +1,12 @@
 // What a widget set is asked. The host keeps the counts of its widgets and layers, and its three arrays.
+// Kept (C): C calls each question by its own name, and lends the set's counts and arrays one by one: questions alike in their steps stand apart.
 ghost use Rattle.widget_rect.specs.Questions.{Empty, Contains, Gets, Orders, Counts, Layers};
 ghost use Rattle.host_answers.specs.Answers.{widget_of, order_of, layer_of};
 ghost use Rattle.host_interact.specs.Interact.{set_of};
 ghost use Rattle.host_widgets.specs.Insert as Insert;
 
 use data::layers::LayerId;
-use host_answers::{HostLayer, HostOrder, HostWidget, layer, order, widget};
+use host_answers::{HostLayer, HostOrder, HostWidget};
 use host_widgets::HostSet;
 use widget_index::table::{Edges, Numbers, WidgetRects, Words};
 
@@ -47,8 +48,7 @@ pub extern "C" fn fivvarul_get(
     ensures { Gets (set_of widgets layers) words.now numbers.now edges.now id (widget_of result) }
 {
     let set = WidgetRects { widgets, layers };
-    let answer = panel::widgets::get(set, words, numbers, edges, id);
-    widget(answer)
+    panel::widgets::get(set, words, numbers, edges, id).into()
 }
 
 // In which layer, and in which order in that layer?
@@ -64,8 +64,7 @@ pub extern "C" fn fivvarul_order(
     ensures { Orders (set_of widgets layers) words.now numbers.now edges.now id (order_of result) }
 {
     let set = WidgetRects { widgets, layers };
-    let answer = panel::widgets::order(set, words, numbers, edges, id);
-    order(answer)
+    panel::widgets::order(set, words, numbers, edges, id).into()
 }
 
 // How many widgets the set counts in a layer.
@@ -95,6 +94,5 @@ pub extern "C" fn fivvarul_layer_id(
     ensures { Layers (set_of widgets layers) words.now numbers.now i (layer_of result) }
 {
     let set = WidgetRects { widgets, layers };
-    let answer = panel::widgets::layer_id(set, words, numbers, i);
-    layer(answer)
+    panel::widgets::layer_id(set, words, numbers, i).into()
 }

@@ -1,4 +1,5 @@
 // Zoom, rotation and translation: those of the first device by id that has a gesture, or else the sums of the pass.
+// Kept (C): C calls each question by its own name and lends the arrays one by one: questions alike in their steps stand apart.
 ghost use Rattle.host_answers.specs.Answers.{rotation_of, vector_of, zoom_2d_of, zoom_of};
 ghost use Rattle.host_input.specs.Held.{keys_of, screen_of, sums_of};
 ghost use Rattle.host_input.specs.Places as at;
@@ -11,9 +12,7 @@ ghost use Rattle.scroll_questions.specs.Answers.{zoom_2d_answer, zoom_answer};
 ghost use Rattle.std.specs.Prelude.{get_or};
 
 use data::limits::MAX_DEVICES;
-use host_answers::{
-    HostRotation, HostVector, HostZoom, HostZoom2d, rotation, vector, zoom, zoom_2d,
-};
+use host_answers::{HostRotation, HostVector, HostZoom, HostZoom2d};
 use host_input::places::{COUNTS, DEVICES, FLAGS, FLOATS, KEYS, SECONDS};
 use host_touch::{FLAGS as DEVICE_FLAGS, FLOATS as DEVICE_FLOATS, IDS};
 
@@ -54,8 +53,7 @@ pub extern "C" fn fivvarul_zoom_delta(
         starts,
     );
     let sums = host_input::read::sums(floats);
-    let answer = panel::zoom::zoom_delta(devices, sums);
-    zoom(answer)
+    panel::zoom::zoom_delta(devices, sums).into()
 }
 
 #[unsafe(no_mangle)]
@@ -100,8 +98,7 @@ pub extern "C" fn fivvarul_zoom_delta_2d(
     let sums = host_input::read::sums(floats);
     let keys = host_input::read::keys(flags, keys_down);
     let screen = host_input::read::screen(seconds, floats, flags);
-    let answer = panel::zoom::zoom_delta_2d(devices, sums, keys, screen);
-    zoom_2d(answer)
+    panel::zoom::zoom_delta_2d(devices, sums, keys, screen).into()
 }
 
 #[unsafe(no_mangle)]
@@ -141,8 +138,7 @@ pub extern "C" fn fivvarul_rotation_delta(
         starts,
     );
     let sums = host_input::read::sums(floats);
-    let answer = panel::zoom::rotation_delta(devices, sums);
-    rotation(answer)
+    panel::zoom::rotation_delta(devices, sums).into()
 }
 
 #[unsafe(no_mangle)]
@@ -182,6 +178,5 @@ pub extern "C" fn fivvarul_translation_delta(
         starts,
     );
     let sums = host_input::read::sums(floats);
-    let answer = panel::zoom::translation_delta(devices, sums);
-    vector(answer)
+    panel::zoom::translation_delta(devices, sums).into()
 }

@@ -1,11 +1,12 @@
 -- A touch device as the host's memory holds it: `ids` are its id, the count of its touches and their ids; `floats` and `flags` are those of its touches
 -- and of its gesture; `start` is the time at which the gesture started. Any contents mean some device.
-use Rattle.std.specs.Prelude.{ℕ, ◌+◌, ◌*◌, Bool, false, cond, List, [], ◌∷◌, get_or, Float, Option, None, Some}
+use Rattle.std.specs.Prelude.{ℕ, ◌+◌, ◌*◌, Bool, false, List, [], ◌∷◌, get_or, Float, Option}
+use Rattle.std.specs.Bool.{then_some}
 use Rattle.std.specs.Float.{nan}
 use Rattle.model.specs.Types.{ActiveTouch, DynGestureState, GestureState}
 use Rattle.touches.specs.declared.Touches.{Touches}
 use Rattle.touch_device.specs.declared.Device.{Device}
-use Rattle.host_values.specs.Values.{force_of, pinch_of}
+use Rattle.host_values.specs.Values.{pinch_of}
 
 -- ---- places
 abbrev pub touch_ids : ℕ
@@ -40,7 +41,7 @@ vertical_pinch = 13
 
 -- ---- read
 abbrev pub touch_of : ℕ → Float → Float → Bool → Float → ActiveTouch
-touch_of id x y given f = record { id = id; pos = record { x = x; y = y }; force = force_of given f }
+touch_of id x y given f = record { id = id; pos = record { x = x; y = y }; force = then_some given f }
 
 -- touch i: its id, then its position and its force, and whether it has a force
 abbrev pub touch_at : List ℕ → List Float → List Bool → ℕ → ActiveTouch
@@ -78,20 +79,18 @@ state_at floats i =
     }
 
 abbrev pub previous_of : Bool → List Float → Option DynGestureState
-previous_of given floats = cond given (Some (state_at floats previous_state)) None
+previous_of given floats = then_some given (state_at floats previous_state)
 
 abbrev pub gesture_of : List Float → List Bool → Float → Option GestureState
 gesture_of floats flags start =
-    cond (get_or flags has_gesture false)
-    (Some
+    then_some (get_or flags has_gesture false)
     (record {
       start_time = start;
       start_pointer_pos = record { x = get_or floats gesture_start nan; y = get_or floats (gesture_start + 1) nan };
       pinch_type = pinch_of (get_or flags horizontal_pinch false) (get_or flags vertical_pinch false);
       previous = previous_of (get_or flags has_previous false) floats;
       current = state_at floats current_state;
-    }))
-    None
+    })
 
 abbrev pub device_of : List ℕ → List Float → List Bool → Float → Device
 device_of ids floats flags start =

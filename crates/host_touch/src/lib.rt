@@ -4,13 +4,13 @@
 
 ghost use Rattle.std.specs.Prelude.{◌≡◌, ◌+◌, ◌<◌};
 ghost use Rattle.data.specs.Limits.{max_touches};
-ghost use Rattle.host_touch.specs.Device.{float_count, touch_of, touch_at, touches_of, state_at, previous_of, gesture_of, device_of};
+ghost use Rattle.host_touch.specs.Device.{float_count, touch_at, touches_of, state_at, gesture_of, device_of};
 
 use data::limits::MAX_TOUCHES;
 use data::touch::{ActiveTouch, DynGestureState, GestureState};
 use emath::pos2::Pos2;
 use emath::vec2::Vec2;
-use host_values::{force, pinch};
+use host_values::pinch;
 use touch_device::Device;
 use touches::Touches;
 
@@ -52,14 +52,6 @@ pub const FLAGS: usize = IS_VERTICAL + 1;
 
 // ---- read
 
-fn touch(id: u64, x: f32, y: f32, given: bool, f: f32) -> ActiveTouch
-    ensures { result ≡ touch_of id x y given f }
-{
-    let pos = Pos2 { x, y };
-    let force = force(given, f);
-    ActiveTouch { id, pos, force }
-}
-
 // Touch `i`.
 fn touch_at(
     ids: &[u64; IDS],
@@ -71,31 +63,28 @@ fn touch_at(
     ensures { result ≡ touch_at ids.now floats.now flags.now i }
 {
     let at = TOUCH_FLOATS * i;
-    touch(
-        ids[TOUCH_IDS + i],
-        floats[at],
-        floats[at + 1],
-        flags[i],
-        floats[at + 2],
-    )
+    ActiveTouch {
+        id: ids[TOUCH_IDS + i],
+        pos: Pos2 {
+            x: floats[at],
+            y: floats[at + 1],
+        },
+        force: flags[i].then_some(floats[at + 2]),
+    }
 }
 
 fn touches_held(ids: &[u64; IDS], floats: &[f32; FLOATS], flags: &[bool; FLAGS]) -> Touches
     ensures { result ≡ touches_of ids.now floats.now flags.now }
 {
-    let t0 = touch_at(ids, floats, flags, 0);
-    let t1 = touch_at(ids, floats, flags, 1);
-    let t2 = touch_at(ids, floats, flags, 2);
-    let t3 = touch_at(ids, floats, flags, 3);
-    let t4 = touch_at(ids, floats, flags, 4);
-    let t5 = touch_at(ids, floats, flags, 5);
-    let t6 = touch_at(ids, floats, flags, 6);
-    let t7 = touch_at(ids, floats, flags, 7);
-    let t8 = touch_at(ids, floats, flags, 8);
-    let t9 = touch_at(ids, floats, flags, 9);
-    let places = [t0, t1, t2, t3, t4, t5, t6, t7, t8, t9];
-    let count = ids[TOUCH_COUNT] as usize;
-    Touches { count, places }
+    let first = touch_at(ids, floats, flags, 0);
+    let mut places = [first; MAX_TOUCHES];
+    for i in 1..MAX_TOUCHES {
+        places[i] = touch_at(ids, floats, flags, i);
+    }
+    Touches {
+        count: ids[TOUCH_COUNT] as usize,
+        places,
+    }
 }
 
 // A gesture's state, from place `at` on.
@@ -103,58 +92,38 @@ fn state_at(floats: &[f32; FLOATS], at: usize) -> DynGestureState
     requires { at + 7 < float_count }
     ensures { result ≡ state_at floats.now at }
 {
-    let avg_abs_distance2 = Vec2 {
-        x: floats[at + 1],
-        y: floats[at + 2],
-    };
-    let avg_pos = Pos2 {
-        x: floats[at + 3],
-        y: floats[at + 4],
-    };
-    let heading = Vec2 {
-        x: floats[at + 6],
-        y: floats[at + 7],
-    };
     DynGestureState {
         avg_distance: floats[at],
-        avg_abs_distance2,
-        avg_pos,
+        avg_abs_distance2: Vec2 {
+            x: floats[at + 1],
+            y: floats[at + 2],
+        },
+        avg_pos: Pos2 {
+            x: floats[at + 3],
+            y: floats[at + 4],
+        },
         avg_force: floats[at + 5],
-        heading,
+        heading: Vec2 {
+            x: floats[at + 6],
+            y: floats[at + 7],
+        },
     }
-}
-
-fn previous(given: bool, floats: &[f32; FLOATS]) -> Option<DynGestureState>
-    ensures { result ≡ previous_of given floats.now }
-{
-    if given {
-        let s = state_at(floats, PREVIOUS);
-        return Some(s);
-    }
-    None
 }
 
 fn gesture(floats: &[f32; FLOATS], flags: &[bool; FLAGS], start_time: f64) -> Option<GestureState>
     ensures { result ≡ gesture_of floats.now flags.now start_time }
 {
-    if flags[HAS_GESTURE] {
-        let start_pointer_pos = Pos2 {
+    let g = GestureState {
+        start_time,
+        start_pointer_pos: Pos2 {
             x: floats[START],
             y: floats[START_Y],
-        };
-        let pinch_type = pinch(flags[IS_HORIZONTAL], flags[IS_VERTICAL]);
-        let current = state_at(floats, CURRENT);
-        let previous = previous(flags[HAS_PREVIOUS], floats);
-        let g = GestureState {
-            start_time,
-            start_pointer_pos,
-            pinch_type,
-            previous,
-            current,
-        };
-        return Some(g);
-    }
-    None
+        },
+        pinch_type: pinch(flags[IS_HORIZONTAL], flags[IS_VERTICAL]),
+        previous: flags[HAS_PREVIOUS].then_some(state_at(floats, PREVIOUS)),
+        current: state_at(floats, CURRENT),
+    };
+    flags[HAS_GESTURE].then_some(g)
 }
 
 pub fn device(
@@ -165,11 +134,9 @@ pub fn device(
 ) -> Device
     ensures { result ≡ device_of ids.now floats.now flags.now start_time }
 {
-    let touches = touches_held(ids, floats, flags);
-    let gesture_state = gesture(floats, flags, start_time);
     Device {
         id: ids[ID],
-        touches,
-        gesture_state,
+        touches: touches_held(ids, floats, flags),
+        gesture_state: gesture(floats, flags, start_time),
     }
 }

@@ -5,7 +5,6 @@ use Rattle.data.specs.declared.widget.WidgetRect.{WidgetRect}
 use Rattle.widget_index.specs.declared.table.WidgetRects.{WidgetRects}
 use Rattle.widget_append.specs.declared.Insertion.{Insertion}
 use Rattle.data.specs.declared.refusal.InsertRefusal.{InsertRefusal}
-use Rattle.widget_append.specs.declared.Decision.{Decision}
 use Rattle.widget_append.specs.Append.{Gives}
 use Rattle.widget_insert.specs.Insert.{decide}
 use Rattle.widget_rect.specs.Told as Told
@@ -21,26 +20,28 @@ abbrev pub inserted_of : Result Insertion InsertRefusal → HostInserted
 inserted_of (Err why) = record { number = insert_refusal_number why; position = 0; count = 0 }
 inserted_of (Ok i) = record { number = 0; position = i.position; count = i.count }
 
-abbrev pub insertion_of : Decision → HostInsertion
-insertion_of d =
+-- of a refused insertion: the set and the record as they were handed in, and no place of the slice
+abbrev pub insertion_of : HostSet → WidgetRect → Result Insertion InsertRefusal → HostInsertion
+insertion_of h w (Err why) = record { answer = inserted_of (Err why); «set» = h; from = 0; to = 0; widget = w }
+insertion_of h w (Ok i) =
     record {
-      answer = inserted_of d.answer;
-      «set» = record { widgets = d.«set».widgets; layers = d.«set».layers };
-      from = d.from;
-      to = d.to;
-      widget = d.widget;
+      answer = inserted_of (Ok i);
+      «set» = record { widgets = i.«set».widgets; layers = i.«set».layers };
+      from = i.from;
+      to = i.to;
+      widget = i.widget;
     }
 
 -- what is done in the set, with so many places lent
 pub record Decides (h : HostSet) (words numbers : List ℕ) (edges : List Float) (lent : ℕ) (w : WidgetRect) (top : Bool) (r : HostInsertion)
     (ws ns : List ℕ) (es : List Float) : Type 0 where
-  pub decision : Decision
+  pub decision : Result Insertion InsertRefusal
   pub gives : Gives (decide (set_of h) words numbers edges lent w top) decision ws ns es
-  pub crosses : r ≡ insertion_of decision
+  pub crosses : r ≡ insertion_of h w decision
 
 -- the whole insertion: `panel`'s, of the set and of the lent slice
 pub record Inserts (h : HostSet) (words numbers : List ℕ) (edges : List Float) (slice : List WidgetRect) (w : WidgetRect) (top : Bool) (r : HostInsertion)
     (ws ns : List ℕ) (es : List Float) (zs : List WidgetRect) : Type 0 where
-  pub decision : Decision
+  pub decision : Result Insertion InsertRefusal
   pub panels : Told.Inserts (set_of h) words numbers edges slice w top decision ws ns es zs
-  pub crosses : r ≡ insertion_of decision
+  pub crosses : r ≡ insertion_of h w decision

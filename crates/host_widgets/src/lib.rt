@@ -1,8 +1,9 @@
 // A widget set and an insertion as they cross to and from the host, which keeps the counts of the set and its three arrays.
+// Kept (C): counts, and the number of a refusal beside them: C reads the records, and lends the arrays one by one.
 #![tactic(auto)]
 
 ghost use Rattle.std.specs.Prelude.{◌≡◌};
-ghost use Rattle.host_widgets.specs.Insert.{inserted_of, Decides};
+ghost use Rattle.host_widgets.specs.Insert.{insertion_of, Decides};
 
 use data::refusal::InsertRefusal;
 use data::widget::WidgetRect;
@@ -39,19 +40,35 @@ pub struct HostInsertion {
     pub widget: WidgetRect,
 }
 
-fn inserted(a: Result<Insertion, InsertRefusal>) -> HostInserted
-    ensures { result ≡ inserted_of a }
+// What crosses of an insertion of `w` into `before`.
+fn crossed(before: HostSet, w: WidgetRect, a: Result<Insertion, InsertRefusal>) -> HostInsertion
+    ensures { result ≡ insertion_of before w a }
 {
     match a {
-        Err(why) => HostInserted {
-            number: why.number(),
-            position: 0,
-            count: 0,
+        Err(why) => HostInsertion {
+            answer: HostInserted {
+                number: why.number(),
+                position: 0,
+                count: 0,
+            },
+            set: before,
+            from: 0,
+            to: 0,
+            widget: w,
         },
-        Ok(Insertion { position, count }) => HostInserted {
-            number: 0,
-            position,
-            count,
+        Ok(i) => HostInsertion {
+            answer: HostInserted {
+                number: 0,
+                position: i.position,
+                count: i.count,
+            },
+            set: HostSet {
+                widgets: i.set.widgets,
+                layers: i.set.layers,
+            },
+            from: i.from,
+            to: i.to,
+            widget: i.widget,
         },
     }
 }
@@ -72,20 +89,5 @@ pub fn decided(
         widgets: set.widgets,
         layers: set.layers,
     };
-    let d = decide(h, words, numbers, edges, lent, w, top);
-    let a = d.answer;
-    let after = d.set;
-    let widget = d.widget;
-    let answer = inserted(a);
-    let set = HostSet {
-        widgets: after.widgets,
-        layers: after.layers,
-    };
-    HostInsertion {
-        answer,
-        set,
-        from: d.from,
-        to: d.to,
-        widget,
-    }
+    crossed(set, w, decide(h, words, numbers, edges, lent, w, top))
 }

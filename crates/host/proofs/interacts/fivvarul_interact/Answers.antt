@@ -8,8 +8,8 @@ returns-in-Err c =
       devices = _;
       devices_are = c.devices-devices.ensures;
       answer = _;
-      panels = rw (c.clock-clock.ensures, c.screen-screen.ensures, c.pointer-pointer.ensures, c.interaction-interaction.ensures, c.hit-click.ensures, c.hit-drag.ensures) at c.interact-a.ensures;
-      leaves = rw c.in-Err.is (record { answer = c.refused.ensures; ids_kept = refl; flags_kept = refl; tally_kept = refl });
+      panels = rw (c.clock-clock.ensures, c.screen-screen.ensures, c.pointer-pointer.ensures, c.interaction-interaction.ensures, c.hit-click.ensures, c.hit-drag.ensures) at c.interact.ensures;
+      leaves = rw c.in-Err.is (record { answer = c.into.ensures; ids_kept = refl; flags_kept = refl; tally_kept = refl });
     }
 
 pub returns-in-Ok : goal.returns-in-Ok
@@ -18,6 +18,6 @@ returns-in-Ok c =
       devices = _;
       devices_are = c.devices-devices.ensures;
       answer = _;
-      panels = rw (c.clock-clock.ensures, c.screen-screen.ensures, c.pointer-pointer.ensures, c.interaction-interaction.ensures, c.hit-click.ensures, c.hit-drag.ensures) at c.interact-a.ensures;
-      leaves = rw c.in-Ok.is (record { number = c.answered.ensures.0; snapshot = c.answered.ensures.1; interaction = written _ _ _ c.ids.ensures c.flags.ensures; tally = refl });
+      panels = rw (c.clock-clock.ensures, c.screen-screen.ensures, c.pointer-pointer.ensures, c.interaction-interaction.ensures, c.hit-click.ensures, c.hit-drag.ensures) at c.interact.ensures;
+      leaves = rw c.in-Ok.is (record { number = c.into-in-Ok.ensures.0; snapshot = c.into-in-Ok.ensures.1; interaction = written _ _ _ c.ids.ensures c.flags.ensures; tally = refl });
     }

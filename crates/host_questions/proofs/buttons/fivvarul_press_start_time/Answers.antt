@@ -1,4 +1,4 @@
 use Rattle.host_questions.proofs.buttons.fivvarul_press_start_time.Goals as goal
 
 pub returns : goal.returns
-returns c = rw c.seconds.ensures (rw c.press-press.ensures at c.press_start_time-answer.ensures)
+returns c = rw c.into.ensures (rw c.press-press.ensures at c.press_start_time.ensures)

@@ -1,4 +1,4 @@
 use Rattle.host_questions.proofs.dragging.fivvarul_potential_drag_id.Goals as goal
 
 pub returns : goal.returns
-returns c = rw c.id.ensures (rw c.interaction-interaction.ensures at c.potential_drag_id-answer.ensures)
+returns c = rw c.into.ensures (rw c.interaction-interaction.ensures at c.potential_drag_id.ensures)

@@ -1,4 +1,4 @@
 use Rattle.host_questions.proofs.pointer.fivvarul_direction.Goals as goal
 
 pub returns : goal.returns
-returns c = rw c.vector.ensures (rw c.place-place.ensures at c.direction-answer.ensures)
+returns c = rw c.into.ensures (rw c.place-place.ensures at c.direction.ensures)

@@ -1,4 +1,4 @@
 use Rattle.host_questions.proofs.pointer.fivvarul_hover_pos.Goals as goal
 
 pub returns : goal.returns
-returns c = rw c.position.ensures (rw c.place-place.ensures at c.hover_pos-answer.ensures)
+returns c = rw c.into.ensures (rw c.place-place.ensures at c.hover_pos.ensures)

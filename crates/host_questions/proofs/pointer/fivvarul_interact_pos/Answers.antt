@@ -1,4 +1,4 @@
 use Rattle.host_questions.proofs.pointer.fivvarul_interact_pos.Goals as goal
 
 pub returns : goal.returns
-returns c = rw c.position.ensures (rw c.place-place.ensures at c.interact_pos-answer.ensures)
+returns c = rw c.into.ensures (rw c.place-place.ensures at c.interact_pos.ensures)

@@ -1,4 +1,4 @@
 use Rattle.host_questions.proofs.pointer.fivvarul_motion.Goals as goal
 
 pub returns : goal.returns
-returns c = rw c.maybe_vector.ensures (rw c.place-place.ensures at c.motion-answer.ensures)
+returns c = rw c.into.ensures (rw c.place-place.ensures at c.motion.ensures)

@@ -1,4 +1,4 @@
 use Rattle.host_questions.proofs.widgets.fivvarul_get.Goals as goal
 
 pub returns : goal.returns
-returns c = rw c.widget.ensures c.get-answer.ensures
+returns c = rw c.into.ensures c.get.ensures

@@ -1,4 +1,4 @@
 use Rattle.host_questions.proofs.zoom.fivvarul_rotation_delta.Goals as goal
 
 pub returns : goal.returns
-returns c = record { devices = c.devices-devices.result; devices_are = c.devices-devices.ensures; holds = rw c.rotation.ensures (rw c.sums-sums.ensures at c.rotation_delta-answer.ensures.of_gesture) }
+returns c = record { devices = c.devices-devices.result; devices_are = c.devices-devices.ensures; holds = rw c.into.ensures (rw c.sums-sums.ensures at c.rotation_delta.ensures.of_gesture) }

@@ -1,4 +1,4 @@
 use Rattle.host_questions.proofs.zoom.fivvarul_zoom_delta_2d.Goals as goal
 
 pub returns : goal.returns
-returns c = record { devices = c.devices-devices.result; devices_are = c.devices-devices.ensures; holds = rw (c.sums-sums.ensures, c.keys-keys.ensures, c.screen-screen.ensures, ← c.zoom_2d.ensures) at c.zoom_delta_2d-answer.ensures }
+returns c = record { devices = c.devices-devices.result; devices_are = c.devices-devices.ensures; holds = rw (c.sums-sums.ensures, c.keys-keys.ensures, c.screen-screen.ensures, ← c.into.ensures) at c.zoom_delta_2d.ensures }

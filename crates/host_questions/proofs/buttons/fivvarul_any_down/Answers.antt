@@ -1,4 +1,0 @@
-use Rattle.host_questions.proofs.buttons.fivvarul_any_down.Goals as goal
-
-pub returns : goal.returns
-returns c = rw c.press-press.ensures at c.any_down.ensures

@@ -1,4 +1,0 @@
-use Rattle.host_touch.proofs.kept.previous_or.Goals as goal
-
-pub returns-in-Some : goal.returns-in-Some
-returns-in-Some c = rw c.in-Some.is

@@ -1,4 +1,0 @@
-use Rattle.host_values.proofs.time.Goals as goal
-
-pub returns-then-given : goal.returns-then-given
-returns-then-given c = rw c.if-given.true
