@@ -2,13 +2,12 @@
 use crate::passes::{input, of_state};
 use crate::sums::{mix, one_if};
 use data::pointer::PointerButton;
-use emath_history::history::{MAX_LEN, PARTS};
 use input_pass::begin::begin_pass;
 use input_questions::keys::{key_down, key_pressed};
 use input_state::state::{InputState, fresh};
 use key_state::keys::PRESSES;
 use pointer_clicks::{could_any_button_be_click, is_decidedly_dragging};
-use pointer_events::{CODES, PLACES};
+use pointer_events::CODES;
 use pointer_questions::buttons::{
     any_click, any_down, any_pressed, any_released, button_clicked, button_double_clicked,
     button_down, button_pressed, button_released, button_triple_clicked, is_long_press,
@@ -20,13 +19,12 @@ use pointer_questions::moving::{
 use scroll_questions::scrolling::time_since_last_scroll;
 use touch_questions::{any_touches, multi_touch};
 use touch_state::devices::{Devices, none};
+use trace_state::lent::Arrays;
 use wheel_state::is_scrolling;
 
 // any_pressed, any_released, any_click, any_down, and six of the primary button: 10
 fn of_buttons(n: u64, s: InputState, codes: &[u32; CODES]) -> u64 {
-    let pointer = s.pointer;
-    let press = pointer.press;
-    let h = press.held;
+    let h = s.pointer.press.held;
     let b = PointerButton::Primary;
     let i = one_if(one_if(n, any_pressed(h, codes)), any_released(h, codes));
     let j = one_if(one_if(i, any_click(h, codes)), any_down(h));
@@ -46,15 +44,12 @@ fn of_buttons(n: u64, s: InputState, codes: &[u32; CODES]) -> u64 {
 
 // could_any_button_be_click, is_decidedly_dragging, is_long_press, press_origin, press_start_time, time_since_last_click: 6
 fn of_presses(n: u64, s: InputState, codes: &[u32; CODES]) -> u64 {
-    let clock = s.clock;
-    let screen = s.screen;
-    let options = screen.options;
-    let pointer = s.pointer;
-    let press = pointer.press;
+    let options = s.screen.options;
+    let press = s.pointer.press;
     let h = press.held;
     let past = press.past;
-    let time = clock.pointer_time;
-    let started = pointer.started_decidedly_dragging;
+    let time = s.clock.pointer_time;
+    let started = s.pointer.started_decidedly_dragging;
     let moved = past.has_moved_too_much_for_a_click;
     let i = one_if(n, could_any_button_be_click(h, codes, options, time, moved));
     let j = one_if(i, is_decidedly_dragging(h, codes, options, time, moved));
@@ -68,10 +63,8 @@ fn of_presses(n: u64, s: InputState, codes: &[u32; CODES]) -> u64 {
 
 // has_pointer, is_still, is_moving, latest_pos, interact_pos, total_drag_delta, delta, velocity: 8
 fn of_moves(n: u64, s: InputState) -> u64 {
-    let pointer = s.pointer;
-    let p = pointer.place;
-    let press = pointer.press;
-    let h = press.held;
+    let p = s.pointer.place;
+    let h = s.pointer.press.held;
     let d = delta(p);
     let v = velocity(p);
     let i = one_if(one_if(one_if(n, has_pointer(p)), is_still(p)), is_moving(p));
@@ -87,49 +80,43 @@ fn of_moves(n: u64, s: InputState) -> u64 {
 
 // key_down, key_pressed, is_scrolling, time_since_last_scroll, any_touches, multi_touch: 6
 fn of_rest(n: u64, s: InputState, ds: Devices, presses: &[u8; PRESSES]) -> u64 {
-    let clock = s.clock;
-    let keys = s.keys;
-    let wheel = s.wheel;
-    let i = one_if(one_if(n, key_down(keys, 20)), key_pressed(presses, 20));
+    let i = one_if(one_if(n, key_down(s.keys, 20)), key_pressed(presses, 20));
     let j = one_if(
-        one_if(i, is_scrolling(wheel)),
-        time_since_last_scroll(wheel, clock.time) < 0.3,
+        one_if(i, is_scrolling(s.wheel)),
+        time_since_last_scroll(s.wheel, s.clock.time) < 0.3,
     );
     one_if(one_if(j, any_touches(ds)), multi_touch(ds).is_some())
 }
 
-fn asked(n: u64, s: InputState, ds: Devices, codes: &[u32; CODES], presses: &[u8; PRESSES]) -> u64 {
-    let i = of_buttons(n, s, codes);
-    let j = of_presses(i, s, codes);
+fn asked(n: u64, s: InputState, ds: Devices, lent: &Arrays) -> u64 {
+    let i = of_buttons(n, s, &lent.codes);
+    let j = of_presses(i, s, &lent.codes);
     let k = of_moves(j, s);
-    of_rest(k, s, ds, presses)
+    of_rest(k, s, ds, &lent.presses)
 }
 
 pub fn run(times: u32, feed: &[u32]) -> u64 {
-    let mut stamps = [0.0f64; MAX_LEN];
-    let mut positions = [0.0f32; PARTS];
-    let mut codes = [0u32; CODES];
-    let mut places = [0.0f32; PLACES];
-    let mut presses = [0u8; PRESSES];
+    let mut lent = Arrays::default();
     let mut s = fresh();
     let mut ds = none();
     let i = input();
-    let mut n = asked(0, s, ds, &codes, &presses);
+    let mut n = asked(0, s, ds, &lent);
     for _ in 0..times {
-        let r = begin_pass(
+        if let Ok(begun) = begin_pass(
             s,
             ds,
-            &mut stamps,
-            &mut positions,
-            &mut codes,
-            &mut places,
-            &mut presses,
+            &mut lent.times,
+            &mut lent.positions,
+            &mut lent.codes,
+            &mut lent.places,
+            &mut lent.presses,
             i,
             feed,
-        );
-        s = r.state;
-        ds = r.devices;
-        n = asked(n, s, ds, &codes, &presses);
+        ) {
+            s = begun.state;
+            ds = begun.devices;
+        }
+        n = asked(n, s, ds, &lent);
     }
-    mix(of_state(s, ds, &presses), n)
+    mix(of_state(s, ds, &lent.presses), n)
 }

@@ -8,6 +8,7 @@ use data::limits::MAX_WIDGETS;
 use data::widget::WidgetRect;
 use emath::pos2::Pos2;
 use emath::rect::Rect;
+use widget_index::index::Table;
 use widget_index::table::{EDGES, Edges, NUMBERS, Numbers, WORDS, WidgetRects, Words};
 use widget_insert::decide;
 use widget_rect::questions::{empty, order};
@@ -24,10 +25,12 @@ pub struct Step {
 }
 
 // The ids spread over all 64 bits, as hashes do.
+// Kept (plain): a number made of another, as `layer_of` below, and no conversion of a type.
 fn id_of(i: u32) -> u64 {
     (i as u64 + 1) * 0x9e37_79b1 % 0x1_0000_0000 * 0x1_0000_0001
 }
 
+// Kept (plain): see `id_of`.
 fn layer_of(i: u32, layers: u32) -> u32 {
     if layers == 0 {
         return 0;
@@ -35,6 +38,7 @@ fn layer_of(i: u32, layers: u32) -> u32 {
     i % layers
 }
 
+// Kept (plain): std's min, so that its bound is said once for six uses.
 fn place(n: usize) -> usize
     ensures { result ≤ max_widgets }
 {
@@ -70,8 +74,8 @@ fn widget(i: u32, layers: u32) -> WidgetRect {
     WidgetRect {
         id: id_of(i),
         parent_id: 7,
-        layer_id: layer_id,
-        rect: rect,
+        layer_id,
+        rect,
         interact_rect: rect,
         sense: 3,
         enabled: true,
@@ -79,55 +83,81 @@ fn widget(i: u32, layers: u32) -> WidgetRect {
     }
 }
 
-// What an insertion is; any other number: of a known widget. Numbers, as the request has them.
-const NEW: u32 = 0;
+// What an insertion is, by the request's number.
+#[derive(Clone, Copy, PartialEq, Eq)]
+pub enum Mode {
+    New,
+    Known,
+    ToTop,
+    // no insertion: the slots are copied in and out, and nothing else
+    Nothing,
+}
 
-const TO_TOP: u32 = 2;
-
-// No insertion: the slots are copied in and out, and nothing else.
-const NONE: u32 = 3;
-
-fn next_step(
-    h: WidgetRects,
-    words: &mut Words,
-    numbers: &mut Numbers,
-    edges: &mut Edges,
-    i: u32,
-    layers: u32,
-    mode: u32,
-) -> Step {
-    let w = widget(i, layers);
-    if mode == NONE {
-        return Step {
-            set: h,
-            from: 0,
-            to: 0,
-            widget: w,
-        };
+impl From<u32> for Mode {
+    fn from(number: u32) -> Mode {
+        match number {
+            0 => Mode::New,
+            2 => Mode::ToTop,
+            3 => Mode::Nothing,
+            _ => Mode::Known,
+        }
     }
-    let d = decide(h, words, numbers, edges, span(layers), w, mode == TO_TOP);
-    let set = d.set;
-    let after = d.widget;
+}
+
+// The set and the slots as they are.
+fn no_step(set: WidgetRects, widget: WidgetRect) -> Step {
     Step {
-        set: set,
-        from: d.from,
-        to: d.to,
-        widget: after,
+        set,
+        from: 0,
+        to: 0,
+        widget,
+    }
+}
+
+// The arrays beside a set.
+#[derive(Drop)]
+struct SetArrays {
+    words: Words,
+    numbers: Numbers,
+    edges: Edges,
+}
+
+fn next_step(h: WidgetRects, arrays: &mut SetArrays, i: u32, layers: u32, mode: Mode) -> Step {
+    let w = widget(i, layers);
+    if mode == Mode::Nothing {
+        return no_step(h, w);
+    }
+    match decide(
+        h,
+        &mut arrays.words,
+        &mut arrays.numbers,
+        &mut arrays.edges,
+        span(layers),
+        w,
+        mode == Mode::ToTop,
+    ) {
+        Ok(i) => Step {
+            set: i.set,
+            from: i.from,
+            to: i.to,
+            widget: i.widget,
+        },
+        Err(_) => no_step(h, w),
     }
 }
 
 // A round of new widgets starts with an empty set.
-fn started(h: WidgetRects, i: u32, mode: u32) -> WidgetRects {
-    if mode == NEW && i == 0 {
+fn started(h: WidgetRects, i: u32, mode: Mode) -> WidgetRects {
+    if mode == Mode::New && i == 0 {
         return empty();
     }
     h
 }
 
 // The first round makes the widgets known.
-fn mode_of(left: u64, times: u32, mode: u32) -> u32 {
+fn mode_at(left: u64, times: u32, mode: Mode) -> Mode {
     if left > u64::from(times) {
-        return NEW;
+        return Mode::New;
     }
     mode
 }
@@ -142,9 +172,7 @@ fn following(i: u32, widgets: u32) -> u32 {
 
 // Of each widget's position, and of the id that the slot there holds.
 fn digest(
-    h: WidgetRects,
-    words: &Words,
-    numbers: &Numbers,
+    table: Table<'_>,
     edges: &Edges,
     slots: [WidgetRect; MAX_WIDGETS],
     widgets: u32,
@@ -152,7 +180,7 @@ fn digest(
 ) -> u64 {
     let mut sum: u64 = 0;
     for i in 0..widgets {
-        let p = order(h, words, numbers, edges, id_of(i)).map_or(0, |(_, p)| p);
+        let p = order(table, edges, id_of(i)).map_or(0, |(_, p)| p);
         let at = (base(i, layers) + place(p)) % MAX_WIDGETS;
         let w = slots[at];
         sum = mix(mix(sum, p as u64), w.id);
@@ -161,32 +189,35 @@ fn digest(
 }
 
 // `times` insertions after a round of new ones. One before that: see interacts.
-pub fn run(times: u32, widgets: u32, layers: u32, mode: u32) -> u64 {
-    let mut words = [77u64; WORDS];
-    let mut numbers = [77u32; NUMBERS];
-    let mut edges = [77.0f32; EDGES];
+pub fn run(times: u32, widgets: u32, layers: u32, mode: Mode) -> u64 {
+    let mut arrays = SetArrays {
+        words: [77; WORDS],
+        numbers: [77; NUMBERS],
+        edges: [77.0; EDGES],
+    };
     let first = widget(0, 1);
     let mut slots = [first; MAX_WIDGETS];
-    let one = next_step(empty(), &mut words, &mut numbers, &mut edges, 0, layers, 0);
+    let one = next_step(empty(), &mut arrays, 0, layers, Mode::New);
     let mut h = one.set;
     let mut i: u32 = 0;
     for left in (1..=u64::from(times) + u64::from(widgets)).rev() {
-        let m = mode_of(left, times, mode);
-        let s = next_step(
-            started(h, i, m),
-            &mut words,
-            &mut numbers,
-            &mut edges,
-            i,
-            layers,
-            m,
-        );
-        let w = s.widget;
+        let m = mode_at(left, times, mode);
+        let s = next_step(started(h, i, m), &mut arrays, i, layers, m);
         let at = base(i, layers);
-        let after = settled(slots, place(at + place(s.from)), place(at + place(s.to)), w);
+        let after = settled(
+            slots,
+            place(at + place(s.from)),
+            place(at + place(s.to)),
+            s.widget,
+        );
         slots = after;
         h = s.set;
         i = following(i, widgets);
     }
-    digest(h, &words, &numbers, &edges, slots, widgets, layers)
+    let table = Table {
+        set: h,
+        words: &arrays.words,
+        numbers: &arrays.numbers,
+    };
+    digest(table, &arrays.edges, slots, widgets, layers)
 }

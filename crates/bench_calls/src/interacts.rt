@@ -1,15 +1,15 @@
 // Interacts while the pointer hovers, each from the state that the last one left. An entry's id and sense are two words.
-ghost use Rattle.std.specs.Prelude.{◌≤◌};
-ghost use Rattle.data.specs.Limits.{max_hits};
 
 use crate::sums::mix;
 use data::limits::{ID_PLACES, MAX_HITS};
 use data::refusal::InteractRefusal;
-use hit_lists::Hit;
+use hit_lists::{Hit, WidgetHits};
 use interaction::interact::interact;
 use interaction_state::state::{Answer, Interaction, Seen};
 use pointer_events::CODES;
-use widget_index::table::{NUMBERS, Numbers, WORDS, WidgetRects, Words};
+use trace_words::request::bit;
+use widget_index::index::Table;
+use widget_index::table::{NUMBERS, WORDS, WidgetRects};
 
 // The words of a list of hits: two for each.
 const HITS: usize = 2 * MAX_HITS;
@@ -21,64 +21,51 @@ pub struct Going {
     pub sum: u64,
 }
 
+// Kept (plain): a number made of another, and no conversion of a type.
 fn id_of(w: u32) -> u64 {
-    w as u64 * 0x1_0000_0001
+    u64::from(w) * 0x1_0000_0001
 }
 
 // Entry `n` of the words, counted from 1; 0 is none.
 fn hit(words: &[u32], n: u32) -> Option<Hit> {
-    if n == 0 {
-        return None;
-    }
-    let i = (n - 1) as usize;
-    if i < words.len() / 2 {
-        let h = Hit {
-            id: id_of(words[i * 2]),
-            sense: u64::from(words[i * 2 + 1]),
-        };
-        return Some(h);
-    }
-    None
+    let at = n.checked_sub(1)? as usize * 2;
+    Some(Hit {
+        id: id_of(*words.get(at)?),
+        sense: u64::from(*words.get(at + 1)?),
+    })
 }
 
-fn fill(list: &mut [u64; HITS], words: &[u32], n: usize)
-    requires { n ≤ max_hits }
-{
-    for i in 0..n.min(words.len() / 2) {
-        list[i * 2] = id_of(words[i * 2]);
-        list[i * 2 + 1] = u64::from(words[i * 2 + 1]);
+// As many as there is room for.
+fn fill(list: &mut [u64; HITS], words: &[u32]) {
+    for (to, entry) in list.chunks_exact_mut(2).zip(words.chunks_exact(2)) {
+        to[0] = id_of(entry[0]);
+        to[1] = u64::from(entry[1]);
     }
 }
 
 fn answered(sum: u64, a: Answer) -> Going {
-    let shot = a.snapshot;
-    let kept = a.interaction;
     Going {
-        interaction: kept,
+        interaction: a.interaction,
         tally: a.tally,
-        sum: mix(mix(sum, shot.hovered as u64), shot.contains_pointer as u64),
+        sum: mix(
+            mix(sum, a.snapshot.hovered as u64),
+            a.snapshot.contains_pointer as u64,
+        ),
     }
 }
 
 fn next(g: Going, out: Result<Answer, InteractRefusal>) -> Going {
     match out {
-        Err(r) => {
-            let mut h = g;
-            h.sum = mix(g.sum, r.number() as u64);
-            h
-        }
+        Err(r) => Going {
+            sum: mix(g.sum, u64::from(r.number())),
+            ..g
+        },
         Ok(a) => answered(g.sum, a),
     }
 }
 
-fn bit(n: u32, of: u32) -> bool {
-    if of == 0 {
-        return false;
-    }
-    n / of % 2 == 1
-}
-
 // What the interact is told of the input, in the low bits of a number: 32 while the pointer hovers.
+// Kept (plain): here and below no From: the number is a request's word, and the type is of another crate.
 fn seen_of(n: u32) -> Seen {
     Seen {
         escape_pressed: bit(n, 1),
@@ -91,10 +78,12 @@ fn seen_of(n: u32) -> Seen {
 }
 
 // In the further bits: the number of pointer events, all of them moves, and of widgets.
+// Kept (plain): see `seen_of`.
 fn count_of(n: u32) -> usize {
     (n / 64 % 64) as usize
 }
 
+// Kept (plain): see `seen_of`.
 fn set_of(n: u32) -> WidgetRects {
     WidgetRects {
         widgets: (n / 4096) as usize,
@@ -104,11 +93,7 @@ fn set_of(n: u32) -> WidgetRects {
 
 fn start() -> Going {
     Going {
-        interaction: Interaction {
-            potential_click_id: None,
-            potential_drag_id: None,
-            dragged: None,
-        },
+        interaction: Interaction::default(),
         tally: 0,
         sum: 0,
     }
@@ -122,61 +107,27 @@ fn ends(g: Going, top: &[u64; ID_PLACES], all: &[u64; ID_PLACES]) -> u64 {
     mix(mix(g.sum, top[1]), all[2])
 }
 
-// The parameters are those of the interaction's call: the arrays are the caller's, in the C interface.
-fn call_on(
-    g: Going,
-    told: u32,
-    codes: &[u32; CODES],
-    words: &Words,
-    numbers: &Numbers,
-    close: &[u64],
-    within: &[u64],
-    n: usize,
-    c: Option<Hit>,
-    d: Option<Hit>,
-    top: &mut [u64],
-    all: &mut [u64],
-) -> Going {
-    let s = g.interaction;
-    let a = n.min(close.len());
-    let b = n.min(within.len());
-    let out = interact(
-        seen_of(told),
-        codes,
-        count_of(told),
-        set_of(told),
-        words,
-        numbers,
-        s,
-        g.tally,
-        &close[0..a],
-        &within[0..b],
-        c,
-        d,
-        top,
-        all,
-    );
-    next(g, out)
-}
-
-// The first `n` words of the two lists.
 fn call(
     g: Going,
     told: u32,
     codes: &[u32; CODES],
-    words: &Words,
-    numbers: &Numbers,
-    close: &[u64; HITS],
-    within: &[u64; HITS],
-    n: usize,
-    c: Option<Hit>,
-    d: Option<Hit>,
-    top: &mut [u64; ID_PLACES],
-    all: &mut [u64; ID_PLACES],
+    table: Table<'_>,
+    hits: WidgetHits<'_>,
+    top: &mut [u64],
+    all: &mut [u64],
 ) -> Going {
-    call_on(
-        g, told, codes, words, numbers, close, within, n, c, d, top, all,
-    )
+    let out = interact(
+        seen_of(told),
+        codes,
+        count_of(told),
+        table,
+        g.interaction,
+        g.tally,
+        hits,
+        top,
+        all,
+    );
+    next(g, out)
 }
 
 // The first entry's sense changes from call to call, so that no call is the same as the last. One call before the others: what is called at two places
@@ -189,32 +140,33 @@ pub fn run(times: u32, given: &[u32], click: u32, drag: u32, told: u32) -> u64 {
     let codes = [0u32; CODES];
     let words = [0u64; WORDS];
     let numbers = [0u32; NUMBERS];
-    let n = MAX_HITS.min(given.len() / 2);
-    let m = n * 2;
-    fill(&mut close, given, n);
-    fill(&mut within, given, n);
-    let c = hit(given, click);
-    let d = hit(given, drag);
-    let mut g = call(
-        start(),
-        told,
-        &codes,
-        &words,
-        &numbers,
-        &close,
-        &within,
-        m,
-        c,
-        d,
-        &mut top,
-        &mut all,
-    );
+    let n = MAX_HITS.min(given.len() / 2) * 2;
+    fill(&mut close, given);
+    fill(&mut within, given);
+    let click = hit(given, click);
+    let drag = hit(given, drag);
+    let table = Table {
+        set: set_of(told),
+        words: &words,
+        numbers: &numbers,
+    };
+    let hits = WidgetHits {
+        close: &close[..n],
+        contains_pointer: &within[..n],
+        click,
+        drag,
+    };
+    let mut g = call(start(), told, &codes, table, hits, &mut top, &mut all);
     for left in (1..=times).rev() {
         set_sense(&mut close, left);
         set_sense(&mut within, left);
-        g = call(
-            g, told, &codes, &words, &numbers, &close, &within, m, c, d, &mut top, &mut all,
-        );
+        let hits = WidgetHits {
+            close: &close[..n],
+            contains_pointer: &within[..n],
+            click,
+            drag,
+        };
+        g = call(g, told, &codes, table, hits, &mut top, &mut all);
     }
     ends(g, &top, &all)
 }

@@ -12,6 +12,7 @@ mod roots;
 mod sums;
 
 use data::limits::MAX_EVENTS;
+use inserts::Mode;
 
 const STDIN_FILENO: i32 = 0;
 
@@ -20,13 +21,41 @@ const STDOUT_FILENO: i32 = 1;
 // The longest feed: an event has at most 8 words.
 const WORDS: usize = 8 * MAX_EVENTS;
 
+// What is run, by the request's number; any number of none is the questions'.
 #[derive(Clone, Copy)]
-pub struct Request {
-    pub kind: u32,
-    pub times: u32,
-    pub a: u32,
-    pub b: u32,
-    pub c: u32,
+enum Kind {
+    Passes,
+    Inserts,
+    Interacts,
+    Roots32,
+    Roots64,
+    Exponents,
+    Parkings,
+    Asks,
+}
+
+impl From<u32> for Kind {
+    fn from(number: u32) -> Kind {
+        match number {
+            0 => Kind::Passes,
+            1 => Kind::Inserts,
+            2 => Kind::Interacts,
+            4 => Kind::Roots32,
+            5 => Kind::Roots64,
+            6 => Kind::Exponents,
+            7 => Kind::Parkings,
+            _ => Kind::Asks,
+        }
+    }
+}
+
+#[derive(Clone, Copy)]
+struct Request {
+    kind: Kind,
+    times: u32,
+    a: u32,
+    b: u32,
+    c: u32,
 }
 
 // The next word of standard input, 0 after its end.
@@ -46,21 +75,21 @@ fn read(words: &mut [u32]) {
 
 fn run(q: Request, words: &[u32]) -> u64 {
     match q.kind {
-        0 => passes::run(q.times, words),
-        1 => inserts::run(q.times, q.a, q.b, q.c),
-        2 => interacts::run(q.times, words, q.a, q.b, q.c),
-        4 => roots::run32(q.times),
-        5 => roots::run64(q.times),
-        6 => exponents::run(q.times),
-        7 => parkings::run(q.times, words, q.a, q.b),
-        _ => asks::run(q.times, words),
+        Kind::Passes => passes::run(q.times, words),
+        Kind::Inserts => inserts::run(q.times, q.a, q.b, Mode::from(q.c)),
+        Kind::Interacts => interacts::run(q.times, words, q.a, q.b, q.c),
+        Kind::Roots32 => roots::run32(q.times),
+        Kind::Roots64 => roots::run64(q.times),
+        Kind::Exponents => exponents::run(q.times),
+        Kind::Parkings => parkings::run(q.times, words, q.a, q.b),
+        Kind::Asks => asks::run(q.times, words),
     }
 }
 
 fn main() {
     let mut words = [0u32; WORDS];
     let q = Request {
-        kind: next(),
+        kind: Kind::from(next()),
         times: next(),
         a: next(),
         b: next(),

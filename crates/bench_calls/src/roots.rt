@@ -1,6 +1,7 @@
 // Roots of numbers above zero, of every size.
 use crate::sums::{double, single};
 
+// Kept (plain): two, each in the width of its float: one would need a trait with a step, a bit pattern, a root and a sum, and two impls as long as these.
 pub fn run32(times: u32) -> u64 {
     let mut sum: u64 = 0;
     let mut w: u32 = 0;
@@ -12,6 +13,7 @@ pub fn run32(times: u32) -> u64 {
     sum
 }
 
+// Kept (plain): see `run32`.
 pub fn run64(times: u32) -> u64 {
     let mut sum: u64 = 0;
     let mut w: u64 = 0;

@@ -17,6 +17,7 @@ fn say_usage() {
     io::write_all(STDERR_FILENO, b"usage: replay [text|sums|whole] < trace\n");
 }
 
+// Kept (plain): the words of a command line: an enum between them and `Form` would be matched here alone.
 fn replay_as(arg: &[u8]) {
     match arg {
         b"whole" => replay(Form::Whole, LIMIT),

@@ -1,10 +1,12 @@
 -- What one request makes of the machine and of every lent array. A reply of code 0 says that it is taken.
 use Rattle.std.specs.Prelude.{ℕ, ◌≡◌, List, Float, take}
-use Rattle.input_state.specs.View.{Lent, lent}
+use Rattle.input_state.specs.View.{Lent}
 use Rattle.trace_machine.specs.declared.machine.Machine.{Machine}
 use Rattle.trace_machine.specs.declared.machine.Step.{Step}
-use Rattle.trace_machine.specs.Machine.{Resets, Passes}
+use Rattle.trace_machine.specs.Machine.{lent_of, Resets, Passes}
 use Rattle.trace_parking.specs.Calls.{Parks, Restores}
+use Rattle.trace_widgets.specs.declared.lent.SetArrays.{SetArrays}
+use Rattle.trace.specs.declared.memory.Memory.{Memory}
 
 -- what is lent: the pass's arrays; the set's three; the records of the widgets, 17 words each; the last image
 pub record Arrays : Type 0 where
@@ -17,6 +19,9 @@ pub record Arrays : Type 0 where
 
 abbrev pub arrays : Lent → List ℕ → List ℕ → List Float → List ℕ → List ℕ → Arrays
 arrays l words numbers edges records image = record { lent = l; words = words; numbers = numbers; edges = edges; records = records; image = image }
+
+abbrev pub arrays_of : Memory → Arrays
+arrays_of m = arrays (lent_of m.lent) m.«set».words m.«set».numbers m.«set».edges m.«set».lent m.image
 
 -- compare/FORMAT.md: "0 RESET", "1 PASS", "12 PARK", "13 RESTORE_LAST", "14 RESTORE"
 abbrev pub reset_kind : ℕ
@@ -35,8 +40,8 @@ abbrev pub restore_kind : ℕ
 restore_kind = 14
 
 -- a call that is none of these: refused, every place of the set's arrays and of the records is as before
-pub record Changes (words numbers : List ℕ) (edges : List Float) (records : List ℕ) (r : Step) (words' numbers' : List ℕ) (edges' : List Float) (records' : List ℕ) : Type 0 where
-  pub refused : (r.reply.code ≡ 0 → ⊥) → (words' ≡ words) × (numbers' ≡ numbers) × (edges' ≡ edges) × (records' ≡ records)
+pub record Changes (k : SetArrays) (r : Step) (k' : SetArrays) : Type 0 where
+  pub refused : (r.reply.code ≡ 0 → ⊥) → (k'.words ≡ k.words) × (k'.numbers ≡ k.numbers) × (k'.edges ≡ k.edges) × (k'.lent ≡ k.lent)
 
 -- one request of this kind with these words, over the arrays a, which are a' after it
 pub record Called (m : Machine) (kind : ℕ) (w : List ℕ) (a a' : Arrays) (r : Step) : Type 0 where

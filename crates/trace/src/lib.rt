@@ -3,4 +3,5 @@
 
 pub mod call;
 pub mod exponent;
+pub mod memory;
 pub mod run;

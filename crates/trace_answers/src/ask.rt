@@ -13,12 +13,14 @@ use key_state::keys::{Keys, PRESSES};
 use panel::keys::{feed_was_empty, modifiers};
 use panel::repaint::wants_repaint_after;
 use panel::scrolling::{is_scrolling, scroll_source, smooth_scroll_delta, time_since_last_scroll};
+use panel::state::Panel;
 use panel::touching::{any_touches, has_touch_screen, is_long_touch, multi_touch};
 use panel::zoom::{rotation_delta, translation_delta, zoom_delta, zoom_delta_2d};
 use panel::{buttons, clock, pointer};
-use pointer_events::{CODES, PLACES};
+use pointer_events::CODES;
 use pointer_state::press::Press;
 use touch_state::devices::Devices;
+use trace_state::lent::Arrays;
 use trace_words::words::Answer;
 
 // Words 0 to 13.
@@ -139,27 +141,22 @@ fn button_words(a: &mut Answer, press: Press, codes: &[u32; CODES]) {
 }
 
 // Words 97 to the pointer events.
-fn pointer_words(a: &mut Answer, s: InputState, codes: &[u32; CODES], places: &[f32; PLACES]) {
+fn pointer_words(a: &mut Answer, s: InputState, lent: &Arrays) {
     let p = s.pointer;
     place_words(a, p);
-    pointer_bits(a, s.clock, s.screen, p, codes);
+    pointer_bits(a, s.clock, s.screen, p, &lent.codes);
     a.float(buttons::time_since_last_click(p.press, s.clock));
-    button_words(a, p.press, codes);
-    events(a, p.press, codes, places);
+    button_words(a, p.press, &lent.codes);
+    events(a, p.press, lent);
 }
 
-pub fn ask(
-    a: &mut Answer,
-    s: InputState,
-    ds: Devices,
-    codes: &[u32; CODES],
-    places: &[f32; PLACES],
-    counts: &[u8; PRESSES],
-) {
+pub fn ask(a: &mut Answer, p: Panel, lent: &Arrays) {
+    let s = p.input;
+    let ds = p.devices;
     screen_words(a, s.clock, s.screen, s.keys);
     zoom_words(a, s, ds);
-    scroll_words(a, s, ds, codes);
-    key_and_touch_words(a, s, ds, counts);
-    pointer_words(a, s, codes, places);
+    scroll_words(a, s, ds, &lent.codes);
+    key_and_touch_words(a, s, ds, &lent.presses);
+    pointer_words(a, s, lent);
     asked(a, ds);
 }

@@ -1,31 +1,22 @@
 // DUMP: the retained state but for the widgets.
 use crate::events::events;
 use crate::keys::{keys_down, presses};
-use emath_history::history::{MAX_LEN, PARTS};
 use input_state::clock::Clock;
 use input_state::state::InputState;
-use interaction_state::state::Interaction;
 use key_state::keys::PRESSES;
-use pointer_events::{CODES, PLACES};
-use touch_state::devices::Devices;
+use panel::state::Panel;
 use trace_state::devices::held;
+use trace_state::lent::Arrays;
 use trace_state::parts::{history, interaction, options, place, press, wheel};
 use trace_words::words::Answer;
 
-fn pointer(
-    a: &mut Answer,
-    s: InputState,
-    times: &[f64; MAX_LEN],
-    positions: &[f32; PARTS],
-    codes: &[u32; CODES],
-    places: &[f32; PLACES],
-) {
+fn pointer(a: &mut Answer, s: InputState, lent: &Arrays) {
     let p = s.pointer;
     a.seconds(s.clock.pointer_time);
     place(a, p.place);
-    history(a, p.place.history, times, positions);
+    history(a, p.place.history, lent);
     press(a, p.press.held, p.press.past, p.started_decidedly_dragging);
-    events(a, p.press, codes, places);
+    events(a, p.press, lent);
 }
 
 fn clock_words(a: &mut Answer, c: Clock) {
@@ -50,22 +41,11 @@ fn input(a: &mut Answer, s: InputState, p: &[u8; PRESSES]) {
     options(a, s.screen.options);
 }
 
-// All but the widgets. The arrays one by one: they are the caller's, in the C interface.
-pub fn dump(
-    a: &mut Answer,
-    s: InputState,
-    ds: Devices,
-    i: Interaction,
-    tally: u32,
-    times: &[f64; MAX_LEN],
-    positions: &[f32; PARTS],
-    codes: &[u32; CODES],
-    places: &[f32; PLACES],
-    p: &[u8; PRESSES],
-) {
-    pointer(a, s, times, positions, codes, places);
-    wheel(a, s.wheel);
-    held(a, ds);
-    input(a, s, p);
-    interaction(a, i, tally);
+// All but the widgets.
+pub fn dump(a: &mut Answer, p: Panel, lent: &Arrays) {
+    pointer(a, p.input, lent);
+    wheel(a, p.input.wheel);
+    held(a, p.devices);
+    input(a, p.input, &lent.presses);
+    interaction(a, p.interaction, p.tally);
 }

@@ -1,10 +1,10 @@
 // Whether a feed is that of a clearing pass: "End for each touch held ..; release of buttons 0 to 4 at one position; one relative motion; wheel End;
 // focus lost; pointer gone". Which touches are held is not looked at.
-use crate::events::next_place;
+use crate::events::fold_events;
 use data::kinds::{
     BUTTON_KIND, FOCUS_KIND, GONE_KIND, KIND_UNIT, MOTION_KIND, TOUCH_KIND, WHEEL_KIND,
 };
-use trace_words::request::at;
+use trace_words::request::{at, bit};
 
 const LAST_BUTTON: u32 = 4;
 
@@ -28,12 +28,14 @@ struct Seen {
 }
 
 // The release of a button; a press is none.
+// Kept (plain): see `part_of`.
 fn release_of(head: u32) -> Option<Part> {
     let button = head / 32 % 8;
-    (head / 256 % 2 == 0 && button <= LAST_BUTTON).then_some(Part::Release(button))
+    (!bit(head, 256) && button <= LAST_BUTTON).then_some(Part::Release(button))
 }
 
 // The part that an event is, by its first word.
+// Kept (plain): refused feeds are read here too, and of those the decoder gives no Event; a part is made of a word's bits and not of its number.
 fn part_of(head: u32) -> Option<Part> {
     match head / KIND_UNIT {
         MOTION_KIND => Some(Part::Motion),
@@ -41,7 +43,7 @@ fn part_of(head: u32) -> Option<Part> {
         GONE_KIND => Some(Part::PointerGone),
         TOUCH_KIND => (head % 4 == 2).then_some(Part::Ends),
         WHEEL_KIND => (head / 128 % 4 == 2).then_some(Part::WheelEnd),
-        FOCUS_KIND => (head % 2 == 0).then_some(Part::FocusLost),
+        FOCUS_KIND => (!bit(head, 1)).then_some(Part::FocusLost),
         _ => None,
     }
 }
@@ -80,16 +82,11 @@ fn after_event(seen: Option<Seen>, e: &[u32]) -> Option<Seen> {
 
 // The feed of a clearing pass.
 pub fn is_clearing(feed: &[u32]) -> bool {
-    let mut seen = Some(Seen {
+    let first = Seen {
         part: Part::Ends,
         x: 0,
         y: 0,
-    });
-    // by hand: the place moves by an event's length
-    let mut from: usize = 0;
-    while from < feed.len() {
-        seen = after_event(seen, &feed[from..]);
-        from = next_place(feed, from);
-    }
-    seen.is_some_and(|s| s.part == Part::PointerGone)
+    };
+    let last = fold_events(feed, Some(first), after_event);
+    last.is_some_and(|s| s.part == Part::PointerGone)
 }

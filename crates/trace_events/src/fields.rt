@@ -67,39 +67,16 @@ pub fn two_floats(e: &[u32], i: usize) -> Pair {
     Pair(Float(at(e, i)), Float(at(e, i.saturating_add(1))))
 }
 
+pub fn pressed(is: bool) -> &'static str {
+    if is { "pressed" } else { "released" }
+}
+
 // By the numbers of a feed's words, as the decoder matches them; a number that it refuses has a name too.
-pub fn pressed(is: u32) -> &'static str {
-    match is {
-        0 => "released",
-        _ => "pressed",
-    }
-}
+pub const PHASES: [&str; 4] = ["start", "move", "end", "cancel"];
 
-pub fn phase(p: u32) -> &'static str {
-    match p {
-        0 => "start",
-        1 => "move",
-        2 => "end",
-        _ => "cancel",
-    }
-}
+pub const UNITS: [&str; 4] = ["points", "lines", "pages", "pages"];
 
-pub fn unit(u: u32) -> &'static str {
-    match u {
-        0 => "points",
-        1 => "lines",
-        _ => "pages",
-    }
-}
-
-pub fn source(s: u32) -> &'static str {
-    match s {
-        0 => "unknown",
-        1 => "wheel",
-        2 => "trackpad",
-        _ => "momentum",
-    }
-}
+pub const SOURCES: [&str; 4] = ["unknown", "wheel", "trackpad", "momentum"];
 
 // The names of the flags in the low five bits, each after a space.
 #[derive(Clone, Copy)]

@@ -2,17 +2,17 @@
 ghost use Rattle.std.specs.Prelude.{◌<◌};
 
 use data::refusal::InteractRefusal;
-use hit_lists::Hit;
+use hit_lists::{Hit, WORDS, WidgetHits};
 use interaction_state::state::InteractionSnapshot;
-use key_state::keys::PRESSES;
 use panel::state::{Panel, after_interact};
-use pointer_events::CODES;
+use trace_state::lent::Arrays;
 use trace_words::reply::{Reply, malformed, refused_by, taken};
 use trace_words::request::{at, id};
 use trace_words::words::Answer;
-use widget_index::table::{Numbers, WidgetRects, Words};
+use widget_index::index::Table;
 
-// The panel after an interact, and the answer. No Result: a refused interact has both too.
+// The panel after an interact, and the answer.
+// Kept (plain): no Result: a refused interact has both too
 #[derive(Clone, Copy)]
 pub struct Stepped {
     pub panel: Panel,
@@ -28,6 +28,7 @@ const LIST: usize = 132;
 
 const IDS: usize = 80;
 
+// Kept (plain): no method of an Option: a bit of the request's word
 fn is_given(w: &[u32], bit: u32) -> bool {
     trace_words::request::bit(at(w, 4), bit)
 }
@@ -55,10 +56,14 @@ fn list(w: &[u32], first: usize, n: usize) -> [u64; LIST]
     requires { first < 4294967296 }
 {
     let mut words = [0u64; LIST];
-    for i in 0..n.min(ENTRIES) {
+    for (i, two) in words
+        .chunks_exact_mut(WORDS)
+        .enumerate()
+        .take(n.min(ENTRIES))
+    {
         let hit = entry(w, first + i);
-        words[i * 2] = hit.id;
-        words[i * 2 + 1] = hit.sense;
+        two[0] = hit.id;
+        two[1] = hit.sense;
     }
     words
 }
@@ -88,6 +93,7 @@ fn snapshot(a: &mut Answer, s: InteractionSnapshot, tally: u32, top: &[u64], all
     a.word(tally);
 }
 
+// Kept (plain): no conversion: it writes the answer's words too
 fn reply_of(
     a: &mut Answer,
     out: Result<interaction_state::state::Answer, InteractRefusal>,
@@ -103,34 +109,33 @@ fn reply_of(
     }
 }
 
-// The arrays one by one, as the panel's call has them: they are the caller's, in the C interface.
 fn interact_with(
     a: &mut Answer,
     p: Panel,
-    set: WidgetRects,
-    codes: &[u32; CODES],
-    presses: &[u8; PRESSES],
-    words: &Words,
-    numbers: &Numbers,
-    w: &[u32],
-    close: &[u64],
-    within: &[u64],
+    lent: &Arrays,
+    table: Table<'_>,
+    hits: WidgetHits<'_>,
     top: &mut [u64],
     all: &mut [u64],
 ) -> Stepped {
-    let input = p.input;
-    let clock = input.clock;
-    let screen = input.screen;
-    let pointer = input.pointer;
-    let devices = p.devices;
-    let state = p.interaction;
-    let entries = at(w, 2) as usize + at(w, 3) as usize;
-    let click_given = is_given(w, 1);
-    let click = hit(w, click_given, entries);
-    let drag = hit(w, is_given(w, 2), entries + usize::from(click_given));
     let out = panel::interact::interact(
-        clock, screen, pointer, devices, codes, presses, state, p.tally, set, words, numbers,
-        close, within, click, drag, top, all,
+        p.input.clock,
+        p.input.screen,
+        p.input.pointer,
+        p.devices,
+        &lent.codes,
+        &lent.presses,
+        p.interaction,
+        p.tally,
+        table.set,
+        table.words,
+        table.numbers,
+        hits.close,
+        hits.contains_pointer,
+        hits.click,
+        hits.drag,
+        top,
+        all,
     );
     Stepped {
         panel: after_interact(p, out),
@@ -139,62 +144,34 @@ fn interact_with(
 }
 
 // As many entries and places as the request says.
-fn interact_in(
-    a: &mut Answer,
-    p: Panel,
-    set: WidgetRects,
-    codes: &[u32; CODES],
-    presses: &[u8; PRESSES],
-    words: &Words,
-    numbers: &Numbers,
-    w: &[u32],
-    close: &[u64],
-    within: &[u64],
-    top: &mut [u64],
-    all: &mut [u64],
-) -> Stepped {
-    let c = close.len().min(ENTRIES.min(at(w, 2) as usize) * 2);
-    let i = within.len().min(ENTRIES.min(at(w, 3) as usize) * 2);
-    let n = top.len().min(at(w, 0) as usize);
-    let m = all.len().min(at(w, 1) as usize);
-    interact_with(
-        a,
-        p,
-        set,
-        codes,
-        presses,
-        words,
-        numbers,
-        w,
-        &close[0..c],
-        &within[0..i],
-        &mut top[0..n],
-        &mut all[0..m],
-    )
-}
-
-pub fn interact(
-    a: &mut Answer,
-    p: Panel,
-    set: WidgetRects,
-    codes: &[u32; CODES],
-    presses: &[u8; PRESSES],
-    words: &Words,
-    numbers: &Numbers,
-    w: &[u32],
-) -> Stepped {
+pub fn interact(a: &mut Answer, p: Panel, lent: &Arrays, table: Table<'_>, w: &[u32]) -> Stepped {
     if !is_well_formed(w) {
         return Stepped {
             panel: p,
             reply: malformed(),
         };
     }
-    let first = at(w, 2) as usize;
+    let (first, second) = (at(w, 2) as usize, at(w, 3) as usize);
     let close = list(w, 0, first);
-    let within = list(w, first, at(w, 3) as usize);
+    let within = list(w, first, second);
+    let click_given = is_given(w, 1);
+    let hits = WidgetHits {
+        close: &close[..LIST.min(first * WORDS)],
+        contains_pointer: &within[..LIST.min(second * WORDS)],
+        click: hit(w, click_given, first + second),
+        drag: hit(w, is_given(w, 2), first + second + usize::from(click_given)),
+    };
     let mut top = [0u64; IDS];
     let mut all = [0u64; IDS];
-    interact_in(
-        a, p, set, codes, presses, words, numbers, w, &close, &within, &mut top, &mut all,
+    let top_places = IDS.min(at(w, 0) as usize);
+    let all_places = IDS.min(at(w, 1) as usize);
+    interact_with(
+        a,
+        p,
+        lent,
+        table,
+        hits,
+        &mut top[..top_places],
+        &mut all[..all_places],
     )
 }

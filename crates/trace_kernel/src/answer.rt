@@ -11,7 +11,7 @@ pub const FEED_PLACES: usize = 32768;
 
 pub type Feed = [u32; FEED_PLACES];
 
-// By hand and no Refusal: the trait and the enum are of other crates. A value that is no word of a feed has the index 0.
+// Kept (plain): a match and no impl of Refusal, whose trait and enum are of other crates. A value that is no word of a feed has the index 0.
 fn refused_kernel(a: &mut Answer, why: KernelRefusal) -> Reply
     ensures { Answers (kernel_row why) a.old.words result a.new.words }
 {

@@ -1,4 +1,5 @@
 -- What a step says of the machine, refused and taken. Assumes nothing.
+use Rattle.std.specs.Prelude.{Result}
 use mathlib.Core.Path.{◌≡◌, sym, ◌∙◌, ap}
 use borrow.Author.Tests.{eq-eqb, ne_eqb}
 use mathlib.Core.List.{List}
@@ -7,6 +8,7 @@ use Rattle.touch_state.specs.declared.devices.Devices.{Devices}
 use Rattle.input_state.specs.declared.input.PassInput.{PassInput}
 use Rattle.input_state.specs.declared.state.InputState.{InputState}
 use Rattle.input_state.specs.View.{Lent}
+use Rattle.data.specs.declared.refusal.PassRefusal.{PassRefusal}
 use Rattle.input_pass.specs.declared.begin.Begun.{Begun}
 use Rattle.input_pass.specs.Begun as Contract
 use Rattle.widget_index.specs.declared.table.WidgetRects.{WidgetRects}
@@ -31,7 +33,7 @@ module _ (m after : Machine) (reply : Reply) (r : Step) (e : r ≡ stepped m aft
   when_taken is = ap (λ (s : Step). s.machine) e ∙ rw (eq-eqb reply.code 0 (sym same_code ∙ is))
 
 -- a pass of an equal input and an equal feed
-pub carried : {i j : PassInput} {f g : List ℕ} {l l' : Lent} {s : InputState} {ds : Devices} {r : Begun} → i ≡ j → f ≡ g
+pub carried : {i j : PassInput} {f g : List ℕ} {l l' : Lent} {s : InputState} {ds : Devices} {r : Result Begun PassRefusal} → i ≡ j → f ≡ g
     → Contract.Begun i f l s ds l' r → Contract.Begun j g l s ds l' r
 carried p q h = rw (← p, ← q) h
 

@@ -1,11 +1,13 @@
 -- What a call makes of the machine and of the lent arrays. A reply of code 0 says that the call is taken.
-use Rattle.std.specs.Prelude.{ℕ, ◌≡◌, cond, List, eqb, length, drop, None}
+use Rattle.std.specs.Prelude.{ℕ, ◌≡◌, cond, List, eqb, length, drop, None, Result}
 use Rattle.survey.specs.Survey.{option}
 use Rattle.kernel_touch.specs.declared.slots.KernelTouches.{KernelTouches}
 use Rattle.kernel_touch.specs.Slots as Slots
 use Rattle.widget_index.specs.declared.table.WidgetRects.{WidgetRects}
 use Rattle.widget_rect.specs.Questions.{Empty}
-use Rattle.input_state.specs.View.{Lent}
+use Rattle.input_state.specs.View.{Lent, lent}
+use Rattle.trace_state.specs.declared.lent.Arrays.{Arrays}
+use Rattle.data.specs.declared.refusal.PassRefusal.{PassRefusal}
 use Rattle.input_pass.specs.declared.begin.Begun.{Begun}
 use Rattle.input_pass.specs.Begun as Contract
 use Rattle.panel.specs.declared.state.Panel.{Panel}
@@ -38,6 +40,10 @@ step m reply = record { machine = m; reply = reply }
 unfoldable pub stepped : Machine → Machine → Reply → Step
 stepped m after reply = step (cond (eqb reply.code 0) after m) reply
 
+-- the lent arrays
+abbrev pub lent_of : Arrays → Lent
+lent_of a = lent a.times a.positions a.codes a.places a.presses
+
 -- ---- RESET
 
 -- a fresh panel over these presses, an empty set and empty slots
@@ -55,15 +61,15 @@ pub record Resets (m : Machine) (w presses presses' : List ℕ) (r : Step) : Typ
 -- ---- PASS
 
 -- the machine after a pass that returned b
-pub record AfterPass (m : Machine) (b : Begun) (r : Step) : Type 0 where
+pub record AfterPass (m : Machine) (b : Result Begun PassRefusal) (r : Step) : Type 0 where
   -- the call is refused only where the pass is
-  pub refused : (r.reply.code ≡ 0 → ⊥) → (option b.refusal ≡ None → ⊥) × (r.machine ≡ m)
+  pub refused : (r.reply.code ≡ 0 → ⊥) → (option b ≡ None → ⊥) × (r.machine ≡ m)
   pub taken : r.reply.code ≡ 0 → r.machine ≡ with_panel m (after_pass m.panel b)
 
 -- a pass of what the words say, over the lent arrays l, which are l' after it: the machine then is `after`
 pub record TakesPass (m : Machine) (w : List ℕ) (l l' : Lent) (after : Machine) : Type 0 where
   -- what panel's `pass` returned, by its contract
-  pub begun : Begun
+  pub begun : Result Begun PassRefusal
   pub is_begun : Contract.Begun (pass_input w) (drop pass_words w) l m.panel.input m.panel.devices l' begun
   pub machine_is : after ≡ with_panel m (after_pass m.panel begun)
 

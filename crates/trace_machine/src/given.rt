@@ -9,30 +9,26 @@ use emath::rect::Rect;
 use input_state::input::PassInput;
 use trace_words::request::{at, bit, float, seconds};
 
+#[tactic(auto, unfolding(crate::specs::Given::time_given))]
 fn time_given(w: &[u32]) -> Option<f64>
     ensures { result ≡ time_given w.now }
 {
-    if bit(at(w, 0), 1) {
-        return Some(seconds(w, 1, 2));
-    }
-    None
+    bit(at(w, 0), 1).then_some(seconds(w, 1, 2))
 }
 
+#[tactic(auto, unfolding(crate::specs::Given::rect_given))]
 fn rect_given(w: &[u32]) -> Option<Rect>
     ensures { result ≡ rect_given w.now }
 {
-    if bit(at(w, 0), 2) {
-        let min = Pos2 {
-            x: float(w, 6),
-            y: float(w, 7),
-        };
-        let max = Pos2 {
-            x: float(w, 8),
-            y: float(w, 9),
-        };
-        return Some(Rect { min, max });
-    }
-    None
+    let min = Pos2 {
+        x: float(w, 6),
+        y: float(w, 7),
+    };
+    let max = Pos2 {
+        x: float(w, 8),
+        y: float(w, 9),
+    };
+    bit(at(w, 0), 2).then_some(Rect { min, max })
 }
 
 fn options(w: &[u32]) -> InputOptions

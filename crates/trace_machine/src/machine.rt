@@ -1,7 +1,6 @@
 // The panel, the widget set, the kernel's slots and the length of the last image between two calls; the lent arrays stand beside them.
-ghost use Rattle.std.specs.Prelude.{◌≡◌, None};
-ghost use Rattle.survey.specs.Survey.{option};
-ghost use Rattle.trace_machine.specs.Machine.{with_panel, with_set, with_kernel, with_parked, step, stepped, Starts, Resets, AfterPass};
+ghost use Rattle.std.specs.Prelude.{◌≡◌};
+ghost use Rattle.trace_machine.specs.Machine.{with_kernel, step, stepped, Starts, Resets, AfterPass};
 
 use data::refusal::PassRefusal;
 use input_pass::begin::Begun;
@@ -18,11 +17,11 @@ pub struct Machine {
     pub panel: Panel,
     pub set: WidgetRects,
     pub kernel: KernelTouches,
-    // how many words the last image has; 0: none was written. No Option: RESTORE_LAST takes so many of its words.
+    // Kept (plain): how many words the last image has, 0 where none was written. No Option: RESTORE_LAST takes so many of its words.
     pub parked: usize,
 }
 
-// What a call makes of the machine, and its answer. No Result: a refused call has both too.
+// Kept (plain): what a call makes of the machine, and its answer. No Result: a refused call has both too.
 #[derive(Clone, Copy)]
 pub struct Step {
     pub machine: Machine,
@@ -90,24 +89,17 @@ pub fn reset(m: Machine, presses: &mut [u8; PRESSES], w: &[u32]) -> Step
     kept(machine, reply)
 }
 
-// A pass that is taken has no words to answer.
-fn pass_answer(a: &mut Answer, refusal: Result<(), PassRefusal>) -> Reply
-    ensures { option refusal ≡ None → result.code ≡ 0 }
-{
-    match refusal {
-        Ok(()) => taken(0),
-        Err(why) => refused_by(a, why),
-    }
-}
-
-// After a pass.
-pub fn passed(m: Machine, a: &mut Answer, begun: Begun) -> Step
+// After a pass. Taken, it has no words to answer.
+pub fn passed(m: Machine, a: &mut Answer, begun: Result<Begun, PassRefusal>) -> Step
     ensures { AfterPass m begun result }
 {
-    let p = m.panel;
-    let refusal = begun.refusal;
-    let panel = after_pass(p, begun);
-    stepped(m, Machine { panel, ..m }, pass_answer(a, refusal))
+    match begun {
+        Err(why) => kept(m, refused_by(a, why)),
+        Ok(_) => {
+            let panel = after_pass(m.panel, begun);
+            kept(Machine { panel, ..m }, taken(0))
+        }
+    }
 }
 
 // The answer alone.
@@ -116,33 +108,6 @@ pub fn kept(m: Machine, reply: Reply) -> Step
 {
     let machine = m;
     Step { machine, reply }
-}
-
-pub fn with_set(m: Machine, set: WidgetRects, reply: Reply) -> Step
-    ensures { result ≡ step (with_set m «set») reply }
-{
-    Step {
-        machine: Machine { set, ..m },
-        reply,
-    }
-}
-
-pub fn with_panel(m: Machine, panel: Panel, reply: Reply) -> Step
-    ensures { result ≡ step (with_panel m panel) reply }
-{
-    Step {
-        machine: Machine { panel, ..m },
-        reply,
-    }
-}
-
-pub fn with_parked(m: Machine, parked: usize, reply: Reply) -> Step
-    ensures { result ≡ step (with_parked m parked) reply }
-{
-    Step {
-        machine: Machine { parked, ..m },
-        reply,
-    }
 }
 
 // Refused, the machine before.

@@ -1,5 +1,5 @@
 -- What PARK, RESTORE_LAST and RESTORE make of the machine, of the pass's arrays and of the place for the last image. A reply of code 0 says that the call is taken.
-use Rattle.std.specs.Prelude.{ℕ, ◌≡◌, List, length, take, Ok, Err, Result, ⊤}
+use Rattle.std.specs.Prelude.{ℕ, ◌≡◌, List, length, take, Ok, Err, Result}
 use Rattle.model.specs.Pass as Model
 use Rattle.input_state.specs.View.{Lent}
 use Rattle.panel.specs.View.{shown_by}
@@ -8,7 +8,7 @@ use Rattle.parking.specs.declared.check.ImageRefusal.{ImageRefusal}
 use Rattle.parking.specs.declared.check.ImageRefusal.TheVariants.{FirstWord, Word}
 use Rattle.parking.specs.declared.park.ParkRefusal.{ParkRefusal}
 use Rattle.parking.specs.declared.park.ParkRefusal.TheVariants.{ShortBuffer}
-use Rattle.parking.specs.declared.restore.Restored.{Restored}
+use Rattle.panel.specs.declared.state.Panel.{Panel}
 use Rattle.parking.specs.Restored.{RestoredAs}
 use Rattle.trace_machine.specs.declared.machine.Machine.{Machine}
 use Rattle.trace_machine.specs.declared.machine.Step.{Step}
@@ -35,23 +35,23 @@ pub record Parks (m : Machine) (l : Lent) (out out' : List ℕ) (r : Step) : Typ
 -- ---- RESTORE, and RESTORE_LAST with the words of the last image
 
 -- 0, or 02's number
-abbrev pub code_of : Result ⊤ ImageRefusal → ℕ
-code_of (Ok tt) = 0
+abbrev pub code_of : Result Panel ImageRefusal → ℕ
+code_of (Ok p) = 0
 code_of (Err FirstWord) = 14
 code_of (Err (Word i)) = 15
 
 -- the machine after a restore that returned this
-pub record AfterRestore (m : Machine) (read : Restored) (r : Step) : Type 0 where
-  pub code : r.reply.code ≡ code_of read.refusal
+pub record AfterRestore (m : Machine) (read : Result Panel ImageRefusal) (r : Step) : Type 0 where
+  pub code : r.reply.code ≡ code_of read
   pub refused : (r.reply.code ≡ 0 → ⊥) → r.machine ≡ m
-  pub taken : r.reply.code ≡ 0 → r.machine ≡ with_panel m read.panel
+  pub taken : (p : Panel) → read ≡ Ok p → r.machine ≡ with_panel m p
 
 -- a restore from these words, over the lent arrays l, which are l' after it: the machine then is `after`
 pub record TakesImage (m : Machine) (ws : List ℕ) (l l' : Lent) (after : Machine) : Type 0 where
-  -- what parking's `restore` returned, by its contract
-  pub read : Restored
-  pub is_restored : RestoredAs ws m.panel l read l' read.refusal
-  pub machine_is : after ≡ with_panel m read.panel
+  -- the panel that parking's `restore` returned, by its contract
+  pub panel : Panel
+  pub is_restored : RestoredAs ws l (Ok panel) l'
+  pub machine_is : after ≡ with_panel m panel
 
 pub record Restores (m : Machine) (ws : List ℕ) (l l' : Lent) (r : Step) : Type 0 where
   -- refused, by its format or by the words: the machine and every place of the lent arrays are as before

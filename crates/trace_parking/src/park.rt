@@ -1,15 +1,13 @@
 // PARK.
 ghost use Rattle.std.specs.Prelude.{◌≤◌, length};
-ghost use Rattle.input_state.specs.View.{lent};
 ghost use Rattle.panel.specs.View.{shown_by};
+ghost use Rattle.trace_machine.specs.Machine.{lent_of};
 ghost use Rattle.trace_parking.specs.Calls.{AfterPark, Kept, Parks};
 
-use emath_history::history::{MAX_LEN, PARTS};
-use key_state::keys::PRESSES;
 use panel::state::Panel;
 use parking::park::ParkRefusal;
-use pointer_events::{CODES, PLACES};
-use trace_machine::machine::{Machine, Step, kept, refused, with_parked};
+use trace_machine::machine::{Machine, Step, kept, refused};
+use trace_state::lent::Arrays;
 use trace_words::reply;
 use trace_words::reply::taken;
 use trace_words::request::at;
@@ -31,27 +29,18 @@ fn places_of(w: &[u32]) -> usize
 }
 
 // Parked into the first places of a buffer; the others keep their contents.
-fn park_in(
-    panel: Panel,
-    times: &[f64; MAX_LEN],
-    positions: &[f32; PARTS],
-    codes: &[u32; CODES],
-    places: &[f32; PLACES],
-    presses: &[u8; PRESSES],
-    out: &mut [u32],
-    room: usize,
-) -> Result<usize, ParkRefusal>
+fn park_in(panel: Panel, lent: &Arrays, out: &mut [u32], room: usize) -> Result<usize, ParkRefusal>
     requires { room ≤ length out.old }
-    ensures { Kept (shown_by (lent times.now positions.now codes.now places.now presses.now) panel)
+    ensures { Kept (shown_by (lent_of lent.now) panel)
         out.old out.new result }
 {
     parking::park::park(
         panel,
-        times,
-        positions,
-        codes,
-        places,
-        presses,
+        &lent.times,
+        &lent.positions,
+        &lent.codes,
+        &lent.places,
+        &lent.presses,
         &mut out[0..room],
     )
 }
@@ -64,32 +53,18 @@ fn parked(m: Machine, image: &Image, a: &mut Answer, done: Result<usize, ParkRef
         Err(ParkRefusal::ShortBuffer) => kept(m, reply::refused(SHORT)),
         Ok(n) => {
             a.all(&image[..n.min(IMAGE_PLACES)]);
-            with_parked(m, n, taken(a.len()))
+            kept(Machine { parked: n, ..m }, taken(a.len()))
         }
     }
 }
 
-// The arrays one by one, as the panel's parking has them: they are the caller's, in the C interface.
-pub fn park(
-    m: Machine,
-    times: &[f64; MAX_LEN],
-    positions: &[f32; PARTS],
-    codes: &[u32; CODES],
-    places: &[f32; PLACES],
-    presses: &[u8; PRESSES],
-    image: &mut Image,
-    a: &mut Answer,
-    w: &[u32],
-) -> Step
-    ensures { Parks m
-        (lent times.now positions.now codes.now places.now presses.now)
-        image.old image.new result }
+pub fn park(m: Machine, lent: &Arrays, image: &mut Image, a: &mut Answer, w: &[u32]) -> Step
+    ensures { Parks m (lent_of lent.now) image.old image.new result }
 {
     if w.len() != 1 {
         return refused(m);
     }
-    let p = m.panel;
     let room = places_of(w);
-    let done = park_in(p, times, positions, codes, places, presses, image, room);
+    let done = park_in(m.panel, lent, image, room);
     parked(m, image, a, done)
 }

@@ -1,15 +1,13 @@
 // RESTORE and RESTORE_LAST.
 ghost use Rattle.std.specs.Prelude.{◌≡◌, take};
-ghost use Rattle.input_state.specs.View.{lent};
+ghost use Rattle.trace_machine.specs.Machine.{lent_of};
 ghost use Rattle.trace_parking.specs.Calls.{code_of, AfterRestore, Restores};
 
 use crate::park::{IMAGE_PLACES, Image};
-use emath_history::history::{MAX_LEN, PARTS};
-use key_state::keys::PRESSES;
+use panel::state::Panel;
 use parking::check::ImageRefusal;
-use parking::restore::Restored;
-use pointer_events::{CODES, PLACES};
 use trace_machine::machine::{Machine, Step, refused, stepped};
+use trace_state::lent::Arrays;
 use trace_words::reply;
 use trace_words::reply::{Reply, taken};
 use trace_words::words::Answer;
@@ -19,60 +17,41 @@ const FIRST_WORD: u32 = 14;
 
 const WRONG_WORD: u32 = 15;
 
-fn restore_answer(a: &mut Answer, refusal: Result<(), ImageRefusal>) -> Reply
-    ensures { result.code ≡ code_of refusal }
+fn restore_answer(a: &mut Answer, read: Result<Panel, ImageRefusal>) -> Reply
+    ensures { result.code ≡ code_of read }
 {
-    match refusal {
-        Ok(()) => taken(0),
+    match read {
+        Ok(_) => taken(0),
         Err(ImageRefusal::FirstWord) => reply::refused(FIRST_WORD),
         Err(ImageRefusal::Word(i)) => reply::refused_at(a, WRONG_WORD, i),
     }
 }
 
 // After a restore.
-fn restored(m: Machine, a: &mut Answer, read: Restored) -> Step
+fn restored(m: Machine, a: &mut Answer, read: Result<Panel, ImageRefusal>) -> Step
     ensures { AfterRestore m read result }
 {
-    let panel = read.panel;
-    let refusal = read.refusal;
-    stepped(m, Machine { panel, ..m }, restore_answer(a, refusal))
+    let panel = read.unwrap_or(m.panel);
+    stepped(m, Machine { panel, ..m }, restore_answer(a, read))
 }
 
-// The arrays one by one, as the panel's restoring has them: they are the caller's, in the C interface.
-pub fn restore(
-    m: Machine,
-    times: &mut [f64; MAX_LEN],
-    positions: &mut [f32; PARTS],
-    codes: &mut [u32; CODES],
-    places: &mut [f32; PLACES],
-    presses: &mut [u8; PRESSES],
-    a: &mut Answer,
-    w: &[u32],
-) -> Step
-    ensures { Restores m w.now
-        (lent times.old positions.old codes.old places.old presses.old)
-        (lent times.new positions.new codes.new places.new presses.new) result }
+pub fn restore(m: Machine, lent: &mut Arrays, a: &mut Answer, w: &[u32]) -> Step
+    ensures { Restores m w.now (lent_of lent.old) (lent_of lent.new) result }
 {
-    let p = m.panel;
-    let read = parking::restore::restore(p, times, positions, codes, places, presses, w);
+    let read = parking::restore::restore(
+        &mut lent.times,
+        &mut lent.positions,
+        &mut lent.codes,
+        &mut lent.places,
+        &mut lent.presses,
+        w,
+    );
     restored(m, a, read)
 }
 
 // From the image that the last park wrote. With a word, or where none was written, the request is out of the format.
-pub fn restore_last(
-    m: Machine,
-    times: &mut [f64; MAX_LEN],
-    positions: &mut [f32; PARTS],
-    codes: &mut [u32; CODES],
-    places: &mut [f32; PLACES],
-    presses: &mut [u8; PRESSES],
-    image: &Image,
-    a: &mut Answer,
-    w: &[u32],
-) -> Step
-    ensures { Restores m (take m.parked image.now)
-        (lent times.old positions.old codes.old places.old presses.old)
-        (lent times.new positions.new codes.new places.new presses.new) result }
+pub fn restore_last(m: Machine, lent: &mut Arrays, image: &Image, a: &mut Answer, w: &[u32]) -> Step
+    ensures { Restores m (take m.parked image.now) (lent_of lent.old) (lent_of lent.new) result }
 {
     let n = m.parked;
     if w.len() > 0 {
@@ -85,5 +64,5 @@ pub fn restore_last(
         return refused(m);
     }
     let all: &[u32] = image;
-    restore(m, times, positions, codes, places, presses, a, &all[0..n])
+    restore(m, lent, a, &all[0..n])
 }

@@ -4,7 +4,8 @@ use touch_device::Device;
 use touch_state::devices;
 use touch_state::devices::Devices;
 use touches::Touches;
-use trace_words::words::{Answer, Said};
+use trace_words::said::Said;
+use trace_words::words::Answer;
 
 fn touch(a: &mut Answer, t: ActiveTouch) {
     a.id(t.id);

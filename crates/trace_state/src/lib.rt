@@ -2,4 +2,5 @@
 #![tactic(auto)]
 
 pub mod devices;
+pub mod lent;
 pub mod parts;

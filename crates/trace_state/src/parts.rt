@@ -1,26 +1,27 @@
 // The parts of DUMP that are the pointer's, the wheel's, the options' and the interaction's.
+use crate::lent::Arrays;
 use data::mouse_wheel::WheelState;
 use data::options::InputOptions;
-use emath_history::history::{History, MAX_LEN, PARTS};
+use emath_history::history::{History, MAX_LEN};
 use interaction_state::state::Interaction;
 use pointer_clicks::{ClickPast, Held};
 use pointer_place::Place;
 use trace_words::words::Answer;
 
 // The i-th sample, from the oldest.
-fn sample(a: &mut Answer, h: History, times: &[f64; MAX_LEN], positions: &[f32; PARTS], i: usize) {
+fn sample(a: &mut Answer, h: History, lent: &Arrays, i: usize) {
     let k = (h.start % MAX_LEN + i % MAX_LEN) % MAX_LEN;
-    a.seconds(times[k]);
-    a.float(positions[2 * k]);
-    a.float(positions[2 * k + 1]);
+    a.seconds(lent.times[k]);
+    a.float(lent.positions[2 * k]);
+    a.float(lent.positions[2 * k + 1]);
 }
 
 // Its length, then a time and a position each.
-pub fn history(a: &mut Answer, h: History, times: &[f64; MAX_LEN], positions: &[f32; PARTS]) {
+pub fn history(a: &mut Answer, h: History, lent: &Arrays) {
     let len = h.len();
     a.count(len);
     for i in 0..len {
-        sample(a, h, times, positions, i);
+        sample(a, h, lent, i);
     }
 }
 

@@ -1,6 +1,6 @@
 // Drags that a trace starts and stops.
-use crate::calls::{INTERACT, PARK, RESET, RESTORE, RESTORE_LAST};
-use trace_words::reply::Reply;
+use crate::record::Record;
+use trace_words::calls::Call;
 use trace_words::request::{at, id};
 
 // Drags started and stopped since the panel was fresh, and whether one goes on.
@@ -48,15 +48,19 @@ impl Drags {
 const IS_DRAGGED: usize = 238;
 
 impl Tally {
-    fn changed(self, a: &[u32], kind: u32, w: &[u32]) -> Tally {
-        let drags = match kind {
-            INTERACT => self.drags.after(a),
-            RESET => Drags::default(),
-            RESTORE_LAST => self.parked,
-            RESTORE => Drags::anew(at(w, IS_DRAGGED) != 0),
+    fn changed(self, r: Record<'_>) -> Tally {
+        let drags = match r.call {
+            Some(Call::Interact) => self.drags.after(r.answer),
+            Some(Call::Reset) => Drags::default(),
+            Some(Call::RestoreLast) => self.parked,
+            Some(Call::Restore) => Drags::anew(at(r.asked, IS_DRAGGED) != 0),
             _ => self.drags,
         };
-        let parked = if kind == PARK { drags } else { self.parked };
+        let parked = if r.call == Some(Call::Park) {
+            drags
+        } else {
+            self.parked
+        };
         Tally {
             drags,
             parked,
@@ -65,14 +69,15 @@ impl Tally {
     }
 
     // After a call.
-    pub fn counted(self, a: &[u32], r: Reply, kind: u32, w: &[u32]) -> Tally {
+    pub fn counted(self, r: Record<'_>) -> Tally {
         let next = Tally {
             calls: self.calls.wrapping_add(1),
             ..self
         };
-        if r.code == 0 {
-            return next.changed(a, kind, w);
+        if r.reply.code == 0 {
+            next.changed(r)
+        } else {
+            next
         }
-        next
     }
 }

@@ -1,16 +1,13 @@
 // A call in plain text: one line that says when, what, and what came of it; the events of a pass stand below it.
-use crate::calls::{
-    ASK, CLEAR_WIDGETS, DUMP, EXP, INSERT, INTERACT, KERNEL, PARK, PASS, RESET, RESTED, RESTORE,
-    RESTORE_LAST, SET_TALLY,
-};
 use crate::counts::{Drags, Tally};
 use crate::numbers::{factor, rested};
+use crate::record::Record;
 use std::fmt;
 use std::fmt::Write;
 use trace_events::clearing::is_clearing;
 use trace_events::events::{event_count, events};
 use trace_output::output::Output;
-use trace_words::reply::Reply;
+use trace_words::calls::Call;
 use trace_words::request::{PASS_WORDS, at, id};
 
 fn shifted(m: u64, by: u64) -> u64 {
@@ -34,27 +31,26 @@ fn time(out: &mut Output, t: f64) -> fmt::Result {
     write!(out, "{:>8}.{:03}  ", ms / 1000, ms % 1000)
 }
 
-fn name(kind: u32) -> &'static str {
-    match kind {
-        RESET => "reset",
-        PASS => "pass",
-        INSERT => "insert",
-        CLEAR_WIDGETS => "clear",
-        INTERACT => "interact",
-        ASK => "ask",
-        DUMP => "dump",
-        SET_TALLY => "set tally",
-        KERNEL => "kernel",
-        RESTED => "rested",
-        EXP => "exponent",
-        PARK => "park",
-        RESTORE_LAST => "restore",
-        RESTORE => "restore",
-        _ => "?",
+fn name(call: Call) -> &'static str {
+    match call {
+        Call::Reset => "reset",
+        Call::Pass => "pass",
+        Call::Insert => "insert",
+        Call::ClearWidgets => "clear",
+        Call::Interact => "interact",
+        Call::Ask => "ask",
+        Call::Dump => "dump",
+        Call::SetTally => "set tally",
+        Call::Kernel => "kernel",
+        Call::Rested => "rested",
+        Call::Exp => "exponent",
+        Call::Park => "park",
+        Call::RestoreLast | Call::Restore => "restore",
     }
 }
 
 // What 01's table, with 02's numbers, says of a refusal.
+// Kept (plain): the code is the number that stands in the answer, and any other has a meaning too: an enum for it would be one more table.
 fn meaning(code: u32) -> &'static str {
     match code {
         1 => "unknown kind, field or stray bit, or cut short",
@@ -76,22 +72,24 @@ fn meaning(code: u32) -> &'static str {
     }
 }
 
-// The index of a refusal: a word of the feed or of the image, or an entry of a hit list.
-fn index(out: &mut Output, kind: u32, i: u32) -> fmt::Result {
-    match kind {
-        PASS => write!(out, " at word {i}"),
-        RESTORE => write!(out, " at word {i}"),
-        INTERACT => write!(out, " at entry {i}"),
-        _ => Ok(()),
+// What the index of a refusal counts: words of the feed or of the image, or entries of a hit list.
+fn counted(call: Option<Call>) -> Option<&'static str> {
+    match call {
+        Some(Call::Pass | Call::Restore) => Some("word"),
+        Some(Call::Interact) => Some("entry"),
+        _ => None,
     }
 }
 
-fn refused(out: &mut Output, a: &[u32], r: Reply, kind: u32) -> fmt::Result {
-    write!(out, "{:<10}refused {}", name(kind), r.code)?;
-    if r.words > 0 {
-        index(out, kind, at(a, 0))?;
+fn refused(out: &mut Output, r: Record<'_>) -> fmt::Result {
+    let code = r.reply.code;
+    write!(out, "{:<10}refused {code}", r.call.map_or("?", name))?;
+    if r.reply.words > 0 {
+        if let Some(what) = counted(r.call) {
+            write!(out, " at {what} {}", at(r.answer, 0))?;
+        }
     }
-    write!(out, ": {}", meaning(r.code))
+    write!(out, ": {}", meaning(code))
 }
 
 // A clearing pass gives a time and a screen rectangle.
@@ -196,44 +194,38 @@ fn inserted(out: &mut Output, a: &[u32]) -> fmt::Result {
 }
 
 // What is said of a call beside its name, if more is.
-fn detail(out: &mut Output, a: &[u32], r: Reply, kind: u32, w: &[u32], t: Tally) -> fmt::Result {
-    match kind {
-        PASS => pass(out, w),
-        KERNEL => kernel(out, a, w),
-        INSERT => inserted(out, a),
-        INTERACT => snapshot(out, a, t.drags),
-        RESTED => rested(out, a),
-        EXP => factor(out, a, w),
-        PARK => write!(out, "{}", Several(r.words as u64, "word")),
-        RESTORE => write!(out, "{}", Several(w.len() as u64, "word")),
+fn detail(out: &mut Output, call: Call, r: Record<'_>, t: Tally) -> fmt::Result {
+    match call {
+        Call::Pass => pass(out, r.asked),
+        Call::Kernel => kernel(out, r.answer, r.asked),
+        Call::Insert => inserted(out, r.answer),
+        Call::Interact => snapshot(out, r.answer, t.drags),
+        Call::Rested => rested(out, r.answer),
+        Call::Exp => factor(out, r.answer, r.asked),
+        Call::Park => write!(out, "{}", Several(r.reply.words as u64, "word")),
+        Call::Restore => write!(out, "{}", Several(r.asked.len() as u64, "word")),
         _ => out.write_str("what was parked last"),
     }
 }
 
-fn taken(out: &mut Output, a: &[u32], r: Reply, kind: u32, w: &[u32], t: Tally) -> fmt::Result {
-    match kind {
-        RESET | CLEAR_WIDGETS | ASK | DUMP | SET_TALLY => out.write_str(name(kind)),
+fn taken(out: &mut Output, call: Call, r: Record<'_>, t: Tally) -> fmt::Result {
+    match call {
+        Call::Reset | Call::ClearWidgets | Call::Ask | Call::Dump | Call::SetTally => {
+            out.write_str(name(call))
+        }
         _ => {
-            write!(out, "{:<10}", name(kind))?;
-            detail(out, a, r, kind, w, t)
+            write!(out, "{:<10}", name(call))?;
+            detail(out, call, r, t)
         }
     }
 }
 
-pub fn line(
-    out: &mut Output,
-    now: f64,
-    a: &[u32],
-    r: Reply,
-    kind: u32,
-    w: &[u32],
-    t: Tally,
-) -> fmt::Result {
+// A number that is no call's is never taken.
+pub fn line(out: &mut Output, now: f64, r: Record<'_>, t: Tally) -> fmt::Result {
     time(out, now)?;
-    if r.code == 0 {
-        taken(out, a, r, kind, w, t)?;
-    } else {
-        refused(out, a, r, kind)?;
+    match r.call {
+        Some(call) if r.reply.code == 0 => taken(out, call, r, t)?,
+        _ => refused(out, r)?,
     }
     out.write_str("\n")
 }

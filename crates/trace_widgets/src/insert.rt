@@ -1,23 +1,22 @@
 // INSERT: the widget goes into the set, and the lent slice follows.
 ghost use Rattle.std.specs.Prelude.{◌≡◌};
-ghost use Rattle.trace_widgets.specs.Insert.{Insertion};
+ghost use Rattle.trace_widgets.specs.Insert as Insert;
 
-use crate::lent::{gathered, given, scatter};
+use crate::lent::{SetArrays, gathered, given, scatter};
 use data::limits::MAX_WIDGETS;
 use data::widget::WidgetRect;
 use trace_words::records::Lent;
 use trace_words::reply::{Reply, malformed, refused_by, taken};
 use trace_words::request::{INSERT_WORDS, WIDGET_WORDS, at, bit, widget};
 use trace_words::words::Answer;
-use widget_append::Decision;
-use widget_index::index::{find, find_layer};
-use widget_index::table::{
-    Edges, Numbers, PLACES, WidgetRects, Words, count_at, layer_of, layers_of,
-};
+use widget_append::Insertion;
+use widget_index::index::Table;
+use widget_index::table::{PLACES, WidgetRects, count_at, layer_of};
 use widget_insert::decide;
 use widget_slices::settled;
 
-// The set after an insertion, and the answer. No Result: a refused insertion has both too.
+// The set after an insertion, and the answer.
+// Kept (plain): no Result: a refused insertion answers with a reply and a set too
 #[derive(Clone, Copy)]
 pub struct Placed {
     pub set: WidgetRects,
@@ -33,110 +32,81 @@ fn is_well_formed(w: &[u32]) -> bool {
 }
 
 // The widgets of the layer as the caller lends them.
-fn slice(
-    h: WidgetRects,
-    words: &Words,
-    numbers: &Numbers,
-    lent: &Lent,
-    w: &[u32],
-    new: WidgetRect,
-) -> [WidgetRect; MAX_WIDGETS] {
+fn slice(table: Table<'_>, lent: &Lent, w: &[u32], new: WidgetRect) -> [WidgetRect; MAX_WIDGETS] {
     let blank = [new; MAX_WIDGETS];
-    let layer = new.layer_id;
-    match find_layer(words, numbers, layer, layers_of(h)) {
+    match table.find_layer(new.layer_id) {
         None => blank,
         Some(l) => {
-            let a = gathered(blank, h, numbers, lent, l);
+            let a = gathered(blank, table, lent, l);
             if w.len() <= INSERT_WORDS {
                 return a;
             }
-            given(a, count_at(numbers, l), &w[INSERT_WORDS..])
+            given(a, count_at(table.numbers, l), &w[INSERT_WORDS..])
         }
     }
 }
 
 // The slice after a taken insertion goes back to where it is kept.
-fn follow(
-    words: &Words,
-    numbers: &Numbers,
-    lent: &mut Lent,
-    a: [WidgetRect; MAX_WIDGETS],
-    d: Decision,
-) {
-    let set = d.set;
-    let w = d.widget;
-    if d.to > MAX_WIDGETS {
+fn follow(table: Table<'_>, lent: &mut Lent, a: [WidgetRect; MAX_WIDGETS], i: Insertion) {
+    if i.to > MAX_WIDGETS {
         return;
     }
-    if let Some(s) = find(set, words, numbers, w.id) {
-        let b = settled(a, d.from, d.to, w);
-        scatter(lent, set, numbers, b, layer_of(numbers[PLACES + s]));
+    if let Some(s) = table.find(i.widget.id) {
+        let b = settled(a, i.from, i.to, i.widget);
+        scatter(lent, table, b, layer_of(table.numbers[PLACES + s]));
     }
 }
 
-fn answered(a: &mut Answer, position: usize, many: usize, w: WidgetRect) -> Reply
+fn answered(a: &mut Answer, i: Insertion) -> Reply
     ensures { result.code ≡ 0 }
 {
-    a.count(position);
-    a.count(many);
-    a.widget(w);
+    a.count(i.position);
+    a.count(i.count);
+    a.widget(i.widget);
     taken(a.len())
 }
 
-fn insert_into(
-    a: &mut Answer,
-    h: WidgetRects,
-    words: &mut Words,
-    numbers: &mut Numbers,
-    edges: &mut Edges,
-    lent: &mut Lent,
-    w: &[u32],
-) -> Placed
-    ensures { Insertion
-        h words.old numbers.old edges.old lent.old
-        result words.new numbers.new edges.new lent.new }
+fn insert_into(a: &mut Answer, h: WidgetRects, kept: &mut SetArrays, w: &[u32]) -> Placed
+    ensures { Insert.Insertion h kept.old result kept.new }
 {
     let new = widget(w);
-    let before = slice(h, words, numbers, lent, w, new);
-    let d = decide(
+    let table = Table {
+        set: h,
+        words: &kept.words,
+        numbers: &kept.numbers,
+    };
+    let before = slice(table, &kept.lent, w, new);
+    let many = at(w, 17) as usize;
+    match decide(
         h,
-        words,
-        numbers,
-        edges,
-        at(w, 17) as usize,
+        &mut kept.words,
+        &mut kept.numbers,
+        &mut kept.edges,
+        many,
         new,
         bit(at(w, 16), 4),
-    );
-    let set = d.set;
-    let record = d.widget;
-    let outcome = d.answer;
-    match outcome {
+    ) {
         Err(why) => Placed {
-            set,
+            set: h,
             reply: refused_by(a, why),
         },
         Ok(i) => {
-            follow(words, numbers, lent, before, d);
+            let table = Table {
+                set: i.set,
+                words: &kept.words,
+                numbers: &kept.numbers,
+            };
+            follow(table, &mut kept.lent, before, i);
             Placed {
-                set,
-                reply: answered(a, i.position, i.count, record),
+                set: i.set,
+                reply: answered(a, i),
             }
         }
     }
 }
 
-pub fn insert(
-    a: &mut Answer,
-    h: WidgetRects,
-    words: &mut Words,
-    numbers: &mut Numbers,
-    edges: &mut Edges,
-    lent: &mut Lent,
-    w: &[u32],
-) -> Placed
-    ensures { Insertion
-        h words.old numbers.old edges.old lent.old
-        result words.new numbers.new edges.new lent.new }
+pub fn insert(a: &mut Answer, h: WidgetRects, kept: &mut SetArrays, w: &[u32]) -> Placed
+    ensures { Insert.Insertion h kept.old result kept.new }
 {
     if !is_well_formed(w) {
         return Placed {
@@ -144,5 +114,5 @@ pub fn insert(
             reply: malformed(),
         };
     }
-    insert_into(a, h, words, numbers, edges, lent, w)
+    insert_into(a, h, kept, w)
 }

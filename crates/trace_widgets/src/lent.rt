@@ -6,9 +6,33 @@ use data::bits::bit_number;
 use data::limits::MAX_WIDGETS;
 use data::widget::WidgetRect;
 use emath::rect::Rect;
-use trace_words::records::Lent;
+use trace_words::records::{LENT, Lent};
 use trace_words::request::{WIDGET_WORDS, widget};
-use widget_index::table::{Numbers, PLACES, WidgetRects, layer_of, position_of, widgets_of};
+use widget_index::index::Table;
+use widget_index::table::{
+    EDGES, Edges, NUMBERS, Numbers, PLACES, WORDS, Words, layer_of, position_of, widgets_of,
+};
+
+// The arrays beside a set: its own three, and what the slices lent for the insertions hold.
+// Kept (C): the set's three, as `decide` takes them: C lends it each.
+#[derive(Drop)]
+pub struct SetArrays {
+    pub words: Words,
+    pub numbers: Numbers,
+    pub edges: Edges,
+    pub lent: Lent,
+}
+
+impl Default for SetArrays {
+    fn default() -> SetArrays {
+        SetArrays {
+            words: [0; WORDS],
+            numbers: [0; NUMBERS],
+            edges: [0.0; EDGES],
+            lent: [0; LENT],
+        }
+    }
+}
 
 // The record of a slot.
 fn record(lent: &[u32], slot: usize) -> WidgetRect {
@@ -19,7 +43,8 @@ fn record(lent: &[u32], slot: usize) -> WidgetRect {
     widget(lent)
 }
 
-// Two words by index, the low one first: the lent record is plain words, and a shift and a cast would be no plainer.
+// Two words, the low one first.
+// Kept (plain): by index: the lent record is plain words, and a shift and a cast would be no plainer
 fn put_id(lent: &mut Lent, at: usize, d: u64)
     requires { at ≤ 17406 }
 {
@@ -51,14 +76,13 @@ fn put_record(lent: &mut Lent, slot: usize, w: WidgetRect) {
 // The layer's records by position, in the first places of `a`.
 pub fn gathered(
     a: [WidgetRect; MAX_WIDGETS],
-    h: WidgetRects,
-    numbers: &Numbers,
+    table: Table<'_>,
     lent: &Lent,
     l: usize,
 ) -> [WidgetRect; MAX_WIDGETS] {
     let mut b = a;
-    for s in 0..widgets_of(h) {
-        let place = numbers[PLACES + s];
+    for s in 0..widgets_of(table.set) {
+        let place = table.numbers[PLACES + s];
         let position = position_of(place);
         if (layer_of(place) == l) & (position < MAX_WIDGETS) {
             b[position % MAX_WIDGETS] = record(lent, s);
@@ -81,15 +105,9 @@ pub fn given(a: [WidgetRect; MAX_WIDGETS], k: usize, w: &[u32]) -> [WidgetRect; 
 }
 
 // The layer's records go back to their slots.
-pub fn scatter(
-    lent: &mut Lent,
-    h: WidgetRects,
-    numbers: &Numbers,
-    a: [WidgetRect; MAX_WIDGETS],
-    l: usize,
-) {
-    for s in 0..widgets_of(h) {
-        let place = numbers[PLACES + s];
+pub fn scatter(lent: &mut Lent, table: Table<'_>, a: [WidgetRect; MAX_WIDGETS], l: usize) {
+    for s in 0..widgets_of(table.set) {
+        let place = table.numbers[PLACES + s];
         let position = position_of(place);
         if (layer_of(place) == l) & (position < MAX_WIDGETS) {
             put_record(lent, s, a[position % MAX_WIDGETS]);

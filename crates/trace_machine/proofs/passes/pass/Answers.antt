@@ -1,14 +1,10 @@
-use mathlib.Core.Path.{◌≡◌, refl, ◌∙◌}
+use mathlib.Core.Path.{◌≡◌, ◌∙◌}
 use Prim.Native.Nat.{◌-◌}
 use native.Mathlib.Omega.{arith}
 use lib.ListN.{length, take, drop, length-drop}
 use lib.Seq.{take_all}
 use Rattle.trace_machine.proofs.Steps.{carried}
-use borrow.Author.Rules.{rules}
 use Rattle.trace_machine.proofs.passes.pass.Goals as goal
-
-pub returns-then-w-lt-PASS_WORDS : goal.returns-then-w-lt-PASS_WORDS
-returns-then-w-lt-PASS_WORDS c = record { refused = λ is-not. (c.refused.ensures.1, refl); taken = λ is. absurd (omega (arith, c.refused.ensures.0)) }
 
 pub returns : goal.returns
 returns c =

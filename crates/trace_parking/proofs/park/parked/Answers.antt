@@ -13,6 +13,6 @@ returns-in-Err-ShortBuffer c =
 
 pub returns-in-Ok : goal.returns-in-Ok
 returns-in-Ok c =
-    let e = c.with_parked.ensures in
+    let e = c.kept-in-Ok.ensures in
     let told = c.in-Ok.is in
     rw told (ap (λ (s : Step). s.reply.code) e ∙ c.taken.ensures.0, ap (λ (s : Step). s.machine) e)

@@ -4,8 +4,8 @@ use Rattle.trace_widgets.proofs.insert.insert_into.Goals as goal
 
 pub returns-in-Err : goal.returns-in-Err
 returns-in-Err c =
-    let k = gives_kept _ _ _ _ _ _ _ _ _ _ _ _ c.decide-d.ensures c.in-Err.is in
-    record { refused = λ is-not. (k.0, k.1, k.2, k.3, refl) }
+    let k = gives_kept _ _ _ _ _ _ _ _ _ _ _ _ c.decide.ensures c.in-Err.is in
+    record { refused = λ is-not. (refl, k.0, k.1, k.2, refl) }
 
 pub returns-in-Ok : goal.returns-in-Ok
 returns-in-Ok c =
