@@ -59,7 +59,8 @@ def comment(lines):
 
 
 def parameters(text):
-    return [tuple(p.strip().split(': ', 1)) for p in re.split(r',\s*(?![^\[]*\])', text) if p.strip()]
+    # a parameter that the body changes is `mut` in Rattle alone
+    return [tuple(p.strip().removeprefix('mut ').split(': ', 1)) for p in re.split(r',\s*(?![^\[]*\])', text) if p.strip()]
 
 
 modules = {m.name: m for m in (Module(p) for p in sorted(glob.glob('crates/*/src/**/*.rt', recursive=True)))}

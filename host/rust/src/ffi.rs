@@ -462,7 +462,7 @@ unsafe extern "C" {
     pub fn fivvarul_pass(seconds: &mut [f64; SECONDS], floats: &mut [f32; FLOATS], counts: &mut [usize; COUNTS], flags: &mut [bool; FLAGS], keys_down: &mut [u64; KEYS], ids0: &mut [u64; IDS], floats0: &mut [f32; DEVICE_FLOATS], flags0: &mut [bool; DEVICE_FLAGS], ids1: &mut [u64; IDS], floats1: &mut [f32; DEVICE_FLOATS], flags1: &mut [bool; DEVICE_FLAGS], ids2: &mut [u64; IDS], floats2: &mut [f32; DEVICE_FLOATS], flags2: &mut [bool; DEVICE_FLAGS], ids3: &mut [u64; IDS], floats3: &mut [f32; DEVICE_FLOATS], flags3: &mut [bool; DEVICE_FLAGS], starts: &mut [f64; MAX_DEVICES], times: &mut [f64; MAX_LEN], positions: &mut [f32; PARTS], codes: &mut [u32; CODES], places: &mut [f32; PLACES], presses: &mut [u8; PRESSES], given: HostPass, feed: *const u32, feed_len: usize) -> HostRefusal;
     pub safe fn fivvarul_zoom_factor(exponent: f32) -> HostFactor;
     pub safe fn fivvarul_kernel_fresh() -> KernelTouches;
-    pub fn fivvarul_read_records(mut kernel: KernelTouches, device: u64, bytes: *const u8, bytes_len: usize, feed: *mut u32, feed_len: usize) -> HostKernelRead;
+    pub fn fivvarul_read_records(kernel: KernelTouches, device: u64, bytes: *const u8, bytes_len: usize, feed: *mut u32, feed_len: usize) -> HostKernelRead;
     pub safe fn fivvarul_press_origin(seconds: &[f64; SECONDS], floats: &[f32; FLOATS], counts: &[usize; COUNTS], flags: &[bool; FLAGS]) -> HostPosition;
     pub safe fn fivvarul_press_start_time(seconds: &[f64; SECONDS], floats: &[f32; FLOATS], counts: &[usize; COUNTS], flags: &[bool; FLAGS]) -> HostSeconds;
     pub safe fn fivvarul_any_down(seconds: &[f64; SECONDS], floats: &[f32; FLOATS], counts: &[usize; COUNTS], flags: &[bool; FLAGS]) -> bool;
@@ -572,8 +572,8 @@ impl Memory {
     }
 
     /// The bytes of a call become events of `device` in the feed buffer. Refused, every place of the buffer is as before.
-    pub fn read_records(mut kernel: KernelTouches, device: u64, bytes: &[u8], feed: &mut [u32]) -> HostKernelRead {
-        unsafe { fivvarul_read_records(mut kernel, device, bytes.as_ptr(), bytes.len(), feed.as_mut_ptr(), feed.len()) }
+    pub fn read_records(kernel: KernelTouches, device: u64, bytes: &[u8], feed: &mut [u32]) -> HostKernelRead {
+        unsafe { fivvarul_read_records(kernel, device, bytes.as_ptr(), bytes.len(), feed.as_mut_ptr(), feed.len()) }
     }
 
     pub fn press_origin(&self) -> HostPosition {
