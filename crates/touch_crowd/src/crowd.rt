@@ -16,14 +16,14 @@ use touch_state::devices::{Devices, add, known_at, no_place};
 
 // Is there no place for a touch event: of the device at place k, or of one that is not known?
 fn is_crowded(
-    held: Devices,
+    held: &Devices,
     k: usize,
     device: Device,
     device_id: u64,
     phase: TouchPhase,
     id: u64,
 ) -> bool
-    ensures { result ≡ cond (ltb k max_devices) (no_place phase id 0 (Some (device_view device))) (no_place phase id (length (view held)) (find_device device_id (view held))) }
+    ensures { result ≡ cond (ltb k max_devices) (no_place phase id 0 (Some (device_view device))) (no_place phase id (length (view held.now)) (find_device device_id (view held.now))) }
 {
     if k < MAX_DEVICES {
         return touch_device::is_full(device, phase, id);
@@ -56,12 +56,12 @@ pub fn crowd(
                     if k < MAX_DEVICES {
                         held.places[k] = device;
                     }
-                    k = known_at(held, e.device_id).unwrap_or(MAX_DEVICES);
+                    k = known_at(&held, e.device_id).unwrap_or(MAX_DEVICES);
                     if k < MAX_DEVICES {
                         device = held.places[k];
                     }
                 }
-                if is_crowded(held, k, device, e.device_id, phase, touch.id) {
+                if is_crowded(&held, k, device, e.device_id, phase, touch.id) {
                     return Err(PassRefusal::NoPlace(at));
                 }
                 if k < MAX_DEVICES {

@@ -65,6 +65,18 @@ pub fn on_touch(d: Device, phase: TouchPhase, t: ActiveTouch) -> Device
     }
 }
 
+// A device that its first touch event makes known. So `on_touch` has one caller, and the compiler puts it in place there.
+#[tactic(auto, unfolding(crate::specs::View::fits_device, model::specs::Touch::new_device))]
+pub fn first(id: u64, phase: TouchPhase, t: ActiveTouch) -> Device
+    ensures { device_view result ≡ fits_device phase t (new_device id) }
+{
+    Device {
+        id,
+        touches: touches::first(phase, t),
+        gesture_state: None,
+    }
+}
+
 // Is it the Start of a touch too many?
 pub fn is_full(d: Device, phase: TouchPhase, id: u64) -> bool
     ensures { result ≡ no_place phase id 0 (Some (device_view d)) }

@@ -12,7 +12,7 @@ use touch_state::devices::{Devices, index_of, known, len};
 pub fn info(ds: Devices, device_id: u64) -> Option<MultiTouchInfo>
     ensures { result ≡ info_at (find_device device_id (view ds)) }
 {
-    let i = index_of(ds, device_id)?;
+    let i = index_of(&ds, device_id)?;
     touch_device::info::info(ds.places[i])
 }
 
@@ -46,7 +46,7 @@ pub fn any_touches(ds: Devices) -> bool
 pub fn any_touches_of(ds: Devices, device_id: u64) -> bool
     ensures { result ≡ any_touches_at (find_device device_id (view ds)) }
 {
-    match index_of(ds, device_id) {
+    match index_of(&ds, device_id) {
         None => false,
         Some(i) => touch_device::any_touches(ds.places[i]),
     }

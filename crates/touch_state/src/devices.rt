@@ -1,5 +1,5 @@
 // The devices that are known, by ascending id in the first `count` places: egui's BTreeMap.
-ghost use Rattle.std.specs.Prelude.{◌≡◌, ◌<◌, [], length, position, IfSome};
+ghost use Rattle.std.specs.Prelude.{◌≡◌, ◌<◌, ◌≤◌, [], length, position, IfSome};
 ghost use Rattle.std.specs.Option.{unwrap_or};
 ghost use Rattle.data.specs.Limits.{max_devices};
 ghost use Rattle.model.specs.Touch.{no_place, find_device};
@@ -36,24 +36,26 @@ pub fn len(ds: Devices) -> usize
 
 // The devices, without the places that are free.
 pub fn known(ds: &Devices) -> &[Device]
-    ensures { result.now ≡ known ds.now }
+    ensures places { result.now ≡ known ds.now }
+    ensures within { length result.now ≤ max_devices }
 {
-    &ds.places[..len(*ds)]
+    // The count is read where it stands: `len` is handed a copy of the record.
+    &ds.places[..ds.count.min(MAX_DEVICES)]
 }
 
 // The first place with this id, if there is one.
-pub fn index_of(ds: Devices, id: u64) -> Option<usize>
-    ensures { result ≡ position (has device_id id) (known ds) }
+pub fn index_of(ds: &Devices, id: u64) -> Option<usize>
+    ensures { result ≡ position (has device_id id) (known ds.now) }
 {
-    find(known(&ds), id)
+    find(known(ds), id)
 }
 
 // The place of a device that is known, where the order of the ids has it: egui's map finds no other.
-pub fn known_at(ds: Devices, id: u64) -> Option<usize>
-    ensures place { unwrap_or result max_devices ≡ known_at id (known ds) }
+pub fn known_at(ds: &Devices, id: u64) -> Option<usize>
+    ensures place { unwrap_or result max_devices ≡ known_at id (known ds.now) }
     ensures below { IfSome result (λ k. k < max_devices) }
 {
-    let us = known(&ds);
+    let us = known(ds);
     let i = place_of(us, id);
     is_at(us, i, id).then_some(i)
 }
@@ -68,7 +70,7 @@ pub fn add(ds: Devices, id: u64, phase: TouchPhase, t: ActiveTouch) -> Devices
         return ds;
     }
     let at = place_of(known(&ds), id);
-    let device = touch_device::on_touch(touch_device::new(id), phase, t);
+    let device = touch_device::first(id, phase, t);
     let mut s = ds;
     put_in(&mut s.places, n, at, device);
     s.count = n + 1;
@@ -76,11 +78,11 @@ pub fn add(ds: Devices, id: u64, phase: TouchPhase, t: ActiveTouch) -> Devices
 }
 
 // Is there no place for a touch event: a device too many, or the Start of a touch too many? Only for a Start are the touches looked at.
-pub fn no_place(ds: Devices, device_id: u64, phase: TouchPhase, id: u64) -> bool
-    ensures { result ≡ no_place phase id (length (view ds)) (find_device device_id (view ds)) }
+pub fn no_place(ds: &Devices, device_id: u64, phase: TouchPhase, id: u64) -> bool
+    ensures { result ≡ no_place phase id (length (view ds.now)) (find_device device_id (view ds.now)) }
 {
     match index_of(ds, device_id) {
-        None => MAX_DEVICES <= len(ds),
+        None => MAX_DEVICES <= len(*ds),
         Some(i) => is_start(phase) && touch_device::is_full(ds.places[i], phase, id),
     }
 }

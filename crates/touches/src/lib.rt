@@ -52,7 +52,8 @@ impl HasId for ActiveTouch {
 fn held(ts: &Touches) -> &[ActiveTouch]
     ensures { result.now ≡ list ts.now }
 {
-    &ts.places[..len(*ts)]
+    // The count is read where it stands: `len` is handed a copy of the record.
+    &ts.places[..ts.count.min(MAX_TOUCHES)]
 }
 
 pub fn holds(ts: Touches, id: u64) -> bool
@@ -66,14 +67,14 @@ fn insert(ts: Touches, t: ActiveTouch) -> Touches
     ensures { list result ≡ if_room (insert_touch t (list ts)) (list ts) }
 {
     let n = len(ts);
-    let at = place_of(held(&ts), t.id);
     let mut s = ts;
-    if is_at(held(&ts), at, t.id) {
+    let at = place_of(held(&s), t.id);
+    if is_at(held(&s), at, t.id) {
         s.places[at] = t;
         return s;
     }
     if n >= MAX_TOUCHES {
-        return ts;
+        return s;
     }
     put_in(&mut s.places, n, at, t);
     s.count = n + 1;
@@ -85,7 +86,7 @@ fn move_to(ts: Touches, t: ActiveTouch) -> Touches
     ensures { list result ≡ move_touch t (list ts) }
 {
     let mut s = ts;
-    if let Some(i) = find(held(&ts), t.id) {
+    if let Some(i) = find(held(&s), t.id) {
         s.places[i] = t;
     }
     s
@@ -116,5 +117,18 @@ pub fn on_touch(ts: Touches, phase: TouchPhase, t: ActiveTouch) -> Touches
         TouchPhase::Start => insert(ts, t),
         TouchPhase::Move => move_to(ts, t),
         TouchPhase::End | TouchPhase::Cancel => remove(ts, t.id),
+    }
+}
+
+// What the first touch event of a device leaves: with a Start every place has the touch, also those that are free.
+pub fn first(phase: TouchPhase, t: ActiveTouch) -> Touches
+    ensures { list result ≡ on_touch_if_room phase t [] }
+{
+    match phase {
+        TouchPhase::Start => Touches {
+            count: 1,
+            places: [t; MAX_TOUCHES],
+        },
+        TouchPhase::Move | TouchPhase::End | TouchPhase::Cancel => none(),
     }
 }

@@ -19,7 +19,7 @@ pub put_in-requires : goal.put_in-requires
 put_in-requires c =
     let ds = c.args.ds in
     let l : length ds.places ≡ 4 = c.well_formed.0.1.1.1.0.1.0.1 in
-    let e = rw c.known.ensures at c.place_of-at.ensures in
+    let e = rw c.known.ensures.places at c.place_of-at.ensures in
     (rw (e, c.len-n.ensures) (place_le device_id _ _), omega arith)
 
 pub returns : goal.returns
@@ -27,7 +27,7 @@ returns c =
     let ds = c.args.ds in
     let l : length ds.places ≡ 4 = c.well_formed.0.1.1.1.0.1.0.1 in
     let m : length (take ds.count ds.places) ≤ 4 = omega (arith, length-take ds.count ds.places) in
-    let e = rw c.known.ensures at c.place_of-at.ensures in
+    let e = rw c.known.ensures.places at c.place_of-at.ensures in
     let n : length (take ds.count ds.places) < 4 = omega arith in
     rw (c.put_in.ensures, first_of _ ds.count ds.places c.len-n.ensures)
-    (touched_miss _ _ ds.count ds.places _ _ e _ (unknown _ _ ds.count ds.places e m c.requires) n (rw c.new.ensures at c.on_touch-device.ensures))
+    (touched_miss _ _ ds.count ds.places _ _ e _ (unknown _ _ ds.count ds.places e m c.requires) n c.first-device.ensures)

@@ -16,16 +16,16 @@ nothing = record { id = 0; touches = record { count = 0; places = [] }; gesture_
 pub returns-in-None : goal.returns-in-None
 unfolding no_place
 returns-in-None c =
-    rw (lost_at _ c.args.ds.count _ c.args.ds.places refl (index_lost device_id _ _ (sym c.index_of.ensures ∙ c.in-None.is)), length-map, c.len.ensures)
+    rw (lost_at _ c.args.ds.now.count _ c.args.ds.now.places refl (index_lost device_id _ _ (sym c.index_of.ensures ∙ c.in-None.is)), length-map, c.len.ensures)
 
 pub returns-then-is_start : goal.returns-then-is_start
 unfolding no_place
 returns-then-is_start c =
     let f = index_found device_id _ _ _ (sym c.index_of.ensures ∙ c.in-Some.is) in
-    c.is_full.ensures ∙ sym (ap (no_place _ _ _) (found_at _ c.args.ds.count _ c.args.ds.places _ f.0 f.1))
+    c.is_full.ensures ∙ sym (ap (no_place _ _ _) (found_at _ c.args.ds.now.count _ c.args.ds.now.places _ f.0 f.1))
 
 pub returns-else-is_start : goal.returns-else-is_start
 unfolding no_place
 returns-else-is_start c =
     let f = index_found device_id _ _ _ (sym c.index_of.ensures ∙ c.in-Some.is) in
-    rw (found_at _ c.args.ds.count _ c.args.ds.places nothing f.0 f.1, ← c.is_start.ensures, c.if-is_start.false)
+    rw (found_at _ c.args.ds.now.count _ c.args.ds.now.places nothing f.0 f.1, ← c.is_start.ensures, c.if-is_start.false)
