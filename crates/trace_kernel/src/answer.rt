@@ -13,8 +13,9 @@ pub type Feed = [u32; FEED_PLACES];
 
 // Kept (plain): a match and no impl of Refusal, whose trait and enum are of other crates. A value that is no word of a feed has the index 0.
 fn refused_kernel(a: &mut Answer, why: KernelRefusal) -> Reply
-    ensures { Answers (kernel_row why) a.old.words result a.new.words }
+    ensures { Answers (kernel_row why) a.old result a.new }
 {
+    a.clear();
     match why {
         KernelRefusal::Length => refused(11),
         KernelRefusal::SlotOutside => refused(12),

@@ -2,6 +2,7 @@
 use Rattle.std.specs.Prelude.{ℕ, ◌%◌, ◌≡◌, List, set, Option, None, Some}
 use Rattle.data.specs.Numbers.{Row}
 use Rattle.trace_words.specs.declared.reply.Reply.{Reply}
+use Rattle.trace_words.specs.declared.words.Answer.{Answer}
 
 -- an index is one word, its low 32 bits
 abbrev pub index_count : Option ℕ → ℕ
@@ -14,10 +15,12 @@ with_index None a = a
 with_index (Some i) a = set a 0 (i % 0x1_0000_0000)
 
 -- what a call refused by this row writes
-pub record Answers (row : Row) (a : List ℕ) (r : Reply) (b : List ℕ) : Type 0 where
+pub record Answers (row : Row) (a : Answer) (r : Reply) (b : Answer) : Type 0 where
   -- 01's number
   pub code : r.code ≡ row.number
   -- the index follows in the rows that return one
   pub words : r.words ≡ index_count row.index
   -- every place of the lent array
-  pub array : b ≡ with_index row.index a
+  pub array : b.words ≡ with_index row.index a.words
+  -- and the answer has as many words as the reply says
+  pub len : b.len ≡ r.words

@@ -107,7 +107,7 @@ pub fn refused(number: u32) -> Reply
 // The answer is the index alone.
 // Kept (plain): see `refused`.
 pub fn refused_at(a: &mut Answer, number: u32, index: usize) -> Reply
-    ensures { Answers (record { number = number; index = Some index }) a.old.words result a.new.words }
+    ensures { Answers (record { number = number; index = Some index }) a.old result a.new }
 {
     a.clear();
     a.count(index);
@@ -118,8 +118,9 @@ pub fn refused_at(a: &mut Answer, number: u32, index: usize) -> Reply
 }
 
 pub fn refused_by<R: Refusal>(a: &mut Answer, why: R) -> Reply
-    ensures { Answers (R.told why) a.old.words result a.new.words }
+    ensures { Answers (R.told why) a.old result a.new }
 {
+    a.clear();
     match why.index() {
         None => refused(why.code()),
         Some(i) => refused_at(a, why.code(), i),

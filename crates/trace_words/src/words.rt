@@ -12,7 +12,7 @@ use emath::vec2::Vec2;
 pub const ROOM: usize = 65536;
 
 // The first `len` words are written.
-#[derive(Drop)]
+#[derive(Clone, Copy)]
 pub struct Answer {
     words: [u32; ROOM],
     len: usize,
