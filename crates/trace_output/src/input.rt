@@ -23,18 +23,30 @@ fn unpack(words: &mut [u32], bytes: &[u8]) {
     }
 }
 
-// The next `len` words, if they could be read.
+// How many times a record is read from, at most: one more than it has chunks.
+const READS: usize = 257;
+
+// The next `len` words, if they could be read. After a read that ends early, with a word at least, it is read on.
 pub fn read(request: &mut Record, len: usize) -> Option<&[u32]>
     ensures { IfSome result (λ words. (length words.now ≡ len) × (len ≤ 262144)) }
 {
     let words = request.get_mut(..len)?;
     let mut bytes = [0u8; CHUNK_BYTES];
-    for chunk in words.chunks_mut(CHUNK) {
-        let wanted = CHUNK_BYTES.min(chunk.len() * WORD_BYTES);
-        if io::read_full(STDIN_FILENO, &mut bytes[..wanted]) < wanted {
+    let mut n: usize = 0;
+    for _ in 0..READS {
+        if len <= n {
+            break;
+        }
+        let wanted = CHUNK_BYTES.min((len - n) * WORD_BYTES);
+        let got = io::read_full(STDIN_FILENO, &mut bytes[..wanted]) / WORD_BYTES;
+        if got == 0 {
             return None;
         }
-        unpack(chunk, &bytes[..wanted]);
+        unpack(&mut words[n..], &bytes[..got * WORD_BYTES]);
+        n += got;
+    }
+    if n < len {
+        return None;
     }
     Some(words)
 }
