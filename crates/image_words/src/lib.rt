@@ -92,8 +92,8 @@ fn double_one_form(b: u64) -> bool
 
 // A field of one word that is to pass `test`.
 fn one<F: FnOnce(u32) -> bool>(words: &[u32], at: usize, test: F) -> Result<(), usize>
-    requires { (w : ℕ) → F.pre test w }
-    ensures { (p : ℕ → Bool) → ((w : ℕ) (r : _) → F.post test w r → r ≡ p w) → found result ≡ word_bad p words.now at }
+    requires { F.pre test (get_or words.now at 0) }
+    ensures { (p : ℕ → Bool) → ((r : _) → F.post test (get_or words.now at 0) r → r ≡ p (get_or words.now at 0)) → found result ≡ word_bad p words.now at }
 {
     if at < words.len() {
         if test(words[at]) {
@@ -105,8 +105,8 @@ fn one<F: FnOnce(u32) -> bool>(words: &[u32], at: usize, test: F) -> Result<(), 
 
 // And one of two words.
 fn two<F: FnOnce(u64) -> bool>(words: &[u32], at: usize, test: F) -> Result<(), usize>
-    requires { (b : ℕ) → F.pre test b }
-    ensures { (p : ℕ → Bool) → ((b : ℕ) (r : _) → F.post test b r → r ≡ p b) → found result ≡ two_bad p words.now at }
+    requires { F.pre test (two_at words.now at) }
+    ensures { (p : ℕ → Bool) → ((r : _) → F.post test (two_at words.now at) r → r ≡ p (two_at words.now at)) → found result ≡ two_bad p words.now at }
 {
     if at < words.len() {
         if at + 1 < words.len() {
@@ -146,13 +146,14 @@ pub fn single_bad(words: &[u32], at: usize) -> Result<(), usize>
     one(words, at, single_one_form)
 }
 
-// In its one form, and in the range that `ok` tests.
+// In its one form, and in the range that `ok` tests: it is asked of the value there alone.
 // Kept (plain): two of each, as `single_at`.
 pub fn single_in_bad<F: Fn(f32) -> bool>(words: &[u32], at: usize, ok: F) -> Result<(), usize>
-    requires { (x : Float) → F.pre ok x }
-    ensures { (p : Float → Bool) → ((x : Float) (r : _) → F.post ok x r → r ≡ p x) → found result ≡ word_bad (single_ok p) words.now at }
+    requires { F.pre ok (of_bits binary32 (get_or words.now at 0)) }
+    ensures { (p : Float → Bool) → ((r : _) → F.post ok (of_bits binary32 (get_or words.now at 0)) r → r ≡ p (of_bits binary32 (get_or words.now at 0))) → found result ≡ word_bad (single_ok p) words.now at }
 {
-    one(words, at, |w| single_one_form(w) & ok(from_bits32(w)))
+    let in_range = ok(single_at(words, at));
+    one(words, at, |w| single_one_form(w) & in_range)
 }
 
 pub fn double_bad(words: &[u32], at: usize) -> Result<(), usize>
@@ -163,10 +164,11 @@ pub fn double_bad(words: &[u32], at: usize) -> Result<(), usize>
 
 // Kept (plain): two of each, as `single_at`.
 pub fn double_in_bad<F: Fn(f64) -> bool>(words: &[u32], at: usize, ok: F) -> Result<(), usize>
-    requires { (x : Float) → F.pre ok x }
-    ensures { (p : Float → Bool) → ((x : Float) (r : _) → F.post ok x r → r ≡ p x) → found result ≡ two_bad (double_ok p) words.now at }
+    requires { F.pre ok (of_bits binary64 (two_at words.now at)) }
+    ensures { (p : Float → Bool) → ((r : _) → F.post ok (of_bits binary64 (two_at words.now at)) r → r ≡ p (of_bits binary64 (two_at words.now at))) → found result ≡ two_bad (double_ok p) words.now at }
 {
-    two(words, at, |b| double_one_form(b) & ok(from_bits64(b)))
+    let in_range = ok(double_at(words, at));
+    two(words, at, |b| double_one_form(b) & in_range)
 }
 
 pub fn id_bad(words: &[u32], at: usize) -> Result<(), usize>

@@ -3,4 +3,4 @@ use Rattle.data.specs.Limits.{unit_interval_ok}
 use Rattle.image_clock.proofs.predicted_bad.Goals as goal
 
 pub returns : goal.returns
-returns c = c.single_in_bad.ensures unit_interval_ok (λ x r p. search of_calls)
+returns c = c.single_in_bad.ensures unit_interval_ok (λ r p. search of_calls)

@@ -3,4 +3,4 @@ use Rattle.data.specs.Limits.{scale_ok}
 use Rattle.image_screen.proofs.scale_bad.Goals as goal
 
 pub returns : goal.returns
-returns c = c.single_in_bad.ensures scale_ok (λ x r p. search of_calls)
+returns c = c.single_in_bad.ensures scale_ok (λ r p. search of_calls)

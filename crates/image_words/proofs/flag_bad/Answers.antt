@@ -3,4 +3,4 @@ use Rattle.image_words.specs.Leaves.{flag}
 use Rattle.image_words.proofs.flag_bad.Goals as goal
 
 pub returns : goal.returns
-returns c = c.one.ensures flag (λ w r p. search of_calls)
+returns c = c.one.ensures flag (λ r p. search of_calls)

@@ -3,4 +3,4 @@ use lib.Dec.{eqb}
 use Rattle.image_words.proofs.header_bad.Goals as goal
 
 pub returns : goal.returns
-returns c = c.one.ensures (eqb _) (λ w r p. search of_calls)
+returns c = c.one.ensures (eqb _) (λ r p. search of_calls)

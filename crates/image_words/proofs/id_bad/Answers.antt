@@ -3,4 +3,4 @@ use Rattle.image_words.specs.Leaves.{any_id}
 use Rattle.image_words.proofs.id_bad.Goals as goal
 
 pub returns : goal.returns
-returns c = c.two.ensures any_id (λ w r p. search of_calls)
+returns c = c.two.ensures any_id (λ r p. search of_calls)

@@ -5,11 +5,11 @@ use Rattle.image_words.proofs.one.Goals as goal
 
 pub returns-then-test : goal.returns-then-test
 unfolding found
-returns-then-test g c = λ p law. one_good p _ _ c.if-at-words.true (sym c.if-test.true ∙ law _ _ c.test.ensures)
+returns-then-test g c = λ p law. one_good p _ _ c.if-at-words.true (sym c.if-test.true ∙ law _ c.test.ensures)
 
 pub returns-else-test : goal.returns-else-test
 unfolding found
-returns-else-test g c = λ p law. one_wrong p _ _ (sym c.if-test.false ∙ law _ _ c.test.ensures)
+returns-else-test g c = λ p law. one_wrong p _ _ (sym c.if-test.false ∙ law _ c.test.ensures)
 
 pub returns-else-at-words : goal.returns-else-at-words
 unfolding found

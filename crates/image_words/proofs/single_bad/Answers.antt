@@ -4,4 +4,4 @@ use Rattle.image.specs.Codes.{single_ok}
 use Rattle.image_words.proofs.single_bad.Goals as goal
 
 pub returns : goal.returns
-returns c = c.one.ensures (single_ok any) (λ w r p. search of_calls)
+returns c = c.one.ensures (single_ok any) (λ r p. search of_calls)
