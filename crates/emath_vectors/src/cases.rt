@@ -50,9 +50,9 @@ fn arithmetic_agrees(b: &[u8; 64]) -> bool {
 }
 
 // The history that the records build, with its arrays, and what was counted.
-#[derive(Drop)]
+#[derive(Clone, Copy)]
 pub struct State {
-    past: History,
+    pub history_now: History,
     times: [f64; MAX_LEN],
     positions: [f32; PARTS],
     pub vectors: Tally,
@@ -63,7 +63,7 @@ pub struct State {
 impl State {
     pub fn new() -> State {
         State {
-            past: History::new(),
+            history_now: History::new(),
             times: [0.0; MAX_LEN],
             positions: [0.0; PARTS],
             vectors: Tally::default(),
@@ -76,9 +76,9 @@ impl State {
     // Words 2 and 3 are the time, 4 and 5 the position.
     // Kept (plain): no enum, since the numbers are the file's, and are read here alone.
     fn step(&mut self, b: &[u8; 64]) {
-        let h = self.past;
+        let h = self.history_now;
         let time = f64_at(b, 2);
-        self.past = match word(b, 1) {
+        self.history_now = match word(b, 1) {
             0 => History {
                 start: word(b, 6) as usize,
                 len: 0,
@@ -91,7 +91,7 @@ impl State {
 
     // Words 7 to 11: len, duration, whether there is a velocity, and the velocity.
     fn history_agrees(&self, b: &[u8; 64]) -> bool {
-        let h = self.past;
+        let h = self.history_now;
         let velocity_agrees = match h.velocity(&self.times, &self.positions) {
             None => word(b, 9) == 0,
             Some(v) => word(b, 9) == 1 && same_vec(v, vec_at(b, 10)),

@@ -5,6 +5,7 @@ ghost use Rattle.std.specs.Prelude.{◌≡◌, true, cond, [], ℕ, ◌+◌, ◌
 ghost use Rattle.feed.specs.Encode.{encode_all};
 ghost use Rattle.kernel_record.specs.Records.{held_dropped};
 ghost use Rattle.kernel_touch.specs.declared.answer.KernelRefusal.TheVariants.{FeedFull};
+ghost use Rattle.kernel_touch.specs.Slots.{fresh};
 ghost use Rattle.kernel_touch.specs.Step.{refusal, unless};
 ghost use Rattle.kernel_report.specs.Put.{put};
 ghost use Rattle.kernel_read.specs.Read.{acts, events, run, all_records, is_taken, Reads};
@@ -14,6 +15,13 @@ use kernel_record::{KernelRecord, RECORD_BYTES, record_at};
 use kernel_report::report::{report_words, write_report};
 use kernel_touch::answer::{KernelRefusal, Taken};
 use kernel_touch::slots::KernelTouches;
+
+// What the first call goes on from: no finger on any slot.
+pub fn fresh() -> KernelTouches
+    ensures { result ≡ fresh }
+{
+    KernelTouches::fresh()
+}
 
 // Whether a record is a report end that is acted on.
 #[tactic(auto, unfolding(crate::specs::Read::acts))]
