@@ -83,11 +83,13 @@ fn one_call(
 ) -> Going {
     answer.clear();
     let step = call(before.machine, memory, answer, kind, w);
+    // as many as the reply says
+    let words = answer.words();
     let r = Record {
         call: Call::try_from(kind).ok(),
         asked: w,
         reply: step.reply,
-        answer: answer.words(),
+        answer: &words[..step.reply.words.min(words.len())],
     };
     answered(before, out, form, step.machine, r)
 }

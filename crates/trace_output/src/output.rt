@@ -8,7 +8,7 @@ const STDOUT_FILENO: i32 = 1;
 const SIZE: usize = 65536;
 
 // The first `len` bytes wait to be written.
-#[derive(Drop)]
+#[derive(Clone, Copy)]
 pub struct Output {
     bytes: [u8; SIZE],
     len: usize,
